@@ -1,0 +1,73 @@
+-- What an accepted record says: each test of its refusals is passed. Assumes nothing.
+use mathlib.Core.Path.{_≡_, refl, sym, _∙_, subst}
+use mathlib.Core.Bool.{Bool, true, false, cond, _&&_}
+use Prim.Native.Nat.{ℕ, _≤_}
+use native.Mathlib.Omega.{arith}
+use lib.Dec.{T, leb}
+use borrow.Author.Tests.{leb-true}
+use Rattle.neon.specs.declared.Instruction.{Instruction}
+use Rattle.neon.specs.Op.{Op, isOperation, opAt, Arrangement, isArrangement, arrangementAt, laneBits}
+use Rattle.neon.specs.Form.{hasForm, least, most, hasSecond}
+use Rattle.neon.specs.Refusal.{unless, formNumber, mostM, registersOk, recordNumber, Legal}
+
+pub and-both : (a b : Bool) → (a && b) ≡ true → (a ≡ true) × (b ≡ true)
+and-both true b h = (refl, h)
+and-both false b h = absurd (subst (λ (t : Bool). T t) (sym h) tt)
+
+pub passed : (b : Bool) {k rest : ℕ} → (k ≡ 0 → ⊥) → unless b k rest ≡ 0 → (b ≡ true) × (rest ≡ 0)
+passed true f e = (refl, e)
+passed false f e = absurd (f e)
+
+-- the operation, the form and the immediate are of the table
+pub record Formed (operation arrangement i : ℕ) : Type 0 where
+  pub from-one : 1 ≤ operation
+  pub to-last : operation ≤ 67
+  pub arranged : arrangement ≤ 6
+  pub row : hasForm (opAt operation) (arrangementAt arrangement) ≡ true
+  pub low : least (opAt operation) ≤ i
+  pub high : i ≤ most (opAt operation) (laneBits (arrangementAt arrangement))
+
+pub formed : (operation arrangement i rest : ℕ) → formNumber operation arrangement i rest ≡ 0 → Formed operation arrangement i × (rest ≡ 0)
+formed operation arrangement i rest e =
+    let o = opAt operation in
+    let v = arrangementAt arrangement in
+    let p = passed (isOperation operation) (λ z. omega arith) e in
+    let q = passed (isArrangement arrangement && hasForm o v) (λ z. omega arith) (p .1) in
+    let s = passed (leb (least o) i && leb i (most o (laneBits v))) (λ z. omega arith) (q .1) in
+    let pp = and-both (leb 1 operation) (leb operation 67) (p .0) in
+    let qq = and-both (isArrangement arrangement) (hasForm o v) (q .0) in
+    let ss = and-both (leb (least o) i) (leb i (most o (laneBits v))) (s .0) in (
+      record {
+        from-one = leb-true _ _ (pp .0);
+        to-last = leb-true _ _ (pp .1);
+        arranged = leb-true _ _ (qq .0);
+        row = qq .1;
+        low = leb-true _ _ (ss .0);
+        high = leb-true _ _ (ss .1);
+      },
+      s .1,
+    )
+
+-- so are the registers
+pub record Accepted (c : Instruction) : Type 0 where
+  pub form-of : Formed (c .operation) (c .arrangement) (c .i)
+  pub at-d : c .d ≤ 31
+  pub at-n : c .n ≤ 31
+  pub at-m : c .m ≤ mostM (opAt (c .operation)) (arrangementAt (c .arrangement))
+
+pub accepted : (c : Instruction) → Legal c → Accepted c
+unfolding recordNumber
+accepted c e =
+    let f = formed (c .operation) (c .arrangement) (c .i) (unless (registersOk c) 7 0) e in
+    let p = passed (registersOk c) (λ z. omega arith) (f .1) in
+    let q = and-both (leb (c .d) 31 && leb (c .n) 31) (leb (c .m) (mostM (opAt (c .operation)) (arrangementAt (c .arrangement)))) (p .0) in
+    let s = and-both (leb (c .d) 31) (leb (c .n) 31) (q .0) in
+    record { form-of = f .0; at-d = leb-true _ _ (s .0); at-n = leb-true _ _ (s .1); at-m = leb-true _ _ (q .1) }
+
+-- m names a register in any case
+pub m-le : (o : Op) (v : Arrangement) → mostM o v ≤ 31
+m-le o v = go (hasSecond o)
+  where
+    go : (b : Bool) → cond b 31 0 ≤ 31
+    go true = omega arith
+    go false = omega arith

@@ -1,0 +1,175 @@
+-- What the 67 operations compute, on integers: document 01's table ("Forms"), after the Arm Architecture Reference Manual.
+use mathlib.Core.Bool.{Bool, true, false, cond}
+use Prim.Native.Nat.{ℕ, zero, suc, _+_, _-_, _*_, _/_, _%_, _^_}
+use lib.Dec.{ltb, eqb}
+use lib.IntN.{ℤ, pos, negsuc, negℤ, natAbs, _+ℤ_, _-ℤ_, _*ℤ_}
+use lib.Signed.{ltZ, shrZ}
+use Rattle.neon.specs.Op.{Op, Arrangement, laneBits, full, SHL, SQSHLI, UQSHLI, SQSHLU, SSHR, USHR, SRSHR, URSHR, SSHL, USHL, SRSHL, URSHL, SQSHL, UQSHL, SQRSHL, UQRSHL, SLI, SRI, SQADD, UQADD, SQSUB, UQSUB, SHADD, UHADD, SRHADD, URHADD, SQXTN, UQXTN, SQXTUN, SHRN, RSHRN, SQSHRN, SQRSHRN, UQSHRN, UQRSHRN, SQSHRUN, SQRSHRUN, SQABS, SQNEG, SQDMULH, SQRDMULH, SQDMULL, SQDMLAL, SQDMLSL, SQDMULL2, SQDMLAL2, SQDMLSL2, SQDMULLE, SQDMLALE, SQDMLSLE, SQDMULL2E, SQDMLAL2E, SQDMLSL2E, SUQADD, USQADD, SABD, UABD, SABA, UABA, CNT, CLZ, CLS, RBIT, ADDHN, RADDHN, SUBHN, RSUBHN}
+use Rattle.neon.specs.Form.{Lanes, Same, Narrow, Long, form, sourceBits, laneCount, firstLane, secondLane, byElement}
+
+-- z mod 2 ^ n
+unfoldable pub wrap : ℕ → ℤ → ℕ
+wrap n (pos a) = a % 2 ^ n
+wrap n (negsuc a) = (2 ^ n - 1) - a % 2 ^ n
+
+-- a lane read unsigned, and read signed
+abbrev pub U : ℕ → ℤ
+U a = pos a
+
+unfoldable pub S : ℕ → ℕ → ℤ
+S n a = cond (ltb a (2 ^ (n - 1))) (pos a) (pos a -ℤ pos (2 ^ n))
+
+-- the two, by a flag: true is signed
+abbrev pub reading : Bool → ℕ → ℕ → ℤ
+reading true n a = S n a
+reading false n a = U a
+
+-- z brought into the range from lo to hi
+unfoldable pub clampZ : ℤ → ℤ → ℤ → ℤ
+clampZ lo hi z = cond (ltZ z lo) lo (cond (ltZ hi z) hi z)
+
+unfoldable pub cS : ℕ → ℤ → ℤ
+cS n z = clampZ (negℤ (pos (2 ^ (n - 1)))) (pos (2 ^ (n - 1) - 1)) z
+
+unfoldable pub cU : ℕ → ℤ → ℤ
+cU n z = clampZ (pos 0) (pos (2 ^ n - 1)) z
+
+-- z / 2 ^ i, floored; with half a unit added first; and z * 2 ^ i
+abbrev pub floor : ℤ → ℕ → ℤ
+floor z i = shrZ z (2 ^ i)
+
+abbrev pub round : ℤ → ℕ → ℤ
+round z i = floor (z +ℤ pos (2 ^ (i - 1))) i
+
+abbrev pub scale : ℤ → ℕ → ℤ
+scale z i = z *ℤ pos (2 ^ i)
+
+-- the amount of a shift by a register: the signed low byte
+abbrev pub byte : ℕ → ℤ
+byte b = S 8 (b % 2 ^ 8)
+
+-- a shift by k, to the left where k ≥ 0, else to the right by -k
+abbrev pub shiftZ : ℤ → ℤ → ℤ
+shiftZ z (pos k) = scale z k
+shiftZ z (negsuc k) = floor z (suc k)
+
+-- the same, rounding to the right
+abbrev pub roundZ : ℤ → ℤ → ℤ
+roundZ z (pos k) = scale z k
+roundZ z (negsuc k) = round z (suc k)
+
+-- bit j of v
+abbrev pub bitAt : ℕ → ℕ → ℕ
+bitAt j v = v / 2 ^ j % 2
+
+-- the ones among the k low bits of v; the zeros from bit k - 1 down to the first one; the bits from k - 1 down that are t
+unfoldable pub ones : ℕ → ℕ → ℕ
+ones zero v = 0
+ones (suc k) v = ones k v + bitAt k v
+
+unfoldable pub equalRun : ℕ → ℕ → ℕ → ℕ
+equalRun t zero v = 0
+equalRun t (suc k) v = cond (eqb (bitAt k v) t) (suc (equalRun t k v)) 0
+
+-- lane j of x, of n bits
+unfoldable pub lane : ℕ → ℕ → ℕ → ℕ
+lane n j x = x / 2 ^ (n * j) % 2 ^ n
+
+-- the number with k lanes of n bits, lane j being f j
+unfoldable pub lanes : ℕ → ℕ → (ℕ → ℕ) → ℕ
+lanes n zero f = 0
+lanes n (suc k) f = f k * 2 ^ (n * k) + lanes n k f
+
+-- twice the product of two lanes of n / 2 bits, clamped to n
+abbrev pub doubled : ℕ → ℕ → ℕ → ℤ
+doubled n a b = cS n (S (n / 2) a *ℤ S (n / 2) b *ℤ pos 2)
+
+-- a lane of the result, of n bits: i is the immediate, d the old lane, a and b the source lanes
+unfoldable pub armLane : Op → (n i d a b : ℕ) → ℕ
+armLane SHL n i d a b = wrap n (scale (U a) i)
+armLane SQSHLI n i d a b = wrap n (cS n (scale (S n a) i))
+armLane UQSHLI n i d a b = wrap n (cU n (scale (U a) i))
+armLane SQSHLU n i d a b = wrap n (cU n (scale (S n a) i))
+armLane SSHR n i d a b = wrap n (floor (S n a) i)
+armLane USHR n i d a b = wrap n (floor (U a) i)
+armLane SRSHR n i d a b = wrap n (round (S n a) i)
+armLane URSHR n i d a b = wrap n (round (U a) i)
+armLane SSHL n i d a b = wrap n (shiftZ (S n a) (byte b))
+armLane USHL n i d a b = wrap n (shiftZ (U a) (byte b))
+armLane SRSHL n i d a b = wrap n (roundZ (S n a) (byte b))
+armLane URSHL n i d a b = wrap n (roundZ (U a) (byte b))
+armLane SQSHL n i d a b = wrap n (cS n (shiftZ (S n a) (byte b)))
+armLane UQSHL n i d a b = wrap n (cU n (shiftZ (U a) (byte b)))
+armLane SQRSHL n i d a b = wrap n (cS n (roundZ (S n a) (byte b)))
+armLane UQRSHL n i d a b = wrap n (cU n (roundZ (U a) (byte b)))
+armLane SLI n i d a b = wrap n (scale (U a) i) + d % 2 ^ i
+armLane SRI n i d a b = d / 2 ^ (n - i) * 2 ^ (n - i) + wrap n (floor (U a) i)
+armLane SQADD n i d a b = wrap n (cS n (S n a +ℤ S n b))
+armLane UQADD n i d a b = wrap n (cU n (U a +ℤ U b))
+armLane SQSUB n i d a b = wrap n (cS n (S n a -ℤ S n b))
+armLane UQSUB n i d a b = wrap n (cU n (U a -ℤ U b))
+armLane SHADD n i d a b = wrap n (floor (S n a +ℤ S n b) 1)
+armLane UHADD n i d a b = wrap n (floor (U a +ℤ U b) 1)
+armLane SRHADD n i d a b = wrap n (round (S n a +ℤ S n b) 1)
+armLane URHADD n i d a b = wrap n (round (U a +ℤ U b) 1)
+armLane SQXTN n i d a b = wrap n (cS n (S (n * 2) a))
+armLane UQXTN n i d a b = wrap n (cU n (U a))
+armLane SQXTUN n i d a b = wrap n (cU n (S (n * 2) a))
+armLane SHRN n i d a b = wrap n (floor (U a) i)
+armLane RSHRN n i d a b = wrap n (round (U a) i)
+armLane SQSHRN n i d a b = wrap n (cS n (floor (S (n * 2) a) i))
+armLane SQRSHRN n i d a b = wrap n (cS n (round (S (n * 2) a) i))
+armLane UQSHRN n i d a b = wrap n (cU n (floor (U a) i))
+armLane UQRSHRN n i d a b = wrap n (cU n (round (U a) i))
+armLane SQSHRUN n i d a b = wrap n (cU n (floor (S (n * 2) a) i))
+armLane SQRSHRUN n i d a b = wrap n (cU n (round (S (n * 2) a) i))
+armLane SQABS n i d a b = wrap n (cS n (pos (natAbs (S n a))))
+armLane SQNEG n i d a b = wrap n (cS n (negℤ (S n a)))
+armLane SQDMULH n i d a b = wrap n (cS n (floor (S n a *ℤ S n b *ℤ pos 2) n))
+armLane SQRDMULH n i d a b = wrap n (cS n (round (S n a *ℤ S n b *ℤ pos 2) n))
+armLane SQDMULL n i d a b = wrap n (doubled n a b)
+armLane SQDMLAL n i d a b = wrap n (cS n (S n d +ℤ doubled n a b))
+armLane SQDMLSL n i d a b = wrap n (cS n (S n d -ℤ doubled n a b))
+armLane SQDMULL2 n i d a b = wrap n (doubled n a b)
+armLane SQDMLAL2 n i d a b = wrap n (cS n (S n d +ℤ doubled n a b))
+armLane SQDMLSL2 n i d a b = wrap n (cS n (S n d -ℤ doubled n a b))
+armLane SQDMULLE n i d a b = wrap n (doubled n a b)
+armLane SQDMLALE n i d a b = wrap n (cS n (S n d +ℤ doubled n a b))
+armLane SQDMLSLE n i d a b = wrap n (cS n (S n d -ℤ doubled n a b))
+armLane SQDMULL2E n i d a b = wrap n (doubled n a b)
+armLane SQDMLAL2E n i d a b = wrap n (cS n (S n d +ℤ doubled n a b))
+armLane SQDMLSL2E n i d a b = wrap n (cS n (S n d -ℤ doubled n a b))
+armLane SUQADD n i d a b = wrap n (cS n (S n d +ℤ U a))
+armLane USQADD n i d a b = wrap n (cU n (U d +ℤ S n a))
+armLane SABD n i d a b = wrap n (pos (natAbs (S n a -ℤ S n b)))
+armLane UABD n i d a b = wrap n (pos (natAbs (U a -ℤ U b)))
+armLane SABA n i d a b = wrap n (U d +ℤ pos (natAbs (S n a -ℤ S n b)))
+armLane UABA n i d a b = wrap n (U d +ℤ pos (natAbs (U a -ℤ U b)))
+armLane CNT n i d a b = ones n a
+armLane CLZ n i d a b = equalRun 0 n a
+armLane CLS n i d a b = equalRun (bitAt (n - 1) a) (n - 1) a
+armLane RBIT n i d a b = lanes 1 n (λ j. bitAt (n - 1 - j) a)
+armLane ADDHN n i d a b = wrap (n * 2) (U a +ℤ U b) / 2 ^ n
+armLane RADDHN n i d a b = wrap (n * 2) (U a +ℤ U b +ℤ pos (2 ^ (n - 1))) / 2 ^ n
+armLane SUBHN n i d a b = wrap (n * 2) (U a -ℤ U b) / 2 ^ n
+armLane RSUBHN n i d a b = wrap (n * 2) (U a -ℤ U b +ℤ pos (2 ^ (n - 1))) / 2 ^ n
+
+-- ---- whole results
+
+-- lane j of the result
+unfoldable pub armAt : Op → Arrangement → (i d a b j : ℕ) → ℕ
+armAt o v i d a b j =
+    let n = laneBits v in
+    let l = form o .lanes in
+    armLane o n i (lane n j d) (lane (sourceBits l n) (firstLane l (laneCount o v) j) a) (lane (sourceBits l n) (secondLane l (byElement o) (laneCount o v) i j) b)
+
+-- a narrowing "2" form has the new 64 bits above the low 64 of d
+abbrev pub placeBits : Lanes → Bool → ℕ → ℕ → ℕ
+placeBits Same v new d = new
+placeBits Narrow true new d = new * 2 ^ 64 + d % 2 ^ 64
+placeBits Narrow false new d = new
+placeBits (Long u) v new d = new
+
+-- the result of an instruction on the registers d, a, b, as they are read
+unfoldable pub armResult : Op → Arrangement → (i d a b : ℕ) → ℕ
+armResult o v i d a b = placeBits (form o .lanes) (full v) (lanes (laneBits v) (laneCount o v) (armAt o v i d a b)) d

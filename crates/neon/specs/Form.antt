@@ -1,0 +1,235 @@
+-- The forms of each operation, after the Arm Architecture Reference Manual (document 01, "Forms"): its source lanes, immediates,
+-- arrangements and the registers that it reads.
+use mathlib.Core.Bool.{Bool, true, false, cond, not, _&&_, _||_}
+use Prim.Native.Nat.{ℕ, _+_, _-_, _*_, _/_}
+use lib.Dec.{leb, eqb}
+use Rattle.neon.specs.Op.{Op, opAt, isOperation, Arrangement, arrangementAt, isArrangement, laneBits, full, bitsIf, SHL, SQSHLI, UQSHLI, SQSHLU, SSHR, USHR, SRSHR, URSHR, SSHL, USHL, SRSHL, URSHL, SQSHL, UQSHL, SQRSHL, UQRSHL, SLI, SRI, SQADD, UQADD, SQSUB, UQSUB, SHADD, UHADD, SRHADD, URHADD, SQXTN, UQXTN, SQXTUN, SHRN, RSHRN, SQSHRN, SQRSHRN, UQSHRN, UQRSHRN, SQSHRUN, SQRSHRUN, SQABS, SQNEG, SQDMULH, SQRDMULH, SQDMULL, SQDMLAL, SQDMLSL, SQDMULL2, SQDMLAL2, SQDMLSL2, SQDMULLE, SQDMLALE, SQDMLSLE, SQDMULL2E, SQDMLAL2E, SQDMLSL2E, SUQADD, USQADD, SABD, UABD, SABA, UABA, CNT, CLZ, CLS, RBIT, ADDHN, RADDHN, SUBHN, RSUBHN}
+
+-- a source lane has the result's bits; twice as many; or half as many, from the lower or the upper lanes
+pub data Lanes : Type 0 where
+  Same Narrow : Lanes
+  Long : (upper : Bool) → Lanes
+
+-- the immediate i: 0; 0 to n - 1; 1 to n; the number of the second source's one element
+pub data Immediate : Type 0 where
+  None Left Right Element : Immediate
+
+-- all; all but 2D; 4H 8H 2S 4S; 4S 2D; 8B 16B
+pub data Class : Type 0 where
+  Every Not2D From4HTo4S From4S Bytes : Class
+
+-- the registers that are read
+pub data Reads : Type 0 where
+  N NM DN DNM : Reads
+
+pub record Form : Type 0 where
+  pub lanes : Lanes
+  pub immediate : Immediate
+  pub class : Class
+  pub reads : Reads
+
+abbrev pub row : Lanes → Immediate → Class → Reads → Form
+row l i c r = record { lanes = l; immediate = i; class = c; reads = r }
+
+abbrev pub form : Op → Form
+form SHL = row Same Left Every N
+form SQSHLI = row Same Left Every N
+form UQSHLI = row Same Left Every N
+form SQSHLU = row Same Left Every N
+form SSHR = row Same Right Every N
+form USHR = row Same Right Every N
+form SRSHR = row Same Right Every N
+form URSHR = row Same Right Every N
+form SSHL = row Same None Every NM
+form USHL = row Same None Every NM
+form SRSHL = row Same None Every NM
+form URSHL = row Same None Every NM
+form SQSHL = row Same None Every NM
+form UQSHL = row Same None Every NM
+form SQRSHL = row Same None Every NM
+form UQRSHL = row Same None Every NM
+form SLI = row Same Left Every DN
+form SRI = row Same Right Every DN
+form SQADD = row Same None Every NM
+form UQADD = row Same None Every NM
+form SQSUB = row Same None Every NM
+form UQSUB = row Same None Every NM
+form SHADD = row Same None Not2D NM
+form UHADD = row Same None Not2D NM
+form SRHADD = row Same None Not2D NM
+form URHADD = row Same None Not2D NM
+form SQXTN = row Narrow None Not2D N
+form UQXTN = row Narrow None Not2D N
+form SQXTUN = row Narrow None Not2D N
+form SHRN = row Narrow Right Not2D N
+form RSHRN = row Narrow Right Not2D N
+form SQSHRN = row Narrow Right Not2D N
+form SQRSHRN = row Narrow Right Not2D N
+form UQSHRN = row Narrow Right Not2D N
+form UQRSHRN = row Narrow Right Not2D N
+form SQSHRUN = row Narrow Right Not2D N
+form SQRSHRUN = row Narrow Right Not2D N
+form SQABS = row Same None Every N
+form SQNEG = row Same None Every N
+form SQDMULH = row Same None From4HTo4S NM
+form SQRDMULH = row Same None From4HTo4S NM
+form SQDMULL = row (Long false) None From4S NM
+form SQDMLAL = row (Long false) None From4S DNM
+form SQDMLSL = row (Long false) None From4S DNM
+form SQDMULL2 = row (Long true) None From4S NM
+form SQDMLAL2 = row (Long true) None From4S DNM
+form SQDMLSL2 = row (Long true) None From4S DNM
+form SQDMULLE = row (Long false) Element From4S NM
+form SQDMLALE = row (Long false) Element From4S DNM
+form SQDMLSLE = row (Long false) Element From4S DNM
+form SQDMULL2E = row (Long true) Element From4S NM
+form SQDMLAL2E = row (Long true) Element From4S DNM
+form SQDMLSL2E = row (Long true) Element From4S DNM
+form SUQADD = row Same None Every DN
+form USQADD = row Same None Every DN
+form SABD = row Same None Not2D NM
+form UABD = row Same None Not2D NM
+form SABA = row Same None Not2D DNM
+form UABA = row Same None Not2D DNM
+form CNT = row Same None Bytes N
+form CLZ = row Same None Not2D N
+form CLS = row Same None Not2D N
+form RBIT = row Same None Bytes N
+form ADDHN = row Narrow None Not2D NM
+form RADDHN = row Narrow None Not2D NM
+form SUBHN = row Narrow None Not2D NM
+form RSUBHN = row Narrow None Not2D NM
+
+-- ---- arrangements
+
+abbrev pub inClass : Class → Arrangement → Bool
+inClass Every v = true
+inClass Not2D v = leb (laneBits v) 32
+inClass From4HTo4S v = leb 16 (laneBits v) && leb (laneBits v) 32
+inClass From4S v = leb 32 (laneBits v) && full v
+inClass Bytes v = eqb (laneBits v) 8
+
+abbrev pub hasForm : Op → Arrangement → Bool
+hasForm o v = inClass (form o .class) v
+
+-- ---- immediates
+
+abbrev pub leastOf : Immediate → ℕ
+leastOf None = 0
+leastOf Left = 0
+leastOf Right = 1
+leastOf Element = 0
+
+-- an element has n / 2 bits of the register's 128
+abbrev pub mostOf : Immediate → ℕ → ℕ
+mostOf None n = 0
+mostOf Left n = n - 1
+mostOf Right n = n
+mostOf Element n = 256 / n - 1
+
+abbrev pub isElement : Immediate → Bool
+isElement None = false
+isElement Left = false
+isElement Right = false
+isElement Element = true
+
+abbrev pub byElement : Op → Bool
+byElement o = isElement (form o .immediate)
+
+abbrev pub least : Op → ℕ
+least o = leastOf (form o .immediate)
+
+abbrev pub most : Op → ℕ → ℕ
+most o n = mostOf (form o .immediate) n
+
+-- ---- registers: which are read, and how many bits of each
+
+abbrev pub mIn : Reads → Bool
+mIn N = false
+mIn NM = true
+mIn DN = false
+mIn DNM = true
+
+abbrev pub dIn : Reads → Bool
+dIn N = false
+dIn NM = false
+dIn DN = true
+dIn DNM = true
+
+abbrev pub hasSecond : Op → Bool
+hasSecond o = mIn (form o .reads)
+
+abbrev pub isNarrow : Lanes → Bool
+isNarrow Same = false
+isNarrow Narrow = true
+isNarrow (Long u) = false
+
+-- a "2" form keeps half of d
+abbrev pub readsD : Op → Arrangement → Bool
+readsD o v = dIn (form o .reads) || isNarrow (form o .lanes) && full v
+
+-- whether the first source is read at 128 bits, and the second; d is read at the view
+abbrev pub firstFull : Lanes → Bool → Bool
+firstFull Same v = v
+firstFull Narrow v = true
+firstFull (Long u) v = u
+
+abbrev pub secondFull : Lanes → (element : Bool) → Bool → Bool
+secondFull Same e v = v
+secondFull Narrow e v = true
+secondFull (Long u) e v = u || e
+
+abbrev pub firstBits : Op → Arrangement → ℕ
+firstBits o v = bitsIf (firstFull (form o .lanes) (full v))
+
+abbrev pub secondBits : Op → Arrangement → ℕ
+secondBits o v = bitsIf (secondFull (form o .lanes) (byElement o) (full v))
+
+-- ---- lanes
+
+-- the bits of a source lane
+abbrev pub sourceBits : Lanes → ℕ → ℕ
+sourceBits Same n = n
+sourceBits Narrow n = n * 2
+sourceBits (Long u) n = n / 2
+
+-- the bits that are made: 64 where the lanes narrow, else the view
+abbrev pub madeBits : Lanes → Bool → ℕ
+madeBits Same v = bitsIf v
+madeBits Narrow v = 64
+madeBits (Long u) v = bitsIf v
+
+abbrev pub laneCount : Op → Arrangement → ℕ
+laneCount o v = madeBits (form o .lanes) (full v) / laneBits v
+
+-- the lane of the first source, and of the second, that goes into lane j of the k lanes of the result
+abbrev pub firstLane : Lanes → ℕ → ℕ → ℕ
+firstLane Same k j = j
+firstLane Narrow k j = j
+firstLane (Long u) k j = cond u (j + k) j
+
+abbrev pub secondLane : Lanes → (element : Bool) → ℕ → ℕ → ℕ → ℕ
+secondLane Same e k i j = j
+secondLane Narrow e k i j = j
+secondLane (Long u) e k i j = cond e i (cond u (j + k) j)
+
+-- ---- the form code, one byte for each operation and arrangement: 0 where there is no such form
+
+abbrev pub flag : Bool → ℕ → ℕ
+flag b k = cond b k 0
+
+abbrev pub immediateCode : Immediate → ℕ
+immediateCode None = 1
+immediateCode Left = 2
+immediateCode Right = 3
+immediateCode Element = 4
+
+unfoldable pub formCode : Op → Arrangement → ℕ
+formCode o v =
+    flag (hasForm o v)
+    (immediateCode (form o .immediate) + flag (hasSecond o) 8 + flag (readsD o v) 16 + flag (firstFull (form o .lanes) (full v)) 32
+    + flag (secondFull (form o .lanes) (byElement o) (full v)) 64)
+
+-- by number, 0 where a number names nothing
+unfoldable pub formCodeAt : ℕ → ℕ → ℕ
+formCodeAt operation arrangement = flag (isOperation operation && isArrangement arrangement) (formCode (opAt operation) (arrangementAt arrangement))

@@ -1,0 +1,65 @@
+-- The refusals of a record and of a block (document 01, "The numbers"): the first in order wins.
+use mathlib.Core.Bool.{Bool, true, false, cond, _&&_, _||_}
+use mathlib.Core.List.{List, [], _∷_}
+use mathlib.Core.Path.{_≡_}
+use Prim.Native.Nat.{ℕ, zero, suc, _+_, _*_}
+use lib.Dec.{leb, eqb}
+use lib.ListN.{length}
+use Rattle.neon.specs.declared.Instruction.{Instruction}
+use Rattle.neon.specs.Op.{Op, isOperation, opAt, Arrangement, isArrangement, arrangementAt, laneBits}
+use Rattle.neon.specs.Form.{hasForm, least, most, hasSecond}
+
+-- the nodes that one instruction may add, and the records that a block may have
+abbrev pub reserve : ℕ
+reserve = 1024
+
+abbrev pub mostRecords : ℕ
+mostRecords = 63
+
+-- what follows where the test holds, else k
+abbrev pub unless : Bool → ℕ → ℕ → ℕ
+unless true k rest = rest
+unless false k rest = k
+
+-- 2, 3, 4: the operation, its form, its immediate; else what follows
+abbrev pub formNumber : (operation arrangement i rest : ℕ) → ℕ
+formNumber operation arrangement i rest =
+    let o = opAt operation in
+    let v = arrangementAt arrangement in
+    unless (isOperation operation) 2
+    (unless (isArrangement arrangement && hasForm o v) 3 (unless (leb (least o) i && leb i (most o (laneBits v))) 4 rest))
+
+-- the registers that m may name: all, or 0 where there is no second source
+abbrev pub mostM : Op → Arrangement → ℕ
+mostM o v = cond (hasSecond o) 31 0
+
+abbrev pub registersOk : Instruction → Bool
+registersOk c = leb (c .d) 31 && leb (c .n) 31 && leb (c .m) (mostM (opAt (c .operation)) (arrangementAt (c .arrangement)))
+
+unfoldable pub recordNumber : Instruction → ℕ
+recordNumber c = formNumber (c .operation) (c .arrangement) (c .i) (unless (registersOk c) 7 0)
+
+-- a record that is accepted
+abbrev pub Legal : Instruction → Type 0
+Legal c = recordNumber c ≡ 0
+
+abbrev pub AllLegal : List Instruction → Type 0
+AllLegal [] = Unit {0}
+AllLegal (c ∷ cs) = Legal c × AllLegal cs
+
+-- the first bad record's number and position, counted from p; 0 and 0 where all are accepted
+pub record Refusal : Type 0 where
+  pub number : ℕ
+  pub position : ℕ
+
+abbrev pub refusal : ℕ → ℕ → Refusal
+refusal k p = record { number = k; position = p }
+
+unfoldable pub recordsRefusal : ℕ → List Instruction → Refusal
+recordsRefusal p [] = refusal 0 0
+recordsRefusal p (c ∷ cs) = cond (eqb (recordNumber c) 0) (recordsRefusal (suc p) cs) (refusal (recordNumber c) p)
+
+-- a block for a pool of so many places
+unfoldable pub blockRefusal : ℕ → List Instruction → Refusal
+blockRefusal places cs =
+    cond (leb (length cs) mostRecords) (cond (leb (32 + reserve * length cs) places) (recordsRefusal 0 cs) (refusal 6 0)) (refusal 8 0)

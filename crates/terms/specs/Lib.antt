@@ -1,0 +1,4 @@
+pub mod Expr
+pub mod Value
+pub mod Rules
+pub mod Display

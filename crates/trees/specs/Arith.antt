@@ -1,0 +1,250 @@
+-- The Rust's neon/lower/arith.rs, function by function. n is the Rust's lane_bits. A second source that a kind does not use, the
+-- Rust's None, is any term here.
+use mathlib.Core.Bool.{Bool, true, false, cond, not}
+use Prim.Native.Nat.{ℕ, zero, suc, max, _+_, _-_, _*_, _/_, _^_}
+use lib.Dec.{ltb}
+use Rattle.terms.specs.declared.BinOp.{BinOp}
+use Rattle.terms.specs.declared.BinOp.the-variants.{Add, Sub, Mul, And, Or, Xor, Shl, LShr, AShr}
+use Rattle.terms.specs.declared.CmpOp.the-variants.{Eq, Ult, Slt}
+use Rattle.terms.specs.Expr.{Expr, Const, Bv, Compare, Ite, Concat, ZeroExtend, SignExtend}
+use Rattle.trees.specs.declared.SaturateTo.{SaturateTo}
+use Rattle.trees.specs.declared.SaturateTo.the-variants.{Signed, Unsigned, SignedToUnsigned}
+use Rattle.trees.specs.declared.Saturate.{Saturate}
+use Rattle.trees.specs.declared.Saturate.the-variants.{Never, Into}
+use Rattle.trees.specs.declared.ShiftKind.{ShiftKind}
+use Rattle.trees.specs.declared.ShiftKind.the-variants.{LeftImmediate, RightImmediate, Register}
+use Rattle.trees.specs.declared.SaturatingKind.{SaturatingKind}
+use Rattle.trees.specs.declared.SaturatingKind.the-variants.{AddSub, Halving, Narrow, ShiftNarrow, DoublingMultiplyHigh, Unary}
+use Rattle.trees.specs.declared.BitwiseUnary.{BitwiseUnary}
+use Rattle.trees.specs.declared.BitwiseUnary.the-variants.{PopulationCount, LeadingZeros, LeadingSignBits, ReverseBits}
+use Rattle.trees.specs.declared.Combine.{Combine}
+use Rattle.trees.specs.declared.Combine.the-variants.{Nothing, With}
+use Rattle.trees.specs.Simd.{extract, extractLane, concatLanes}
+use Rattle.trees.specs.Lower.{extend, unsignedMax}
+
+-- ---- shared parts
+
+abbrev pub signedMax : ℕ → ℕ
+signedMax n = 2 ^ (n - 1) - 1
+
+-- `clamp`: value, of wide bits, brought into the range of n bits that `to` names
+abbrev pub clampBetween : (value low high : Expr) → Expr
+clampBetween value low high = Ite (Compare Slt value low) low (Ite (Compare Slt high value) high value)
+
+abbrev pub clamped : (value : Expr) (wide n : ℕ) → SaturateTo → Expr
+clamped value wide n Signed = clampBetween value (Const (2 ^ wide - 2 ^ (n - 1)) wide) (Const (signedMax n) wide)
+clamped value wide n Unsigned = Ite (Compare Ult (Const (unsignedMax n) wide) value) (Const (unsignedMax n) wide) value
+clamped value wide n SignedToUnsigned = clampBetween value (Const 0 wide) (Const (unsignedMax n) wide)
+
+unfoldable pub clamp : (value : Expr) (wide n : ℕ) → SaturateTo → Expr
+clamp value wide n to = extract (clamped value wide n to) (n - 1) 0
+
+-- the closure `shift_by`
+abbrev pub shiftBy : Bool → Expr → Expr → Expr
+shiftBy true v by = Bv AShr v by
+shiftBy false v by = Bv LShr v by
+
+-- with a constant added where rounding is asked
+abbrev pub plusIf : Bool → Expr → Expr → Expr
+plusIf true v c = Bv Add v c
+plusIf false v c = v
+
+-- ---- `saturating_lane`
+
+-- a rounding narrow needs one bit more than its source, and so does a doubled product
+abbrev pub narrowBits : ℕ → ℕ
+narrowBits n = n * 2 + 1
+
+abbrev pub doubledBits : ℕ → ℕ
+doubledBits n = n * 2 + 1
+
+abbrev pub narrowed : (value : Expr) (wide n : ℕ) → Saturate → Expr
+narrowed value wide n Never = extract value (n - 1) 0
+narrowed value wide n (Into to) = clamp value wide n to
+
+abbrev pub negated : Bool → Expr → ℕ → Expr
+negated true value wide = Bv Sub (Const 0 wide) value
+negated false value wide = Ite (Compare Slt value (Const 0 wide)) (Bv Sub (Const 0 wide) value) value
+
+unfoldable pub saturatingLane : SaturatingKind → (a b : Expr) (n : ℕ) (signed : Bool) → Expr
+saturatingLane (AddSub op to) a b n signed = clamp (Bv op (extend a (n + 1) signed) (extend b (n + 1) signed)) (n + 1) n to
+saturatingLane (Halving rounding) a b n signed =
+    let sum = Bv Add (extend a (n + 1) signed) (extend b (n + 1) signed) in
+    extract (shiftBy signed (plusIf rounding sum (Const 1 (n + 1))) (Const 1 (n + 1))) (n - 1) 0
+saturatingLane (Narrow to) a b n signed = clamp a (n * 2) n to
+saturatingLane (ShiftNarrow shift rounding to) a b n signed =
+    let wide = narrowBits n in
+    let value = plusIf rounding (extend a wide signed) (Const (2 ^ (shift - 1)) wide) in
+    narrowed (shiftBy signed value (Const shift wide)) wide n to
+saturatingLane (DoublingMultiplyHigh rounding) a b n signed =
+    let wide = doubledBits n in
+    let doubled = Bv Shl (Bv Mul (extend a wide true) (extend b wide true)) (Const 1 wide) in
+    clamp (Bv AShr (plusIf rounding doubled (Const (2 ^ (n - 1)) wide)) (Const n wide)) wide n Signed
+saturatingLane (Unary negate) a b n signed = clamp (negated negate (extend a (n + 1) true) (n + 1)) (n + 1) n Signed
+
+-- ---- `shift_lane`
+
+-- `shift_right`: `most` is the largest amount, which sizes the sum of a rounding shift
+abbrev pub roundingBits : ℕ → ℕ → ℕ
+roundingBits n most = max n most + 1
+
+unfoldable pub shiftRight : (value amount : Expr) (n : ℕ) (signed rounding : Bool) (most : ℕ) → Expr
+shiftRight value amount n signed false most = shiftBy signed value amount
+shiftRight value amount n signed true most =
+    let wide = roundingBits n most in
+    let by = ZeroExtend amount wide in
+    let half = Bv Shl (Const 1 wide) (Bv Sub by (Const 1 wide)) in
+    extract (shiftBy signed (Bv Add (extend value wide signed) half) by) (n - 1) 0
+
+-- `saturating_shift_left`
+abbrev pub shiftBound : (value : Expr) (n : ℕ) (signed : Bool) → Expr
+shiftBound value n true = Ite (Compare Slt value (Const 0 n)) (Const (2 ^ (n - 1)) n) (Const (signedMax n) n)
+shiftBound value n false = Const (unsignedMax n) n
+
+unfoldable pub saturatingShiftLeft : (value amount : Expr) (n : ℕ) (signed : Bool) → Expr
+saturatingShiftLeft value amount n signed =
+    let shifted = Bv Shl value amount in
+    Ite (Compare Eq (shiftBy signed shifted amount) value) shifted (shiftBound value n signed)
+
+abbrev pub registerShiftMax : ℕ
+registerShiftMax = 128
+
+-- SQSHLU: the exact product and one bit for its sign
+abbrev pub exactBits : ℕ → ℕ → ℕ
+exactBits n shift = n + shift + 1
+
+abbrev pub leftImmediate : (saturate : Saturate) (value : Expr) (shift n : ℕ) (signed : Bool) → Expr
+leftImmediate Never value shift n signed = Bv Shl value (Const shift n)
+leftImmediate (Into Signed) value shift n signed = saturatingShiftLeft value (Const shift n) n signed
+leftImmediate (Into Unsigned) value shift n signed = saturatingShiftLeft value (Const shift n) n signed
+leftImmediate (Into SignedToUnsigned) value shift n signed =
+    let wide = exactBits n shift in
+    clamp (Bv Shl (SignExtend value wide) (Const shift wide)) wide n SignedToUnsigned
+
+-- the signed low byte of a register shift's amount
+abbrev pub signedAmount : Expr → ℕ → Expr
+signedAmount raw n = cond (ltb 8 n) (SignExtend (extract raw 7 0) n) raw
+
+abbrev pub leftBy : (saturate : Bool) (value amount : Expr) (n : ℕ) (signed : Bool) → Expr
+leftBy true value amount n signed = saturatingShiftLeft value amount n signed
+leftBy false value amount n signed = Bv Shl value amount
+
+unfoldable pub shiftLane : ShiftKind → (signed : Bool) (value amount : Expr) (n : ℕ) → Expr
+shiftLane (LeftImmediate shift saturate) signed value amount n = leftImmediate saturate value shift n signed
+shiftLane (RightImmediate shift rounding) signed value amount n = shiftRight value (Const shift n) n signed rounding shift
+shiftLane (Register rounding saturate) signed value amount n =
+    let by = signedAmount amount n in
+    Ite (Compare Slt by (Const 0 n)) (shiftRight value (Bv Sub (Const 0 n) by) n signed rounding registerShiftMax) (leftBy saturate value by n signed)
+
+-- ---- `bitwise_unary_lane`
+
+-- `leading_zeros`, of the bits below k: the test of bit k - 1 stands outermost
+unfoldable pub leadingZeros : Expr → ℕ → ℕ → Expr
+leadingZeros v n zero = Const n n
+leadingZeros v n (suc k) = Ite (Compare Eq (extract v k k) (Const 1 1)) (Const (n - 1 - k) n) (leadingZeros v n k)
+
+-- the sum of the bits below k
+unfoldable pub populationCount : Expr → ℕ → ℕ → Expr
+populationCount v n zero = Const 0 n
+populationCount v n (suc k) = Bv Add (populationCount v n k) (ZeroExtend (extract v k k) n)
+
+unfoldable pub bitwiseUnaryLane : BitwiseUnary → Expr → ℕ → Expr
+bitwiseUnaryLane PopulationCount v n = populationCount v n n
+bitwiseUnaryLane LeadingZeros v n = leadingZeros v n n
+bitwiseUnaryLane LeadingSignBits v n =
+    ZeroExtend (leadingZeros (Bv Xor (extract v (n - 1) 1) (extract v (n - 1 - 1) 0)) (n - 1) (n - 1)) n
+bitwiseUnaryLane ReverseBits v n = concatLanes (n - 1) (λ j. extract v (n - 1 - j) (n - 1 - j))
+
+-- `absolute_difference_lane`
+abbrev pub less : Bool → Expr → Expr → Expr
+less true a b = Compare Slt a b
+less false a b = Compare Ult a b
+
+unfoldable pub absoluteDifferenceLane : Bool → Expr → Expr → Expr
+absoluteDifferenceLane signed a b = Ite (less signed a b) (Bv Sub b a) (Bv Sub a b)
+
+-- ---- lanes that the Rust builds inside its loops
+
+-- the bits of d that SLI and SRI keep: `low_bits(shift)`, and `unsigned_max(n) ^ low_bits(n - shift)`
+abbrev pub keptBits : Bool → ℕ → ℕ → ℕ
+keptBits true n shift = 2 ^ shift - 1
+keptBits false n shift = 2 ^ n - 2 ^ (n - shift)
+
+abbrev pub insertOp : Bool → BinOp
+insertOp true = Shl
+insertOp false = LShr
+
+unfoldable pub shiftInsertLane : (left : Bool) (d a : Expr) (shift n : ℕ) → Expr
+shiftInsertLane left d a shift n = Bv Or (Bv (insertOp left) a (Const shift n)) (Bv And d (Const (keptBits left n shift) n))
+
+-- two bits more than a lane
+abbrev pub mixedBits : ℕ → ℕ
+mixedBits n = n + 2
+
+unfoldable pub mixedSignAddLane : (signed : Bool) (d a : Expr) (n : ℕ) → Expr
+mixedSignAddLane signed d a n =
+    clamp (Bv Add (extend d (mixedBits n) signed) (extend a (mixedBits n) (not signed))) (mixedBits n) n (cond signed Signed SignedToUnsigned)
+
+unfoldable pub doublingProduct : (a b : Expr) (n : ℕ) → Expr
+doublingProduct a b n = clamp (Bv Shl (Bv Mul (extend a (n + 1) true) (extend b (n + 1) true)) (Const 1 (n + 1))) (n + 1) n Signed
+
+unfoldable pub doublingLongLane : Combine → (d a b : Expr) (n : ℕ) → Expr
+doublingLongLane Nothing d a b n = doublingProduct a b n
+doublingLongLane (With op) d a b n = clamp (Bv op (extend d (n + 1) true) (extend (doublingProduct a b n) (n + 1) true)) (n + 1) n Signed
+
+abbrev pub accumulated : Bool → Expr → Expr → Expr
+accumulated true d difference = Bv Add d difference
+accumulated false d difference = difference
+
+-- ---- whole vectors of k lanes: first and second are the sources, d the old destination
+
+-- `shift_lanes`
+unfoldable pub shiftLanes : ShiftKind → (signed : Bool) (first second : Expr) (n k : ℕ) → Expr
+shiftLanes kind signed first second n k = concatLanes (k - 1) λ j. shiftLane kind signed (extractLane first n j) (extractLane second n j) n
+
+-- `shift_insert_lanes`
+unfoldable pub shiftInsertLanes : (left : Bool) (shift : ℕ) (first d : Expr) (n k : ℕ) → Expr
+shiftInsertLanes left shift first d n k = concatLanes (k - 1) λ j. shiftInsertLane left (extractLane d n j) (extractLane first n j) shift n
+
+-- `mixed_sign_add_lanes`
+unfoldable pub mixedSignAddLanes : (signed : Bool) (first d : Expr) (n k : ℕ) → Expr
+mixedSignAddLanes signed first d n k = concatLanes (k - 1) λ j. mixedSignAddLane signed (extractLane d n j) (extractLane first n j) n
+
+-- `doubling_long_lanes`: the source lanes, upper ones from lane k on; the element has number i
+abbrev pub sourceLane : Bool → ℕ → ℕ → ℕ
+sourceLane upper k j = cond upper (j + k) j
+
+unfoldable pub doublingLongLanes : Combine → (upper byElement : Bool) (i : ℕ) (first second d : Expr) (n k : ℕ) → Expr
+doublingLongLanes combine upper byElement i first second d n k =
+    concatLanes (k - 1) λ j.
+    doublingLongLane combine (extractLane d n j) (extractLane first (n / 2) (sourceLane upper k j))
+    (extractLane second (n / 2) (cond byElement i (sourceLane upper k j))) n
+
+-- `saturating_lanes`
+abbrev pub narrowing : SaturatingKind → Bool
+narrowing (AddSub op to) = false
+narrowing (Halving rounding) = false
+narrowing (Narrow to) = true
+narrowing (ShiftNarrow shift rounding to) = true
+narrowing (DoublingMultiplyHigh rounding) = false
+narrowing (Unary negate) = false
+
+-- the 2 forms keep the lower half of d
+abbrev pub keepLower : (upper : Bool) (new d : Expr) (n k : ℕ) → Expr
+keepLower true new d n k = Concat new (extract d (n * k - 1) 0)
+keepLower false new d n k = new
+
+unfoldable pub saturatingLanes : SaturatingKind → (signed upper : Bool) (first second d : Expr) (n k : ℕ) → Expr
+saturatingLanes kind signed upper first second d n k =
+    let m = cond (narrowing kind) (n * 2) n in
+    keepLower upper (concatLanes (k - 1) λ j. saturatingLane kind (extractLane first m j) (extractLane second m j) n signed) d n k
+
+-- `bitwise_unary_lanes`
+unfoldable pub bitwiseUnaryLanes : BitwiseUnary → (first : Expr) (n k : ℕ) → Expr
+bitwiseUnaryLanes kind first n k = concatLanes (k - 1) λ j. bitwiseUnaryLane kind (extractLane first n j) n
+
+-- `absolute_difference_lanes`
+unfoldable pub absoluteDifferenceLanes : (signed accumulate : Bool) (first second d : Expr) (n k : ℕ) → Expr
+absoluteDifferenceLanes signed accumulate first second d n k =
+    concatLanes (k - 1) λ j.
+    accumulated accumulate (extractLane d n j) (absoluteDifferenceLane signed (extractLane first n j) (extractLane second n j))

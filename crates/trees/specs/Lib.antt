@@ -1,0 +1,7 @@
+pub mod Simd
+pub mod Lower
+pub mod Arith
+pub mod Width
+pub mod Neon
+pub mod Block
+pub mod Cases

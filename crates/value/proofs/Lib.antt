@@ -1,0 +1,16 @@
+pub mod Z
+pub mod Wrap
+pub mod Bv
+pub mod Is
+pub mod Clamp
+pub mod Sat
+pub mod Lanes
+pub mod Shift
+pub mod Register
+pub mod Bits
+pub mod Lane
+pub mod Whole
+pub mod Block
+pub mod Fit
+pub mod FitForm
+pub mod Range
