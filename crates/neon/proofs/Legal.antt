@@ -1,22 +1,16 @@
 -- What an accepted record says: each test of its refusals is passed. Assumes nothing.
-use mathlib.Core.Path.{_≡_, refl, sym, _∙_, subst}
+use mathlib.Core.Path.{_≡_}
 use mathlib.Core.Bool.{Bool, true, false, cond, _&&_}
 use Prim.Native.Nat.{ℕ, _≤_}
 use native.Mathlib.Omega.{arith}
-use lib.Dec.{T, leb}
+use lib.Dec.{leb}
 use borrow.Author.Tests.{leb-true}
+use Rattle.facts.specs.Refuse.{unless}
+use Rattle.facts.proofs.Tests.{and-both, passed}
 use Rattle.neon.specs.declared.Instruction.{Instruction}
 use Rattle.neon.specs.Op.{Op, isOperation, opAt, Arrangement, isArrangement, arrangementAt, laneBits}
 use Rattle.neon.specs.Form.{hasForm, least, most, hasSecond}
-use Rattle.neon.specs.Refusal.{unless, formNumber, mostM, registersOk, recordNumber, Legal}
-
-pub and-both : (a b : Bool) → (a && b) ≡ true → (a ≡ true) × (b ≡ true)
-and-both true b h = (refl, h)
-and-both false b h = absurd (subst (λ (t : Bool). T t) (sym h) tt)
-
-pub passed : (b : Bool) {k rest : ℕ} → (k ≡ 0 → ⊥) → unless b k rest ≡ 0 → (b ≡ true) × (rest ≡ 0)
-passed true f e = (refl, e)
-passed false f e = absurd (f e)
+use Rattle.neon.specs.Refusal.{formNumber, mostM, registersOk, recordNumber, Legal}
 
 -- the operation, the form and the immediate are of the table
 pub record Formed (operation arrangement i : ℕ) : Type 0 where

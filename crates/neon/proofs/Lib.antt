@@ -1,4 +1,3 @@
-pub mod Table
 pub mod Legal
 pub mod Geometry
 pub mod Lanes

@@ -5,6 +5,7 @@ use mathlib.Core.Path.{_≡_}
 use Prim.Native.Nat.{ℕ, zero, suc, _+_, _*_}
 use lib.Dec.{leb, eqb}
 use lib.ListN.{length}
+use Rattle.facts.specs.Refuse.{unless}
 use Rattle.neon.specs.declared.Instruction.{Instruction}
 use Rattle.neon.specs.Op.{Op, isOperation, opAt, Arrangement, isArrangement, arrangementAt, laneBits}
 use Rattle.neon.specs.Form.{hasForm, least, most, hasSecond}
@@ -15,11 +16,6 @@ reserve = 1024
 
 abbrev pub mostRecords : ℕ
 mostRecords = 63
-
--- what follows where the test holds, else k
-abbrev pub unless : Bool → ℕ → ℕ → ℕ
-unless true k rest = rest
-unless false k rest = k
 
 -- 2, 3, 4: the operation, its form, its immediate; else what follows
 abbrev pub formNumber : (operation arrangement i rest : ℕ) → ℕ

@@ -27,7 +27,7 @@ use Rattle.trees.specs.declared.ShiftKind.the-variants.{Register}
 use Rattle.trees.specs.declared.SaturatingKind.the-variants.{AddSub, Halving, Narrow, ShiftNarrow, DoublingMultiplyHigh, Unary}
 use Rattle.trees.specs.declared.BitwiseUnary.the-variants.{LeadingSignBits, ReverseBits}
 use Rattle.trees.specs.declared.Combine.the-variants.{With}
-use Rattle.neon.proofs.Legal.{and-both}
+use Rattle.facts.proofs.Tests.{and-both}
 use Rattle.value.proofs.Wrap.{half}
 use Rattle.value.proofs.Bits.{below}
 

@@ -9,6 +9,7 @@ use lib.Dec.{T, leb, ltb, eqb}
 use lib.Arith.{digits-div, digits-lt}
 use lib.Pow.{pow-pos, pow-add, field, mod-mod-pow}
 use lib.IntN.{pos}
+use Rattle.facts.proofs.Tests.{and-both}
 use Rattle.terms.specs.Expr.{Expr, Var, Const, Bv, Compare, Ite, Extract, Concat, ZeroExtend, SignExtend, width}
 use Rattle.terms.specs.Value.{value}
 use Rattle.neon.specs.Arm.{lane, lanes}
@@ -25,10 +26,6 @@ inner-cut v top hi lo h l =
     e : suc top ≡ top - hi + suc (hi - lo) + lo
     e = omega arith
 
-and-true : (a b : Bool) → (a && b) ≡ true → (a ≡ true) × (b ≡ true)
-and-true true b e = (refl, e)
-and-true false b e = absurd (subst (λ (t : Bool). T t) (sym e) tt)
-
 module _ (r : ℕ → ℕ) where
   -- a cut that collapses has the value of one that does not
   pub collapse-value : (e : Expr) (hi lo : ℕ) → lo ≤ hi → value r (extractCollapsing e hi lo) ≡ value r e / 2 ^ lo % 2 ^ suc (hi - lo)
@@ -38,7 +35,7 @@ module _ (r : ℕ → ℕ) where
       go : (t : Bool) → joins hi top low ≡ t
           → unfold value in (value r (cond t (Extract x hi lo) (Extract (Extract x top low) hi lo)) ≡ value r (Extract x top low) / 2 ^ lo % 2 ^ suc (hi - lo))
       go true e =
-          let b = and-true (eqb low 0) (leb hi top) e in
+          let b = and-both (eqb low 0) (leb hi top) e in
           let z : low ≡ 0 = eqb-true low 0 (b .0) in
           sym (rw (z, div-one (value r x), sub-zero top) (inner-cut (value r x) top hi lo h (leb-true hi top (b .1))))
       go false e = refl

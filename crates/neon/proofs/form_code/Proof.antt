@@ -1,10 +1,9 @@
 -- `neon::form_code` meets its contract. The words of its table are the rule's codes, which antt computes at each of the 469 places.
-use mathlib.Core.Path.{_≡_, refl, ap, _∙_}
+use mathlib.Core.Path.{_≡_, ap, _∙_}
 use mathlib.Core.Bool.{Bool, true, false, _&&_}
 use mathlib.Core.List.{List}
 use Prim.Native.Nat.{ℕ, suc, _+_, _-_, _*_, _/_, _%_, _^_, _≤_, _<_}
 use native.Mathlib.Omega.{arith}
-use lib.Dec.{leb}
 use lib.ListN.{getD}
 use borrow.Author.Needs.{needs}
 use borrow.Author.Tests.{lt-leb, le-leb}
@@ -12,7 +11,7 @@ use Rattle.neon.specs.Op.{Op, operations, opAt, Arrangement, full, arran
 use Rattle.neon.specs.Form.{Immediate, None, Left, Right, Element, form, hasForm, hasSecond, readsD, byElement, firstFull, secondFull, flag, immediateCode, formCode, formCodeAt}
 use Rattle.neon.specs.Arm.{lane, lanes}
 use Rattle.neon.proofs.Lanes.{lane-of-lanes}
-use Rattle.neon.proofs.Table.{tabulate, entry}
+use Rattle.facts.proofs.Table.{tabulate, entry}
 use Rattle.neon.proofs.form_code.Statement.{statement}
 use Rattle.neon.proofs.form_code.Tie as tie
 

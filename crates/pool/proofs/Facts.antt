@@ -1,0 +1,42 @@
+-- What the rules of a valid pool say of a node. Assumes nothing.
+use Prim.Native.Nat.{ℕ, zero, suc, _+_, _-_, _*_, _≤_, _<_}
+use mathlib.Core.Path.{_≡_, refl, sym, subst}
+use mathlib.Core.Bool.{Bool, true, false, _&&_}
+use mathlib.Core.List.{List}
+use mathlib.Core.Logic.{⊎-elim}
+use native.Mathlib.Nat.{eq-or-lt-of-le, le-of-suc-le-suc, not-suc-le-zero}
+use borrow.Author.Tests.{lt-ltb, ltb-true, leb-true, eqb-true}
+use Rattle.facts.proofs.Tests.{and-both}
+use Rattle.pool.specs.Node.{Kind, extract, Cell, widthAt}
+use Rattle.pool.specs.Rules.{widthBefore, okKind, okNode, okPool, Valid}
+
+-- each node of a valid pool keeps the rules
+pub valid-node : (ws : List ℕ) (k n : ℕ) → Valid ws k → n < k → okNode ws n ≡ true
+unfolding okPool
+valid-node ws zero n v l = absurd (not-suc-le-zero l)
+valid-node ws (suc k) n v l =
+    let p = and-both (okPool ws k) (okNode ws k) v in
+    ⊎-elim (λ e. subst (λ (m : ℕ). okNode ws m ≡ true) (sym e) (p .1)) (λ h. valid-node ws k n (p .0) h) (eq-or-lt-of-le (le-of-suc-le-suc l))
+
+-- what the rules say of an Extract
+pub record ExtractRule (ws : List ℕ) (n : ℕ) (c : Cell) : Type 0 where
+  pub earlier-a : c .a < n
+  pub ordered : c .y ≤ c .x
+  pub inside : c .x < widthAt ws (c .a)
+  pub wide-is : c .width ≡ c .x - c .y + 1
+
+pub extract-rule : (ws : List ℕ) (n : ℕ) (c : Cell) → okKind extract n c (widthBefore ws n (c .a)) (widthBefore ws n (c .b)) (widthBefore ws n (c .c)) ≡ true
+    → ExtractRule ws n c
+extract-rule ws n c h =
+    let p5 = and-both _ _ h in
+    let p4 = and-both _ _ (p5 .0) in
+    let p3 = and-both _ _ (p4 .0) in
+    let p2 = and-both _ _ (p3 .0) in
+    let p1 = and-both _ _ (p2 .0) in
+    let l : c .a < n = ltb-true _ _ (p1 .0) in
+    record {
+      earlier-a = l;
+      ordered = leb-true _ _ (p3 .1);
+      inside = ltb-true _ _ (rw (lt-ltb (c .a) n l) at (p4 .1));
+      wide-is = eqb-true _ _ (p5 .1);
+    }

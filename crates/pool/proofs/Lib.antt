@@ -1,0 +1,4 @@
+pub mod Laws
+pub mod Nodes
+pub mod Facts
+pub mod Steps

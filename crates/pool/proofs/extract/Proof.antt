@@ -1,0 +1,38 @@
+use Rattle.pool.proofs.Nodes.{extract-built}
+use borrow.Author.Needs.{needs}
+use Rattle.pool.proofs.extract.Statement.{statement}
+use Rattle.pool.proofs.extract.Tie as tie
+
+sub-kind-word : tie.Need-sub-kind-word
+sub-kind-word c = search needs
+
+add-kind-word : tie.Need-add-kind-word
+add-kind-word c = search needs
+
+kind-word-requires : tie.Need-kind-word-requires
+kind-word-requires c κs = search needs
+
+operand-word-requires : tie.Need-operand-word-requires
+operand-word-requires c κs = search needs
+
+push-requires : tie.Need-push-requires
+push-requires c κs = search needs
+
+same-length : tie.Need-same-length
+same-length c = search needs
+
+returns : tie.Need-returns
+returns c =
+    extract-built (c .before .before .before .before .before .before .before .before .before .pre .0) (c .before .before .before .before .before .before .before .before .before .pre .1 .0) (c .before .before .before .before .before .before .before .before .before .pre .1 .1) (c .before .before .before .before .before .kind-word .ensures) (c .before .before .before .operand-word .ensures) (c .before .before .push .ensures)
+
+pub extract-spec : {M : Type 1} → statement M
+extract-spec =
+    tie.close
+    (tie.spec
+    sub-kind-word
+    add-kind-word
+    kind-word-requires
+    operand-word-requires
+    push-requires
+    same-length
+    returns)

@@ -1,0 +1,20 @@
+use Rattle.pool.proofs.Nodes.{var-built}
+use borrow.Author.Needs.{needs}
+use Rattle.pool.proofs.var.Statement.{statement}
+use Rattle.pool.proofs.var.Tie as tie
+
+kind-word-requires : tie.Need-kind-word-requires
+kind-word-requires c κs = search needs
+
+push-requires : tie.Need-push-requires
+push-requires c κs = search needs
+
+same-length : tie.Need-same-length
+same-length c = search needs
+
+returns : tie.Need-returns
+returns c =
+    var-built (c .before .before .before .before .before .before .pre) (c .before .before .before .kind-word .ensures) (c .before .before .push .ensures)
+
+pub var-spec : {M : Type 1} → statement M
+var-spec = tie.close (tie.spec kind-word-requires push-requires same-length returns)

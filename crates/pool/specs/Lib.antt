@@ -1,0 +1,5 @@
+pub mod Node
+pub mod Rules
+pub mod Unfold
+pub mod Growth
+pub mod Builders
