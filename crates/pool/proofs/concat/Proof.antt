@@ -26,7 +26,13 @@ same-length c = search needs
 
 returns : tie.Need-returns
 returns c =
-    concat-built (c .before .before .before .before .before .before .before .before .before .before .before .pre .0) (c .before .before .before .before .before .before .before .before .before .before .before .pre .1 .0) (c .before .before .before .before .before .before .before .before .before .before .before .pre .1 .1) (c .before .before .before .before .before .before .before .before .width .ensures .0) (c .before .before .before .before .before .before .width2 .ensures .0) (c .before .before .before .before .before .kind-word .ensures) (c .before .before .before .operand-word .ensures) (c .before .before .push .ensures)
+    let l-push = c .before .before in
+    let l-operand-word = l-push .before in
+    let l-kind-word = l-operand-word .before .before in
+    let l-width2 = l-kind-word .before in
+    let l-width = l-width2 .before .before in
+    let st = l-width .before .before .before in
+    concat-built (st .pre .0) (st .pre .1 .0) (st .pre .1 .1) (l-width .width .ensures .0) (l-width2 .width2 .ensures .0) (l-kind-word .kind-word .ensures) (l-operand-word .operand-word .ensures) (l-push .push .ensures)
 
 pub concat-spec : {M : Type 1} → statement M
 concat-spec =

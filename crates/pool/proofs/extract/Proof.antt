@@ -23,7 +23,11 @@ same-length c = search needs
 
 returns : tie.Need-returns
 returns c =
-    extract-built (c .before .before .before .before .before .before .before .before .before .pre .0) (c .before .before .before .before .before .before .before .before .before .pre .1 .0) (c .before .before .before .before .before .before .before .before .before .pre .1 .1) (c .before .before .before .before .before .kind-word .ensures) (c .before .before .before .operand-word .ensures) (c .before .before .push .ensures)
+    let l-push = c .before .before in
+    let l-operand-word = l-push .before in
+    let l-kind-word = l-operand-word .before .before in
+    let st = l-kind-word .before .before .before .before in
+    extract-built (st .pre .0) (st .pre .1 .0) (st .pre .1 .1) (l-kind-word .kind-word .ensures) (l-operand-word .operand-word .ensures) (l-push .push .ensures)
 
 pub extract-spec : {M : Type 1} → statement M
 extract-spec =

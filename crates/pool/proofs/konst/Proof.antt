@@ -14,7 +14,10 @@ same-length c = search needs
 
 returns : tie.Need-returns
 returns c =
-    const-built (c .before .before .before .before .before .before .pre .0) (c .before .before .before .kind-word .ensures) (c .before .before .push .ensures)
+    let l-push = c .before .before in
+    let l-kind-word = l-push .before in
+    let st = l-kind-word .before .before .before in
+    const-built (st .pre .0) (l-kind-word .kind-word .ensures) (l-push .push .ensures)
 
 pub konst-spec : {M : Type 1} → statement M
 konst-spec = tie.close (tie.spec kind-word-requires push-requires same-length returns)

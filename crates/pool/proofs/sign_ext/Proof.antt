@@ -17,7 +17,11 @@ same-length c = search needs
 
 returns : tie.Need-returns
 returns c =
-    sext-built (c .before .before .before .before .before .before .before .pre .0) (c .before .before .before .before .before .before .before .pre .1 .0) (c .before .before .before .before .before .kind-word .ensures) (c .before .before .before .operand-word .ensures) (c .before .before .push .ensures)
+    let l-push = c .before .before in
+    let l-operand-word = l-push .before in
+    let l-kind-word = l-operand-word .before .before in
+    let st = l-kind-word .before .before in
+    sext-built (st .pre .0) (st .pre .1 .0) (l-kind-word .kind-word .ensures) (l-operand-word .operand-word .ensures) (l-push .push .ensures)
 
 pub sign-ext-spec : {M : Type 1} → statement M
 sign-ext-spec =

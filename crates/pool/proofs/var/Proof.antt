@@ -14,7 +14,10 @@ same-length c = search needs
 
 returns : tie.Need-returns
 returns c =
-    var-built (c .before .before .before .before .before .before .pre) (c .before .before .before .kind-word .ensures) (c .before .before .push .ensures)
+    let l-push = c .before .before in
+    let l-kind-word = l-push .before in
+    let st = l-kind-word .before .before .before in
+    var-built (st .pre) (l-kind-word .kind-word .ensures) (l-push .push .ensures)
 
 pub var-spec : {M : Type 1} → statement M
 var-spec = tie.close (tie.spec kind-word-requires push-requires same-length returns)
