@@ -1,14 +1,43 @@
 -- What the rules of a valid pool say of a node. Assumes nothing.
 use Prim.Native.Nat.{ℕ, zero, suc, _+_, _-_, _*_, _≤_, _<_}
-use mathlib.Core.Path.{_≡_, refl, sym, subst}
+use mathlib.Core.Path.{_≡_, refl, sym, ap, _∙_, subst}
 use mathlib.Core.Bool.{Bool, true, false, _&&_}
-use mathlib.Core.List.{List}
-use mathlib.Core.Logic.{⊎-elim}
+use mathlib.Core.List.{List, map}
+use mathlib.Core.Logic.{⊎-elim, _⊎_, inl, inr}
+use native.Mathlib.Omega.{arith}
 use native.Mathlib.Nat.{eq-or-lt-of-le, le-of-suc-le-suc, not-suc-le-zero}
-use borrow.Author.Tests.{lt-ltb, ltb-true, leb-true, eqb-true}
+use lib.Dec.{ltb}
+use lib.ListN.{getD, List·getD-map, List·getD-eq-default}
+use borrow.Author.Tests.{lt-ltb, ltb-true, ltb-false, leb-true, eqb-true}
 use Rattle.facts.proofs.Tests.{and-both}
-use Rattle.pool.specs.Node.{Kind, extract, Cell, widthAt}
+use Rattle.facts.proofs.Table.{tabulate, entry}
+use Rattle.pool.specs.Node.{Kind, bad, var, const, bv, compare, ite, extract, concat, zext, sext, kinds, kindAt, bvCode, compareCode, Cell, widthAt}
 use Rattle.pool.specs.Rules.{widthBefore, okKind, okNode, okPool, Valid}
+
+-- a kind's number
+abbrev pub codeOf : Kind → ℕ
+codeOf bad = 0
+codeOf var = 1
+codeOf const = 2
+codeOf (bv o) = bvCode o
+codeOf (compare o) = compareCode o
+codeOf ite = 15
+codeOf extract = 16
+codeOf concat = 17
+codeOf zext = 18
+codeOf sext = 19
+
+-- the twenty numbers are those of their kinds, as antt computes; any other is bad
+code-below : (n : ℕ) → n < 20 → codeOf (kindAt n) ≡ n
+unfolding kindAt kinds tabulate
+code-below n h = sym (List·getD-map codeOf kinds n bad) ∙ entry (λ k. k) 20 n h
+
+pub kind-code : (n : ℕ) → (kindAt n ≡ bad) ⊎ (codeOf (kindAt n) ≡ n)
+kind-code n = go (ltb n 20) refl
+  where
+    go : (t : Bool) → ltb n 20 ≡ t → (kindAt n ≡ bad) ⊎ (codeOf (kindAt n) ≡ n)
+    go true e = inr (code-below n (ltb-true n 20 e))
+    go false e = inl (unfold kindAt kinds in List·getD-eq-default kinds bad (ltb-false n 20 e))
 
 -- each node of a valid pool keeps the rules
 pub valid-node : (ws : List ℕ) (k n : ℕ) → Valid ws k → n < k → okNode ws n ≡ true

@@ -5,6 +5,7 @@ use Prim.Native.Nat.{ℕ, zero, suc, max, _+_, _-_, _*_, _/_, _^_}
 use lib.Dec.{ltb}
 use Rattle.terms.specs.declared.BinOp.{BinOp}
 use Rattle.terms.specs.declared.BinOp.the-variants.{Add, Sub, Mul, And, Or, Xor, Shl, LShr, AShr}
+use Rattle.terms.specs.declared.CmpOp.{CmpOp}
 use Rattle.terms.specs.declared.CmpOp.the-variants.{Eq, Ult, Slt}
 use Rattle.terms.specs.Expr.{Expr, Const, Bv, Compare, Ite, Concat, ZeroExtend, SignExtend}
 use Rattle.trees.specs.declared.SaturateTo.{SaturateTo}
@@ -31,18 +32,24 @@ signedMax n = 2 ^ (n - 1) - 1
 abbrev pub clampBetween : (value low high : Expr) → Expr
 clampBetween value low high = Ite (Compare Slt value low) low (Ite (Compare Slt high value) high value)
 
+abbrev pub clampBelow : (value high : Expr) → Expr
+clampBelow value high = Ite (Compare Ult high value) high value
+
 abbrev pub clamped : (value : Expr) (wide n : ℕ) → SaturateTo → Expr
 clamped value wide n Signed = clampBetween value (Const (2 ^ wide - 2 ^ (n - 1)) wide) (Const (signedMax n) wide)
-clamped value wide n Unsigned = Ite (Compare Ult (Const (unsignedMax n) wide) value) (Const (unsignedMax n) wide) value
+clamped value wide n Unsigned = clampBelow value (Const (unsignedMax n) wide)
 clamped value wide n SignedToUnsigned = clampBetween value (Const 0 wide) (Const (unsignedMax n) wide)
 
 unfoldable pub clamp : (value : Expr) (wide n : ℕ) → SaturateTo → Expr
 clamp value wide n to = extract (clamped value wide n to) (n - 1) 0
 
--- the closure `shift_by`
+-- the closure `shift_by`: an arithmetic or a logical shift to the right
+abbrev pub shiftOp : Bool → BinOp
+shiftOp true = AShr
+shiftOp false = LShr
+
 abbrev pub shiftBy : Bool → Expr → Expr → Expr
-shiftBy true v by = Bv AShr v by
-shiftBy false v by = Bv LShr v by
+shiftBy signed v by = Bv (shiftOp signed) v by
 
 -- with a constant added where rounding is asked
 abbrev pub plusIf : Bool → Expr → Expr → Expr
@@ -156,12 +163,12 @@ bitwiseUnaryLane LeadingSignBits v n =
 bitwiseUnaryLane ReverseBits v n = concatLanes (n - 1) (λ j. extract v (n - 1 - j) (n - 1 - j))
 
 -- `absolute_difference_lane`
-abbrev pub less : Bool → Expr → Expr → Expr
-less true a b = Compare Slt a b
-less false a b = Compare Ult a b
+abbrev pub lessOp : Bool → CmpOp
+lessOp true = Slt
+lessOp false = Ult
 
 unfoldable pub absoluteDifferenceLane : Bool → Expr → Expr → Expr
-absoluteDifferenceLane signed a b = Ite (less signed a b) (Bv Sub b a) (Bv Sub a b)
+absoluteDifferenceLane signed a b = Ite (Compare (lessOp signed) a b) (Bv Sub b a) (Bv Sub a b)
 
 -- ---- lanes that the Rust builds inside its loops
 

@@ -1,0 +1,77 @@
+-- The loop over lanes, one law for every family: what the lanes 0 to i - 1 make, with lane i put above them. Assumes nothing.
+use Prim.Native.Nat.{ℕ, zero, suc, _+_, _-_, _*_, _≤_, _<_}
+use mathlib.Core.Path.{_≡_, refl, ap, _∙_}
+use mathlib.Core.Bool.{true}
+use mathlib.Core.List.{List, [], _∷_}
+use native.Mathlib.Omega.{arith}
+use native.Mathlib.Nat.{mul-one, mul-le-mul-left, one-le-mul}
+use Rattle.terms.specs.Expr.{Expr, Concat}
+use Rattle.pool.specs.declared.Built.{Built}
+use Rattle.pool.specs.Growth.{Grown, Reach, AllReached, Made}
+use Rattle.pool.specs.Builders.{MadeConcat}
+use Rattle.pool.proofs.Laws.{is-kept, reach-kept, reach-trans, grown-trans}
+use Rattle.pool.proofs.Steps.{over, step, finish, forget}
+use Rattle.trees.specs.Simd.{concatLanes}
+use Rattle.lower.specs.Builds.{Source, SourceIs, Lowers}
+
+-- a source stays what it is while the pool grows
+pub source-kept : {a b : List ℕ} {k k′ : ℕ} {s : Source} {t : Expr} → Grown a k b k′ → SourceIs a k s t → SourceIs b k′ s t
+source-kept g f u = is-kept g (f u)
+
+pub all-kept : {a b : List ℕ} {k k′ r : ℕ} → Grown a k b k′ → r < k → (ms : List ℕ) → AllReached a r ms → AllReached b r ms
+all-kept g l [] h = tt
+all-kept g l (m ∷ ms) h = (reach-kept g l (h .0), all-kept g l ms (h .1))
+
+pub all-trans : {ws : List ℕ} {r p : ℕ} → Reach ws r p → (ms : List ℕ) → AllReached ws p ms → AllReached ws r ms
+all-trans h [] x = tt
+all-trans h (m ∷ ms) x = (reach-trans h (x .0), all-trans h ms (x .1))
+
+-- the lanes 0 to i - 1, each of so many bits and at most m nodes with its concatenation
+module _ (old : List ℕ) (k : ℕ) (new : List ℕ) (r : Built) where
+  abbrev pub LanesTo : (m bits : ℕ) (d first second : Source) (lane : Expr → Expr → Expr → ℕ → Expr) (ins : List ℕ) → ℕ → Type 0
+  LanesTo m bits d first second lane ins i =
+      Lowers old k new r (m * i) (bits * i) d first second (λ td ta tb. concatLanes (i - 1) (lane td ta tb)) ins
+
+concat-next : (i : ℕ) (f : ℕ → Expr) → 1 ≤ i → concatLanes (i + 1 - 1) f ≡ Concat (f i) (concatLanes (i - 1) f)
+unfolding concatLanes
+concat-next i f h =
+    ap (λ (j : ℕ). concatLanes j f) {x = i + 1 - 1} {y = suc (i - 1)} (omega arith) ∙ ap (λ (j : ℕ). Concat (f j) (concatLanes (i - 1) f)) (omega arith)
+
+module _ (lane : Expr → Expr → Expr → ℕ → Expr) {m n bits : ℕ} {d first second : Source} {ins : List ℕ} {k : ℕ} where
+  pub lanes-first : {w0 w1 : List ℕ} {r : Built} → n ≤ m → Lowers w0 k w1 r n bits d first second (λ td ta tb. lane td ta tb 0) ins
+      → LanesTo w0 k w1 r m bits d first second lane ins 1
+  unfolding concatLanes
+  lanes-first h e =
+      rw (mul-one m, mul-one bits)
+      (record { sized = omega (arith, e .sized); made = λ v x y z. e .made v x y z })
+
+  pub lanes-more : {w0 w1 w2 w3 : List ℕ} {r1 r2 r3 : Built} {i : ℕ} → 1 ≤ bits → 1 ≤ i → bits * (i + 1) ≤ 129 → n + 1 ≤ m
+      → LanesTo w0 k w1 r1 m bits d first second lane ins i
+      → Lowers w1 (r1 .count) w2 r2 n bits d first second (λ td ta tb. lane td ta tb i) []
+      → MadeConcat w2 (r2 .count) w3 r3 (r2 .node) (r1 .node)
+      → LanesTo w0 k w3 r3 m bits d first second lane ins (i + 1)
+  lanes-more {w0} {w1} {w2} {w3} {r1} {r2} {r3} {i} lb li lw lm e1 e2 e3 =
+      let some : 1 ≤ bits * i = one-le-mul lb li in
+      let total : bits + bits * i ≡ bits * (i + 1) = omega arith in
+      record {
+        sized = omega (arith, e1 .sized, e2 .sized, e3 .sized);
+        made = λ {td} {ta} {tb} v x y z.
+            let m1 = e1 .made v x y z in
+            let s1 = step (over v [] tt) [] (forget m1) in
+            let m2 = e2 .made (s1 .valid) (source-kept (m1 .grown) x) (source-kept (m1 .grown) y) (source-kept (m1 .grown) z) in
+            let s2 = step s1 [] m2 in
+            let m3 = e3 .made {s = bits * (i + 1)} (s2 .valid) lb some total lw (s2 .env .0) (s2 .env .1 .0) in
+            let m = finish (step s2 (0 ∷ 1 ∷ []) m3) tt in
+            rw (concat-next i (lane td ta tb) li)
+            (record {
+              grown = m .grown;
+              valid = m .valid;
+              is = m .is;
+              all = m .all;
+              ins-reached = all-trans (m3 .ins-reached .1 .0) ins (all-kept (grown-trans (m2 .grown) (m3 .grown)) (m1 .is .under) ins (m1 .ins-reached));
+            });
+      }
+
+-- a lane lies within the lanes' bits
+pub lane-fits : (bits i lanes : ℕ) {w : ℕ} → i < lanes → bits * lanes ≤ w → bits * i + bits ≤ w
+lane-fits bits i lanes h l = omega (arith, mul-le-mul-left bits h)

@@ -1,0 +1,4 @@
+pub mod Powers
+pub mod Cutting
+pub mod Clamping
+pub mod Lanes

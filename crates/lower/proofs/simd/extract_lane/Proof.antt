@@ -1,0 +1,29 @@
+use Rattle.lower.proofs.Cutting.{lane-built}
+use borrow.Author.Needs.{needs}
+use Rattle.lower.proofs.simd.extract_lane.Statement.{statement}
+use Rattle.lower.proofs.simd.extract_lane.Tie as tie
+
+mul-lo : tie.Need-mul-lo
+mul-lo c = search needs
+
+add-t9 : tie.Need-add-t9
+add-t9 c = search needs
+
+sub-t10 : tie.Need-sub-t10
+sub-t10 c = search needs
+
+extract-collapsing-requires : tie.Need-extract-collapsing-requires
+extract-collapsing-requires c κs = search needs
+
+same-length : tie.Need-same-length
+same-length c = search needs
+
+returns : tie.Need-returns
+returns c =
+    let l-extract-collapsing = c .before .before in
+    let st = l-extract-collapsing .before .before .before .before in
+    lane-built (st .pre .1 .1) (l-extract-collapsing .extract-collapsing .ensures)
+
+pub extract-lane-spec : {M : Type 1} → statement M
+extract-lane-spec =
+    tie.close (tie.spec mul-lo add-t9 sub-t10 extract-collapsing-requires same-length returns)

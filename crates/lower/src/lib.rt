@@ -1,0 +1,68 @@
+// The Rust's neon/lower.rs: what several families use. simd has lift/simd.rs, and arith what the families of neon/lower/arith.rs
+// share.
+use pool::Built;
+use pool::Node;
+ghost use mathlib.Core.Path.{_≡_};
+ghost use Prim.Native.Nat.{_+_, _*_, _-_, _≤_, _<_, _^_};
+ghost use Rattle.pool.specs.Node.{wide as wideWords};
+ghost use Rattle.pool.specs.Growth.{Room};
+ghost use Rattle.trees.specs.Lower.{unsignedMax};
+ghost use Rattle.lower.specs.Builds.{MadeExtend};
+
+pub mod arith;
+pub mod simd;
+
+// Two words, the low one first: the Rust's u128.
+pub struct Words {
+    pub lo: u64,
+    pub hi: u64,
+}
+
+// 2^bits in one word.
+pub fn power(bits: u64) -> u64
+    requires { ⌜ bits < 64 ⌝ }
+    ensures { λ r. ⌜ r ≡ 2 ^ bits ⌝ }
+{
+    1u64 << bits
+}
+
+// The largest number of so many bits, 0 for none.
+pub fn unsigned_max(bits: u64) -> u64
+    requires { ⌜ bits ≤ 64 ⌝ }
+    ensures { λ r. ⌜ r ≡ unsignedMax bits ⌝ }
+{
+    if bits == 64 {
+        return 0xffff_ffff_ffff_ffff;
+    }
+    power(bits) - 1
+}
+
+// -2^bits, at the width wide.
+pub fn minus_power(wide: u64, bits: u64) -> Words
+    requires { ⌜ (bits < 64) × (bits ≤ wide) × (wide ≤ 128) ⌝ }
+    ensures { λ r. ⌜ wideWords (r .lo) (r .hi) ≡ 2 ^ wide - 2 ^ bits ⌝ }
+{
+    let below = power(bits) - 1;
+    if wide <= 64 {
+        return Words {
+            lo: unsigned_max(wide) - below,
+            hi: 0,
+        };
+    }
+    Words {
+        lo: 0xffff_ffff_ffff_ffff - below,
+        hi: unsigned_max(wide - 64),
+    }
+}
+
+pub fn extend(pool: &mut [u64], count: usize, value: Node, to: u64, signed: bool) -> Built
+    requires { ⌜ Room (now pool) count 1 ⌝ }
+    requires { ⌜ (value .0 < count) × (to ≤ 129) ⌝ }
+    ensures { λ r. ⌜ MadeExtend (now (pool .entry)) count (now (pool .exit)) r value to signed ⌝ }
+{
+    if signed {
+        pool::sign_ext(pool, count, value, to)
+    } else {
+        pool::zero_ext(pool, count, value, to)
+    }
+}

@@ -1,0 +1,53 @@
+// The Rust's lift/simd.rs: cuts of lanes.
+use neon::Lane;
+use pool::Bit;
+use pool::Built;
+use pool::Node;
+ghost use mathlib.Core.Path.{_≡_};
+ghost use Prim.Native.Nat.{_+_, _*_, _≤_, _<_};
+ghost use lib.ListN.{length};
+ghost use Rattle.pool.specs.Growth.{Room};
+ghost use Rattle.lower.specs.Cut.{cutFrom};
+ghost use Rattle.lower.specs.Builds.{MadeCut, MadeLane};
+
+// The node that a cut of `value` up to the bit hi is taken from.
+fn cut_from(pool: &[u64], value: Node, hi: Bit) -> Node
+    requires { ⌜ 4 * (value .0 + 1) ≤ length (now pool) ⌝ }
+    ensures { λ r. ⌜ (r .0 ≡ cutFrom (now (pool .entry)) (value .0) (hi .0)) × (r .0 ≤ value .0) ⌝ }
+{
+    let at = 4 * value.0;
+    if pool[at] % 65536 != 16 {
+        return value;
+    }
+    if pool[at + 3] != 0 {
+        return value;
+    }
+    if pool[at + 2] < hi.0 {
+        return value;
+    }
+    let src = (pool[at + 1] % 65536) as usize;
+    if src < value.0 {
+        return Node(src);
+    }
+    value
+}
+
+// The bits hi to lo of `value`, joined to the cut from bit 0 that `value` may be itself.
+pub fn extract_collapsing(pool: &mut [u64], count: usize, value: Node, hi: Bit, lo: Bit) -> Built
+    requires { ⌜ Room (now pool) count 1 ⌝ }
+    requires { ⌜ (value .0 < count) × (lo .0 ≤ hi .0) × (hi .0 < 129) ⌝ }
+    ensures { λ r. ⌜ MadeCut (now (pool .entry)) count (now (pool .exit)) r value (hi .0) (lo .0) ⌝ }
+{
+    let src = cut_from(pool, value, hi);
+    pool::extract(pool, count, src, hi, lo)
+}
+
+// Lane `index` of `value`, of so many bits.
+pub fn extract_lane(pool: &mut [u64], count: usize, value: Node, bits: u64, index: Lane) -> Built
+    requires { ⌜ Room (now pool) count 1 ⌝ }
+    requires { ⌜ (value .0 < count) × (1 ≤ bits) × (bits * index .0 + bits ≤ 128) ⌝ }
+    ensures { λ r. ⌜ MadeLane (now (pool .entry)) count (now (pool .exit)) r value bits (index .0) ⌝ }
+{
+    let lo = bits * index.0;
+    extract_collapsing(pool, count, value, Bit(lo + bits - 1), Bit(lo))
+}
