@@ -1,6 +1,6 @@
 -- The loop over lanes, one law for every family: what the lanes 0 to i - 1 make, with lane i put above them. Assumes nothing.
 use Prim.Native.Nat.{ℕ, zero, suc, _+_, _-_, _*_, _≤_, _<_}
-use mathlib.Core.Path.{_≡_, refl, ap, _∙_}
+use mathlib.Core.Path.{_≡_, refl, ap, subst, _∙_}
 use mathlib.Core.Bool.{true}
 use mathlib.Core.List.{List, [], _∷_}
 use native.Mathlib.Omega.{arith}
@@ -10,7 +10,7 @@ use Rattle.pool.specs.declared.Built.{Built}
 use Rattle.pool.specs.Growth.{Grown, Reach, AllReached, Made}
 use Rattle.pool.specs.Builders.{MadeConcat}
 use Rattle.pool.proofs.Laws.{is-kept, reach-kept, reach-trans, grown-trans}
-use Rattle.pool.proofs.Steps.{over, step, finish, forget}
+use Rattle.pool.proofs.Steps.{start, step, finish, forget}
 use Rattle.trees.specs.Simd.{concatLanes}
 use Rattle.lower.specs.Builds.{Source, SourceIs, Lowers}
 
@@ -32,6 +32,12 @@ module _ (old : List ℕ) (k : ℕ) (new : List ℕ) (r : Built) where
   LanesTo m bits d first second lane ins i =
       Lowers old k new r (m * i) (bits * i) d first second (λ td ta tb. concatLanes (i - 1) (lane td ta tb)) ins
 
+-- what a loop keeps: where the pool at entry and lane 0 have made the lane 0, the pool and the answer now have made i lanes
+abbrev pub LanesKept : (k : ℕ) (m bits : ℕ) (d first second : Source) (lane : Expr → Expr → Expr → ℕ → Expr) (ins : List ℕ)
+    (w₀ : List ℕ) (r₀ : Built) (ws : List ℕ) (r : Built) → ℕ → Type 0
+LanesKept k m bits d first second lane ins w₀ r₀ ws r i =
+    (old : List ℕ) → LanesTo old k w₀ r₀ m bits d first second lane ins 1 → LanesTo old k ws r m bits d first second lane ins i
+
 concat-next : (i : ℕ) (f : ℕ → Expr) → 1 ≤ i → concatLanes (i + 1 - 1) f ≡ Concat (f i) (concatLanes (i - 1) f)
 unfolding concatLanes
 concat-next i f h =
@@ -45,9 +51,9 @@ module _ (lane : Expr → Expr → Expr → ℕ → Expr) {m n bits : ℕ} {d fi
       rw (mul-one m, mul-one bits)
       (record { sized = omega (arith, e .sized); made = λ v x y z. e .made v x y z })
 
-  pub lanes-more : {w0 w1 w2 w3 : List ℕ} {r1 r2 r3 : Built} {i : ℕ} → 1 ≤ bits → 1 ≤ i → bits * (i + 1) ≤ 129 → n + 1 ≤ m
+  pub lanes-more : {w0 w1 w2 w3 : List ℕ} {r1 r2 r3 : Built} {i : ℕ} {also : List ℕ} → 1 ≤ bits → 1 ≤ i → bits * (i + 1) ≤ 129 → n + 1 ≤ m
       → LanesTo w0 k w1 r1 m bits d first second lane ins i
-      → Lowers w1 (r1 .count) w2 r2 n bits d first second (λ td ta tb. lane td ta tb i) []
+      → Lowers w1 (r1 .count) w2 r2 n bits d first second (λ td ta tb. lane td ta tb i) also
       → MadeConcat w2 (r2 .count) w3 r3 (r2 .node) (r1 .node)
       → LanesTo w0 k w3 r3 m bits d first second lane ins (i + 1)
   lanes-more {w0} {w1} {w2} {w3} {r1} {r2} {r3} {i} lb li lw lm e1 e2 e3 =
@@ -57,9 +63,9 @@ module _ (lane : Expr → Expr → Expr → ℕ → Expr) {m n bits : ℕ} {d fi
         sized = omega (arith, e1 .sized, e2 .sized, e3 .sized);
         made = λ {td} {ta} {tb} v x y z.
             let m1 = e1 .made v x y z in
-            let s1 = step (over v [] tt) [] (forget m1) in
+            let s1 = step (start v [] tt) [] (forget m1) in
             let m2 = e2 .made (s1 .valid) (source-kept (m1 .grown) x) (source-kept (m1 .grown) y) (source-kept (m1 .grown) z) in
-            let s2 = step s1 [] m2 in
+            let s2 = step s1 [] (forget m2) in
             let m3 = e3 .made {s = bits * (i + 1)} (s2 .valid) lb some total lw (s2 .env .0) (s2 .env .1 .0) in
             let m = finish (step s2 (0 ∷ 1 ∷ []) m3) tt in
             rw (concat-next i (lane td ta tb) li)
@@ -71,6 +77,14 @@ module _ (lane : Expr → Expr → Expr → ℕ → Expr) {m n bits : ℕ} {d fi
               ins-reached = all-trans (m3 .ins-reached .1 .0) ins (all-kept (grown-trans (m2 .grown) (m3 .grown)) (m1 .is .under) ins (m1 .ins-reached));
             });
       }
+
+-- all of them
+pub lanes-all : (lane : Expr → Expr → Expr → ℕ → Expr) (m bits : ℕ) {d first second : Source} {ins : List ℕ} {k : ℕ} {w0 w1 : List ℕ} {r : Built} {i lanes : ℕ}
+    → i ≡ lanes
+    → LanesTo w0 k w1 r m bits d first second lane ins i
+    → LanesTo w0 k w1 r m bits d first second lane ins lanes
+lanes-all lane m bits {d} {first} {second} {ins} {k} {w0} {w1} {r} e h =
+    subst (λ (j : ℕ). LanesTo w0 k w1 r m bits d first second lane ins j) e h
 
 -- a lane lies within the lanes' bits
 pub lane-fits : (bits i lanes : ℕ) {w : ℕ} → i < lanes → bits * lanes ≤ w → bits * i + bits ≤ w

@@ -23,8 +23,12 @@ pub record Entry : Type 0 where
 abbrev pub entry : ℕ → ℕ → Expr → Bool → Entry
 entry n w t b = record { node = n; width = w; term = t; live = b }
 
+-- a node that the answer has to reach, and one that it need not
 abbrev pub given : ℕ → ℕ → Expr → Entry
 given n w t = entry n w t true
+
+abbrev pub spare : ℕ → ℕ → Expr → Entry
+spare n w t = entry n w t false
 
 abbrev pub All : List ℕ → ℕ → List Entry → Type 0
 All ws c [] = Unit {0}
@@ -49,13 +53,13 @@ abbrev pub picks : List Entry → List ℕ → List ℕ
 picks l [] = []
 picks l (j ∷ js) = nodeAt l j ∷ picks l js
 
-abbrev pub flagged : Bool → List Entry → List Entry
-flagged b [] = []
-flagged b (e ∷ l) = entry (e .node) (e .width) (e .term) b ∷ flagged b l
+abbrev pub nodeIf : Bool → ℕ → List ℕ → List ℕ
+nodeIf true n l = n ∷ l
+nodeIf false n l = l
 
-abbrev pub nodes : List Entry → List ℕ
-nodes [] = []
-nodes (e ∷ l) = e .node ∷ nodes l
+abbrev pub liveNodes : List Entry → List ℕ
+liveNodes [] = []
+liveNodes (e ∷ l) = nodeIf (e .live) (e .node) (liveNodes l)
 
 -- m is reached from an entry whose flag is up
 abbrev pub Lives : List ℕ → List Entry → ℕ → Type 0
@@ -130,32 +134,18 @@ all-live ws ws′ l l′ (m ∷ ms) f h = (f m (h .0), all-live ws ws′ l l′ 
 
 -- ---- the run
 
--- it begins with the inputs
-pub start : {ws : List ℕ} {k : ℕ} → Valid ws k → (l : List Entry) → All ws k l → St ws k (nodes l) ws k (flagged true l)
+live-next : (ws : List ℕ) (l : List Entry) (e : Entry) (b : Bool) (ms : List ℕ) → e .live ≡ b → AllLive ws (e ∷ l) ms → AllLive ws (e ∷ l) (nodeIf b (e .node) ms)
+live-next ws l e true ms q h = (inl (subst (λ (b : Bool). T b) (sym q) tt, Reach.here), h)
+live-next ws l e false ms q h = h
+
+live-self : (ws : List ℕ) (l : List Entry) → AllLive ws l (liveNodes l)
+live-self ws [] = tt
+live-self ws (e ∷ l) = live-next ws l e (e .live) (liveNodes l) refl (all-live ws ws l (e ∷ l) (liveNodes l) (λ m x. inr x) (live-self ws l))
+
+-- it begins with nodes of the pool, of which the answer has to reach those whose flag is up
+pub start : {ws : List ℕ} {k : ℕ} → Valid ws k → (l : List Entry) → All ws k l → St ws k (liveNodes l) ws k l
 start {ws} {k} v l h =
-    record {
-      grown = grown-refl ws k;
-      valid = v;
-      env = env l h;
-      live = λ m p q. absurd (not-le-of-lt q p);
-      inputs = inputs l (λ m x. x);
-    }
-  where
-    env : (l : List Entry) → All ws k l → All ws k (flagged true l)
-    env [] h = tt
-    env (e ∷ l) h = (h .0, env l (h .1))
-
-    inputs : (l′ : List Entry) → ((m : ℕ) → Lives ws (flagged true l′) m → Lives ws (flagged true l) m) → AllLive ws (flagged true l) (nodes l′)
-    inputs [] f = tt
-    inputs (e ∷ l′) f = (f (e .node) (inl (tt, Reach.here)), inputs l′ (λ m x. f m (inr x)))
-
--- it begins with nodes that the answer need not reach
-pub over : {ws : List ℕ} {k : ℕ} → Valid ws k → (l : List Entry) → All ws k l → St ws k [] ws k (flagged false l)
-over {ws} {k} v l h = record { grown = grown-refl ws k; valid = v; env = env l h; live = λ m p q. absurd (not-le-of-lt q p); inputs = tt }
-  where
-    env : (l : List Entry) → All ws k l → All ws k (flagged false l)
-    env [] h = tt
-    env (e ∷ l) h = (h .0, env l (h .1))
+    record { grown = grown-refl ws k; valid = v; env = h; live = λ m p q. absurd (not-le-of-lt q p); inputs = live-self ws l }
 
 -- one builder more, over the entries js
 pub step : {old : List ℕ} {k : ℕ} {ins ws : List ℕ} {c : ℕ} {l : List Entry} → St old k ins ws c l → (js : List ℕ) {ws′ : List ℕ} {r c′ w : ℕ} {t : Expr}

@@ -10,6 +10,7 @@ use lib.Bits as B
 use lib.Bits.{bitAnd, bitOr, bitXor}
 use lib.Pow.{pow-pos, shr-lt, shr-mod, shr-shr, shl-shr, field, mod-mod-pow, mod-pow-add, pow-lt}
 use lib.IntN.{ℤ, pos}
+use Rattle.facts.proofs.Numbers.{below}
 use Rattle.terms.specs.Expr.{Expr, Const, Bv, Compare, Ite, Extract, width}
 use Rattle.terms.specs.Value.{value, bit, bvshl, bvlshr}
 use Rattle.terms.specs.declared.BinOp.the-variants.{Xor}
@@ -24,10 +25,6 @@ use Rattle.value.proofs.Bv.{wrap-pos}
 use Rattle.value.proofs.Is.{Is, is-eq, is-const, is-add, is-zext, is-then, is-else, says-eq}
 use Rattle.value.proofs.Lanes.{concat-width, concat-value}
 use Rattle.value.proofs.Sat.{is-plus, is-apply, applyZ, plus}
-
-pub below : (n : ℕ) → n < 2 ^ n
-below zero = omega arith
-below (suc n) = omega (arith, below n, pow-suc 2 n)
 
 pub bit-lt : (j v : ℕ) → bitAt j v < 2
 bit-lt j v = mod-lt (v / 2 ^ j) (omega arith)

@@ -7,6 +7,7 @@ use native.Mathlib.Nat.{le-max-left, mul-suc}
 use borrow.Author.Tests.{leb-true}
 use lib.Dec.{leb, ltb, eqb}
 use lib.Pow.{pow-pos, pow-mono, pow-lt}
+use Rattle.facts.proofs.Numbers.{below}
 use Rattle.terms.specs.Expr.{Expr, Var, Const, Bv, Compare, Ite, Extract, Concat, ZeroExtend, SignExtend, width}
 use Rattle.terms.specs.declared.BinOp.the-variants.{Add, Sub, Mul, And, Or, Xor, Shl, LShr, AShr}
 use Rattle.terms.specs.declared.CmpOp.the-variants.{Eq, Ult, Slt}
@@ -29,7 +30,6 @@ use Rattle.trees.specs.declared.BitwiseUnary.the-variants.{LeadingSignBits, Rev
 use Rattle.trees.specs.declared.Combine.the-variants.{With}
 use Rattle.facts.proofs.Tests.{and-both}
 use Rattle.value.proofs.Wrap.{half}
-use Rattle.value.proofs.Bits.{below}
 
 pub record Fit (t : Expr) (w : ℕ) : Type 0 where
   pub wide : width t ≡ w

@@ -4,6 +4,7 @@ use mathlib.Core.Bool.{Bool, true, false}
 use Prim.Native.Nat.{ℕ, _-_, _*_, _/_, _^_, _≤_, _<_}
 use native.Mathlib.Omega.{arith}
 use lib.IntN.{pos, _*ℤ_}
+use Rattle.facts.proofs.Numbers.{below}
 use Rattle.terms.specs.Expr.{Expr, width}
 use Rattle.terms.specs.Value.{value}
 use Rattle.neon.specs.Op.{Op, SHL, SQSHLI, UQSHLI, SQSHLU, SSHR, USHR, SRSHR, URSHR, SSHL, USHL, SRSHL, URSHL, SQSHL, UQSHL, SQRSHL, UQRSHL, SLI, SRI, SQADD, UQADD, SQSUB, UQSUB, SHADD, UHADD, SRHADD, URHADD, SQXTN, UQXTN, SQXTUN, SHRN, RSHRN, SQSHRN, SQRSHRN, UQSHRN, UQRSHRN, SQSHRUN, SQRSHRUN, SQABS, SQNEG, SQDMULH, SQRDMULH, SQDMULL, SQDMLAL, SQDMLSL, SQDMULL2, SQDMLAL2, SQDMLSL2, SQDMULLE, SQDMLALE, SQDMLSLE, SQDMULL2E, SQDMLAL2E, SQDMLSL2E, SUQADD, USQADD, SABD, UABD, SABA, UABA, CNT, CLZ, CLS, RBIT, ADDHN, RADDHN, SUBHN, RSUBHN}
@@ -20,7 +21,7 @@ use Rattle.value.proofs.Is.{Is, Has, has-is, has-number, is-number, is-
 use Rattle.value.proofs.Clamp.{S-fits, is-reading}
 use Rattle.value.proofs.Register.{is-register, is-shl-immediate, is-sqshl-immediate, is-shr-immediate, is-rshr-immediate, is-sqshlu}
 use Rattle.value.proofs.Sat.{applyZ, is-halving, is-sqaddsub, is-dmulh, is-uqadd, is-uqsub, is-sqneg, is-sqabs, is-sqxtn, is-uqxtn, is-sqxtun, is-shrn, is-sqshrn, is-uqshrn, is-sqshrun, is-dmull, is-dmlal, is-suqadd, is-usqadd, is-abd}
-use Rattle.value.proofs.Bits.{below, ones-le, run-le, is-count, is-leading, is-signs, reverse-width, reverse-value, sli-value, sri-value, insert-width, high-width, high-value}
+use Rattle.value.proofs.Bits.{ones-le, run-le, is-count, is-leading, is-signs, reverse-width, reverse-value, sli-value, sri-value, insert-width, high-width, high-value}
 
 -- the term of one lane of a family: d is the old lane, a and b are the source lanes
 abbrev pub laneTree : NeonOp → (n : ℕ) (d a b : Expr) → Expr

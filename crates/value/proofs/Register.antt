@@ -8,6 +8,7 @@ use borrow.Author.Tests.{ltb-true, ltb-false}
 use lib.Dec.{ltb}
 use lib.Pow.{pow-pos, pow-mono, pow-add}
 use lib.IntN.{ℤ, pos, negsuc, _+ℤ_}
+use Rattle.facts.proofs.Numbers.{below}
 use Rattle.terms.specs.Expr.{Expr, Const, Bv, Compare, Ite, Extract, SignExtend, width}
 use Rattle.terms.specs.Value.{value}
 use Rattle.terms.specs.declared.BinOp.the-variants.{Sub}
@@ -176,10 +177,6 @@ module _ (r : ℕ → ℕ) (s : Bool) (v : Expr) (n i : ℕ) (x : ℤ) (hn : 0 <
   pub is-shr-immediate : Is r (shiftRight v (Const i n) n s false i) n (floor x i)
   unfolding shiftRight
   is-shr-immediate = is-shift r s hn f p (by-const r i n)
-
-  below : (n : ℕ) → n < 2 ^ n
-  below zero = omega arith
-  below (suc n) = omega (arith, below n, pow-suc 2 n)
 
   pub is-rshr-immediate : 0 < i → i ≤ n → Is r (shiftRight v (Const i n) n s true i) n (round x i)
   is-rshr-immediate hi l =
