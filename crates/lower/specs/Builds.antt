@@ -41,6 +41,11 @@ abbrev pub listIf : Bool → ℕ → List ℕ
 listIf true n = n ∷ []
 listIf false n = []
 
+-- the width of new lanes, with as many bits of the old destination below them where they are kept
+abbrev pub withLower : Bool → ℕ → ℕ
+withLower true bits = bits * 2
+withLower false bits = bits
+
 module _ (old : List ℕ) (k : ℕ) (new : List ℕ) (r : Built) where
   -- over one operand, two, three
   pub record Builds1 (m : ℕ) (a : Node) (wa w : ℕ) (t : Expr → Expr) (ins : List ℕ) : Type 0 where

@@ -12,9 +12,9 @@ ghost use Prim.Native.Nat.{_+_, _*_, _-_, _≤_, _<_, _^_};
 ghost use Rattle.terms.specs.Expr.{Const};
 ghost use Rattle.pool.specs.Node.{wide as wideWords};
 ghost use Rattle.pool.specs.Growth.{Room};
-ghost use Rattle.trees.specs.Arith.{clampBetween, clampBelow, clamp as clampTree, plusIf, shiftOp};
+ghost use Rattle.trees.specs.Arith.{clampBetween, clampBelow, clamp as clampTree, plusIf, shiftOp, keepLower};
 ghost use Rattle.trees.specs.Simd.{extract};
-ghost use Rattle.lower.specs.Builds.{Builds1};
+ghost use Rattle.lower.specs.Builds.{Builds1, BuildsIf, Below, readIf, withLower};
 
 // `low` where `value` is signed less than it, else `high` where `value` is signed more than it, else `value`; of these the low
 // bits.
@@ -138,4 +138,26 @@ pub fn shift_op(signed: bool) -> BinOp
     ensures { λ r. ⌜ r ≡ shiftOp signed ⌝ }
 {
     if signed { BinOp::AShr } else { BinOp::LShr }
+}
+
+// The 2 forms of a narrowing keep the lower half of the old destination below the new lanes.
+pub fn keep_lower(
+    pool: &mut [u64],
+    count: usize,
+    upper: bool,
+    new: Node,
+    d: Node,
+    lane_bits: u64,
+    lanes: u64,
+) -> Built
+    requires { ⌜ Room (now pool) count 2 ⌝ }
+    requires { ⌜ (new .0 < count) × Below (readIf upper d 0) count × (1 ≤ «lane_bits» * lanes) × («lane_bits» * lanes ≤ 64) ⌝ }
+    ensures { λ r. ⌜ BuildsIf (now (pool .entry)) count (now (pool .exit)) r 2 new («lane_bits» * lanes) upper d («lane_bits» * lanes * 2)
+        (withLower upper («lane_bits» * lanes)) (λ v x. keepLower upper v x «lane_bits» lanes) ⌝ }
+{
+    if upper {
+        let lower = pool::extract(pool, count, d, Bit(lane_bits * lanes - 1), Bit(0));
+        return pool::concat(pool, lower.count, new, lower.node);
+    }
+    Built { node: new, count }
 }

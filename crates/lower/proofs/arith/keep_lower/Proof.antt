@@ -1,0 +1,43 @@
+use mathlib.Core.Path.{refl}
+use native.Mathlib.Omega.{arith}
+use Rattle.lower.proofs.Lanes.{keep-yes, keep-no}
+use borrow.Author.Needs.{needs}
+use Rattle.lower.proofs.arith.keep_lower.Statement.{statement}
+use Rattle.lower.proofs.arith.keep_lower.Tie as tie
+
+mul-t12 : tie.Need-mul-t12
+mul-t12 c = search needs
+
+sub-t13 : tie.Need-sub-t13
+sub-t13 c = search needs
+
+extract-requires : tie.Need-extract-requires
+extract-requires c κs =
+    let l-if1 = c .before in
+    let st = l-if1 .before .before in
+    omega (arith, st .pre, st .pre .1 .1 (l-if1 .if1 .taken))
+
+concat-requires : tie.Need-concat-requires
+concat-requires c κs = search needs
+
+same-length : tie.Need-same-length
+same-length c = search needs
+
+returns : tie.Need-returns
+returns c =
+    let l-concat = c .before .before in
+    let l-extract = l-concat .before .before .before .before in
+    let l-if1 = l-extract .before .before in
+    let st = l-if1 .before .before in
+    keep-yes (st .args .lane-bits) (st .args .lanes) (st .pre .1 .2) (st .pre .1 .3) (l-if1 .if1 .taken) (l-extract .extract .ensures) (l-concat .concat .ensures)
+
+returns-2 : tie.Need-returns-2
+returns-2 c =
+    let l-if1 = c in
+    let st = l-if1 .before .before in
+    keep-no (st .args .lane-bits) (st .args .lanes) (l-if1 .if1 .left) (st .pre .1 .0) refl refl
+
+pub keep-lower-spec : {M : Type 1} → statement M
+keep-lower-spec =
+    tie.close
+    (tie.spec mul-t12 sub-t13 extract-requires concat-requires same-length returns returns-2)
