@@ -188,16 +188,25 @@ shiftInsertLane left d a shift n = Bv Or (Bv (insertOp left) a (Const shift n)) 
 abbrev pub mixedBits : ℕ → ℕ
 mixedBits n = n + 2
 
+-- a sum that can be negative is clamped into the unsigned range as a signed one
+abbrev pub mixedTo : Bool → SaturateTo
+mixedTo true = Signed
+mixedTo false = SignedToUnsigned
+
 unfoldable pub mixedSignAddLane : (signed : Bool) (d a : Expr) (n : ℕ) → Expr
 mixedSignAddLane signed d a n =
-    clamp (Bv Add (extend d (mixedBits n) signed) (extend a (mixedBits n) (not signed))) (mixedBits n) n (cond signed Signed SignedToUnsigned)
+    clamp (Bv Add (extend d (mixedBits n) signed) (extend a (mixedBits n) (not signed))) (mixedBits n) n (mixedTo signed)
 
 unfoldable pub doublingProduct : (a b : Expr) (n : ℕ) → Expr
 doublingProduct a b n = clamp (Bv Shl (Bv Mul (extend a (n + 1) true) (extend b (n + 1) true)) (Const 1 (n + 1))) (n + 1) n Signed
 
+-- a product joined to d, under a second clamp
+abbrev pub combined : Combine → (d product : Expr) (n : ℕ) → Expr
+combined Nothing d product n = product
+combined (With op) d product n = clamp (Bv op (extend d (n + 1) true) (extend product (n + 1) true)) (n + 1) n Signed
+
 unfoldable pub doublingLongLane : Combine → (d a b : Expr) (n : ℕ) → Expr
-doublingLongLane Nothing d a b n = doublingProduct a b n
-doublingLongLane (With op) d a b n = clamp (Bv op (extend d (n + 1) true) (extend (doublingProduct a b n) (n + 1) true)) (n + 1) n Signed
+doublingLongLane combine d a b n = combined combine d (doublingProduct a b n) n
 
 abbrev pub accumulated : Bool → Expr → Expr → Expr
 accumulated true d difference = Bv Add d difference

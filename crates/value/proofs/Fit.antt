@@ -18,7 +18,7 @@ use Rattle.neon.specs.Form.{most}
 use Rattle.neon.specs.Arm.{lanes}
 use Rattle.trees.specs.Simd.{extractCollapsing, extractLane, concatLanes, joins}
 use Rattle.trees.specs.Lower.{extend}
-use Rattle.trees.specs.Arith.{clamp, shiftBy, plusIf, narrowed, negated, saturatingLane, shiftRight, shiftBound, saturatingShiftLeft, registerShiftMax, leftImmediate, signedAmount, leftBy, shiftLane, leadingZeros, populationCount, bitwiseUnaryLane, absoluteDifferenceLane, shiftInsertLane, mixedSignAddLane, doublingProduct, doublingLongLane}
+use Rattle.trees.specs.Arith.{clamp, shiftBy, plusIf, narrowed, negated, saturatingLane, shiftRight, shiftBound, saturatingShiftLeft, registerShiftMax, leftImmediate, signedAmount, leftBy, shiftLane, leadingZeros, populationCount, bitwiseUnaryLane, absoluteDifferenceLane, shiftInsertLane, mixedTo, mixedSignAddLane, doublingProduct, doublingLongLane}
 use Rattle.trees.specs.Width.{sumOp, highNarrowLane}
 use Rattle.trees.specs.declared.SaturateTo.the-variants.{Signed, Unsigned, SignedToUnsigned}
 use Rattle.trees.specs.declared.SaturateTo.{SaturateTo}
@@ -258,7 +258,7 @@ module _ (n : ℕ) (h8 : 8 ≤ n) (h64 : n ≤ 64) where
   pub fit-mixed : (s : Bool) {d a : Expr} → Fit d n → Fit a n → Fit (mixedSignAddLane s d a n) n
   unfolding mixedSignAddLane
   fit-mixed s o p =
-      fit-clamp (cond s Signed SignedToUnsigned) n hn (omega arith) (omega arith)
+      fit-clamp (mixedTo s) n hn (omega arith) (omega arith)
       (fit-bv Add (fit-extend s (n + 2) (omega arith) (omega arith) o) (fit-extend (not s) (n + 2) (omega arith) (omega arith) p))
 
   pub fit-product : {a b : Expr} → Fit a (n / 2) → Fit b (n / 2) → Fit (doublingProduct a b n) n

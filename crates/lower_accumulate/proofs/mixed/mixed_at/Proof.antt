@@ -1,0 +1,86 @@
+use native.Mathlib.Omega.{arith}
+use Rattle.lower_accumulate.proofs.Summing.{mixed-lane}
+use Rattle.lower.proofs.Lanes.{lane-fits}
+use borrow.Author.Needs.{needs}
+use Rattle.lower_accumulate.proofs.mixed.mixed_at.Statement.{statement}
+use Rattle.lower_accumulate.proofs.mixed.mixed_at.Tie as tie
+
+add-wide : tie.Need-add-wide
+add-wide c = search needs
+
+extract-lane-requires : tie.Need-extract-lane-requires
+extract-lane-requires c κs =
+    let st = c .before .before in
+    omega (arith, st .pre, lane-fits (st .args .lane-bits) (st .args .index .0) (st .args .lanes) (st .pre .1 .1 .2) (st .pre .1 .1 .3))
+
+extract-lane-requires-2 : tie.Need-extract-lane-requires-2
+extract-lane-requires-2 c κs =
+    let l-extract-lane = c .before .before .before in
+    let st = l-extract-lane .before .before .before in
+    omega (arith, st .pre, l-extract-lane .extract-lane .ensures .sized, lane-fits (st .args .lane-bits) (st .args .index .0) (st .args .lanes) (st .pre .1 .1 .2) (st .pre .1 .1 .3))
+
+extend-requires : tie.Need-extend-requires
+extend-requires c κs = search needs
+
+extend-requires-2 : tie.Need-extend-requires-2
+extend-requires-2 c κs = search needs
+
+bv-requires : tie.Need-bv-requires
+bv-requires c κs =
+    let l-extend2 = c .before .before .before in
+    let l-extend = l-extend2 .before .before .before .before in
+    let l-extract-lane2 = l-extend .before .before .before .before in
+    let l-extract-lane = l-extract-lane2 .before .before .before .before in
+    let st = l-extract-lane .before .before .before in
+    omega (arith, st .pre, l-extract-lane .extract-lane .ensures .sized, l-extract-lane2 .extract-lane2 .ensures .sized, l-extend .extend .ensures .sized, l-extend2 .extend2 .ensures .sized)
+
+mixed-to-requires : tie.Need-mixed-to-requires
+mixed-to-requires c κs = search needs
+
+clamp-requires : tie.Need-clamp-requires
+clamp-requires c κs =
+    let l-bv = c .before .before .before .before in
+    let l-extend2 = l-bv .before .before .before .before in
+    let l-extend = l-extend2 .before .before .before .before in
+    let l-extract-lane2 = l-extend .before .before .before .before in
+    let l-extract-lane = l-extract-lane2 .before .before .before .before in
+    let st = l-extract-lane .before .before .before in
+    omega (arith, st .pre, l-extract-lane .extract-lane .ensures .sized, l-extract-lane2 .extract-lane2 .ensures .sized, l-extend .extend .ensures .sized, l-extend2 .extend2 .ensures .sized, l-bv .bv .ensures .sized)
+
+same-length : tie.Need-same-length
+same-length c =
+    let l-clamp = c .before .before in
+    let l-bv = l-clamp .before .before .before .before .before in
+    let l-extend2 = l-bv .before .before .before .before in
+    let l-extend = l-extend2 .before .before .before .before in
+    let l-extract-lane2 = l-extend .before .before .before .before in
+    let l-extract-lane = l-extract-lane2 .before .before .before .before in
+    let st = l-extract-lane .before .before .before in
+    omega (arith, st .pre, l-extract-lane .extract-lane .ensures .sized, l-extract-lane2 .extract-lane2 .ensures .sized, l-extend .extend .ensures .sized, l-extend2 .extend2 .ensures .sized, l-bv .bv .ensures .sized, l-clamp .clamp .ensures .sized)
+
+returns : tie.Need-returns
+returns c =
+    let l-clamp = c .before .before in
+    let l-mixed-to = l-clamp .before in
+    let l-bv = l-mixed-to .before .before .before .before in
+    let l-extend2 = l-bv .before .before .before .before in
+    let l-extend = l-extend2 .before .before .before .before in
+    let l-extract-lane2 = l-extend .before .before .before .before in
+    let l-extract-lane = l-extract-lane2 .before .before .before .before in
+    let st = l-extract-lane .before .before .before in
+    mixed-lane (st .args .destination-signed) (st .pre .1 .1 .0) (st .pre .1 .1 .1) (st .pre .1 .1 .2) (st .pre .1 .1 .3) (l-mixed-to .mixed-to .ensures) (l-extract-lane .extract-lane .ensures) (l-extract-lane2 .extract-lane2 .ensures) (l-extend .extend .ensures) (l-extend2 .extend2 .ensures) (l-bv .bv .ensures) (l-clamp .clamp .ensures)
+
+pub mixed-at-spec : {M : Type 1} → statement M
+mixed-at-spec =
+    tie.close
+    (tie.spec
+    add-wide
+    extract-lane-requires
+    extract-lane-requires-2
+    extend-requires
+    extend-requires-2
+    bv-requires
+    mixed-to-requires
+    clamp-requires
+    same-length
+    returns)

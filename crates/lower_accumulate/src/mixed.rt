@@ -1,0 +1,112 @@
+// The Rust's neon/lower/arith.rs: mixed_sign_add_lanes.
+use neon::Lane;
+use pool::Built;
+use pool::Node;
+use terms::BinOp;
+use trees::SaturateTo;
+ghost use mathlib.Core.Path.{_≡_};
+ghost use mathlib.Core.List.{[]};
+ghost use Prim.Native.Nat.{_*_, _≤_, _<_};
+ghost use Rattle.pool.specs.Growth.{Room};
+ghost use Rattle.trees.specs.Arith.{mixedTo, mixedSignAddLanes};
+ghost use Rattle.lower.specs.Builds.{Lowers, read, unread};
+ghost use Rattle.lower_accumulate.specs.Lanes.{mixedAt};
+
+// A sum that can be negative is clamped into the unsigned range as a signed one.
+fn mixed_to(destination_signed: bool) -> SaturateTo
+    ensures { λ r. ⌜ r ≡ mixedTo «destination_signed» ⌝ }
+{
+    if destination_signed {
+        SaturateTo::Signed
+    } else {
+        SaturateTo::SignedToUnsigned
+    }
+}
+
+// Lane `index` of the sum, at two bits more than a lane.
+fn mixed_at(
+    pool: &mut [u64],
+    count: usize,
+    destination_signed: bool,
+    first: Node,
+    d: Node,
+    lane_bits: u64,
+    lanes: u64,
+    index: Lane,
+) -> Built
+    requires { ⌜ Room (now pool) count 12 ⌝ }
+    requires { ⌜ (first .0 < count) × (d .0 < count) ⌝ }
+    requires { ⌜ (1 ≤ «lane_bits») × («lane_bits» ≤ 64) × (index .0 < lanes) × («lane_bits» * lanes ≤ 128) ⌝ }
+    ensures { λ r. ⌜ Lowers (now (pool .entry)) count (now (pool .exit)) r 12 «lane_bits» (read d («lane_bits» * lanes)) (read first («lane_bits» * lanes))
+        unread (λ d a b. mixedAt «destination_signed» «lane_bits» d a b (index .0)) [] ⌝ }
+{
+    let wide = lane_bits + 2;
+    let previous = lower::simd::extract_lane(pool, count, d, lane_bits, index);
+    let addend = lower::simd::extract_lane(pool, previous.count, first, lane_bits, index);
+    let wide_previous = lower::extend(pool, addend.count, previous.node, wide, destination_signed);
+    let wide_addend = lower::extend(
+        pool,
+        wide_previous.count,
+        addend.node,
+        wide,
+        !destination_signed,
+    );
+    let sum = pool::bv(
+        pool,
+        wide_addend.count,
+        BinOp::Add,
+        wide_previous.node,
+        wide_addend.node,
+    );
+    lower::arith::clamp(
+        pool,
+        sum.count,
+        sum.node,
+        wide,
+        lane_bits,
+        mixed_to(destination_signed),
+    )
+}
+
+pub fn mixed_sign_add_lanes(
+    pool: &mut [u64],
+    count: usize,
+    destination_signed: bool,
+    first: Node,
+    d: Node,
+    lane_bits: u64,
+    lanes: u64,
+) -> Built
+    requires { ⌜ Room (now pool) count (13 * lanes) ⌝ }
+    requires { ⌜ (first .0 < count) × (d .0 < count) ⌝ }
+    requires { ⌜ (1 ≤ «lane_bits») × («lane_bits» ≤ 64) × (1 ≤ lanes) × («lane_bits» * lanes ≤ 128) ⌝ }
+    ensures { λ r. ⌜ Lowers (now (pool .entry)) count (now (pool .exit)) r (13 * lanes) («lane_bits» * lanes) (read d («lane_bits» * lanes))
+        (read first («lane_bits» * lanes)) unread (λ d a b. mixedSignAddLanes «destination_signed» a d «lane_bits» lanes) [] ⌝ }
+{
+    let mut acc = mixed_at(
+        pool,
+        count,
+        destination_signed,
+        first,
+        d,
+        lane_bits,
+        lanes,
+        Lane(0),
+    );
+    let mut i = 1;
+    while i < lanes {
+        let lane = mixed_at(
+            pool,
+            acc.count,
+            destination_signed,
+            first,
+            d,
+            lane_bits,
+            lanes,
+            Lane(i),
+        );
+        acc = pool::concat(pool, lane.count, lane.node, acc.node);
+        i += 1;
+    }
+    acc
+}
