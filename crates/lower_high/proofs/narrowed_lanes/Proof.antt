@@ -1,0 +1,95 @@
+use native.Mathlib.Omega.{arith}
+use Prim.Native.Nat.{_*_, _-_, _≤_}
+use mathlib.Core.Path.{_≡_}
+use mathlib.Core.List.{[]}
+use Rattle.lower.proofs.Lanes.{LanesKept, lanes-first, lanes-more, lanes-all, lane-fits}
+use Rattle.lower.specs.Builds.{read, unread}
+use Rattle.lower_high.specs.Lanes.{highAt}
+use Rattle.lower_high.proofs.narrowed_lanes.Statement.{statement}
+use Rattle.lower_high.proofs.narrowed_lanes.Tie as tie
+
+abbrev Inv-loop : tie.InvT-loop
+Inv-loop pool₀ count subtract rounding first second lane-bits lanes acc₀ i₀ pool acc i =
+    (1 ≤ i) × (i ≤ lanes) × LanesKept count (7) (lane-bits) unread (read first (lane-bits * 2 * lanes)) (read second (lane-bits * 2 * lanes)) (highAt subtract rounding lane-bits) ([]) pool₀ acc₀ pool acc i
+
+abbrev μ-loop : tie.MeasureT-loop
+μ-loop pool₀ count subtract rounding first second lane-bits lanes acc₀ i₀ pool acc i = lanes - i
+
+high-at-requires : tie.Need-high-at-requires Inv-loop μ-loop
+high-at-requires c κs =
+    let st = c .before .before in
+    omega (arith, st .pre)
+
+loop-holds : tie.Need-loop-holds Inv-loop μ-loop
+loop-holds c =
+    let st = c .before .before .before .before .before in
+    (omega arith, omega (arith, st .pre), λ old d. d)
+
+high-at-requires-2 : tie.Need-high-at-requires-2 Inv-loop μ-loop
+high-at-requires-2 c κs =
+    let l-loop-test = c .before in
+    let l-loop = l-loop-test .before in
+    let l-high-at = l-loop .before .before .before in
+    let st = l-high-at .before .before .before in
+    omega (arith, st .pre, (l-loop .loop .inv .2 _ (lanes-first (highAt (st .args .subtract) (st .args .rounding) (st .args .lane-bits)) {m = 7} (omega (arith, st .pre)) (l-high-at .high-at .ensures))) .sized, l-loop-test .loop-test .taken)
+
+concat-requires : tie.Need-concat-requires Inv-loop μ-loop
+concat-requires c κs =
+    let l-high-at2 = c .before .before .before in
+    let l-loop-test = l-high-at2 .before .before in
+    let l-loop = l-loop-test .before in
+    let l-high-at = l-loop .before .before .before in
+    let st = l-high-at .before .before .before in
+    omega (arith, st .pre, (l-loop .loop .inv .2 _ (lanes-first (highAt (st .args .subtract) (st .args .rounding) (st .args .lane-bits)) {m = 7} (omega (arith, st .pre)) (l-high-at .high-at .ensures))) .sized, l-high-at2 .high-at2 .ensures .sized, l-loop-test .loop-test .taken)
+
+add-i : tie.Need-add-i Inv-loop μ-loop
+add-i c =
+    let l-loop-test = c .before .before .before .before .before .before .before .before in
+    let st = l-loop-test .before .before .before .before .before .before .before in
+    omega (arith, l-loop-test .loop-test .taken, st .fits .lanes)
+
+loop-less : tie.Need-loop-less Inv-loop μ-loop
+loop-less c =
+    let l-loop-test = c .before .before .before .before .before .before .before .before in
+    omega (arith, l-loop-test .loop-test .taken)
+
+loop-again : tie.Need-loop-again Inv-loop μ-loop
+loop-again c =
+    let l-concat = c .before .before in
+    let l-high-at2 = l-concat .before .before .before .before in
+    let l-loop-test = l-high-at2 .before .before in
+    let l-loop = l-loop-test .before in
+    let st = l-loop .before .before .before .before .before .before in
+    (omega arith, omega (arith, l-loop-test .loop-test .taken), λ old d. lanes-more (highAt (st .args .subtract) (st .args .rounding) (st .args .lane-bits)) (omega (arith, st .pre)) (l-loop .loop .inv .0) (omega (arith, st .pre, lane-fits ((st .args .lane-bits)) (l-loop .loop .i) (st .args .lanes) {w = 128} (l-loop-test .loop-test .taken) (omega (arith, st .pre)))) (omega (arith, st .pre)) (l-loop .loop .inv .2 old d) (l-high-at2 .high-at2 .ensures) (l-concat .concat .ensures))
+
+same-length : tie.Need-same-length Inv-loop μ-loop
+same-length c =
+    let l-loop = c .before in
+    let l-high-at = l-loop .before .before .before in
+    let st = l-high-at .before .before .before in
+    omega (arith, (l-loop .loop .inv .2 _ (lanes-first (highAt (st .args .subtract) (st .args .rounding) (st .args .lane-bits)) {m = 7} (omega (arith, st .pre)) (l-high-at .high-at .ensures))) .sized)
+
+returns : tie.Need-returns Inv-loop μ-loop
+returns c =
+    let l-loop-test = c in
+    let l-loop = l-loop-test .before in
+    let l-high-at = l-loop .before .before .before in
+    let st = l-high-at .before .before .before in
+    let e : l-loop .loop .i ≡ st .args .lanes = omega (arith, l-loop .loop .inv .1, l-loop-test .loop-test .left) in
+    lanes-all (highAt (st .args .subtract) (st .args .rounding) (st .args .lane-bits)) (7) ((st .args .lane-bits)) e (l-loop .loop .inv .2 _ (lanes-first (highAt (st .args .subtract) (st .args .rounding) (st .args .lane-bits)) {m = 7} (omega (arith, st .pre)) (l-high-at .high-at .ensures)))
+
+pub narrowed-lanes-spec : {M : Type 1} → statement M
+narrowed-lanes-spec =
+    tie.close
+    (tie.spec
+    Inv-loop
+    μ-loop
+    high-at-requires
+    loop-holds
+    high-at-requires-2
+    concat-requires
+    add-i
+    loop-less
+    loop-again
+    same-length
+    returns)
