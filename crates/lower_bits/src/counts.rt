@@ -1,0 +1,112 @@
+// The Rust's neon/lower/arith.rs: leading_zeros, and the counts and the reversal that bitwise_unary_lane builds in its arms.
+use pool::Bit;
+use pool::Built;
+use pool::Node;
+use terms::BinOp;
+use terms::CmpOp;
+ghost use mathlib.Core.List.{[], _∷_};
+ghost use Prim.Native.Nat.{_+_, _*_, _≤_, _<_};
+ghost use Rattle.pool.specs.Growth.{Room};
+ghost use Rattle.trees.specs.declared.BitwiseUnary.the-variants.{LeadingSignBits, ReverseBits};
+ghost use Rattle.trees.specs.Arith.{leadingZeros, populationCount, bitwiseUnaryLane};
+ghost use Rattle.lower.specs.Builds.{Builds1, Builds2};
+ghost use Rattle.lower_bits.specs.Layers.{zerosAt, countAt};
+
+// The layer that tests one bit, above the ladder of the bits below it.
+fn zeros_at(pool: &mut [u64], count: usize, value: Node, rest: Node, bits: u64, bit: Bit) -> Built
+    requires { ⌜ Room (now pool) count 5 ⌝ }
+    requires { ⌜ (value .0 < count) × (rest .0 < count) × (bit .0 < bits) × (bits ≤ 64) ⌝ }
+    ensures { λ r. ⌜ Builds2 (now (pool .entry)) count (now (pool .exit)) r 5 value bits rest bits bits (λ v t. zerosAt bits v (bit .0) t)
+        (value .0 ∷ rest .0 ∷ []) ⌝ }
+{
+    let tested = pool::extract(pool, count, value, bit, bit);
+    let one = pool::konst(pool, tested.count, 1, 0, 1);
+    let set = pool::compare(pool, one.count, CmpOp::Eq, tested.node, one.node);
+    let zeros = pool::konst(pool, set.count, bits - 1 - bit.0, 0, bits);
+    pool::ite(pool, zeros.count, set.node, zeros.node, rest)
+}
+
+// How many leading bits are zero. The ladder grows from the lowest bit, so that the test of the highest stands outermost.
+pub fn leading_zeros(pool: &mut [u64], count: usize, value: Node, bits: u64) -> Built
+    requires { ⌜ Room (now pool) count (5 * bits + 1) ⌝ }
+    requires { ⌜ (value .0 < count) × (1 ≤ bits) × (bits ≤ 64) ⌝ }
+    ensures { λ r. ⌜ Builds1 (now (pool .entry)) count (now (pool .exit)) r (5 * bits + 1) value bits bits (λ v. leadingZeros v bits bits) (value .0 ∷ []) ⌝ }
+{
+    let mut acc = pool::konst(pool, count, bits, 0, bits);
+    let mut i = 0;
+    while i < bits {
+        acc = zeros_at(pool, acc.count, value, acc.node, bits, Bit(i));
+        i += 1;
+    }
+    acc
+}
+
+// The sum with one bit more.
+fn count_at(
+    pool: &mut [u64],
+    count: usize,
+    value: Node,
+    rest: Node,
+    lane_bits: u64,
+    bit: Bit,
+) -> Built
+    requires { ⌜ Room (now pool) count 3 ⌝ }
+    requires { ⌜ (value .0 < count) × (rest .0 < count) × (bit .0 < «lane_bits») × («lane_bits» ≤ 64) ⌝ }
+    ensures { λ r. ⌜ Builds2 (now (pool .entry)) count (now (pool .exit)) r 3 value «lane_bits» rest «lane_bits» «lane_bits»
+        (λ v t. countAt «lane_bits» v (bit .0) t) (value .0 ∷ rest .0 ∷ []) ⌝ }
+{
+    let one = pool::extract(pool, count, value, bit, bit);
+    let wide = pool::zero_ext(pool, one.count, one.node, lane_bits);
+    pool::bv(pool, wide.count, BinOp::Add, rest, wide.node)
+}
+
+// How many bits are set.
+pub fn population_count(pool: &mut [u64], count: usize, value: Node, lane_bits: u64) -> Built
+    requires { ⌜ Room (now pool) count (3 * «lane_bits» + 1) ⌝ }
+    requires { ⌜ (value .0 < count) × (1 ≤ «lane_bits») × («lane_bits» ≤ 64) ⌝ }
+    ensures { λ r. ⌜ Builds1 (now (pool .entry)) count (now (pool .exit)) r (3 * «lane_bits» + 1) value «lane_bits» «lane_bits»
+        (λ v. populationCount v «lane_bits» «lane_bits») (value .0 ∷ []) ⌝ }
+{
+    let mut acc = pool::konst(pool, count, 0, 0, lane_bits);
+    let mut i = 0;
+    while i < lane_bits {
+        acc = count_at(pool, acc.count, value, acc.node, lane_bits, Bit(i));
+        i += 1;
+    }
+    acc
+}
+
+// How many bits after the sign repeat it: the leading zeros of each bit's difference from its neighbour, which is one bit
+// narrower.
+pub fn leading_sign_bits(pool: &mut [u64], count: usize, value: Node, lane_bits: u64) -> Built
+    requires { ⌜ Room (now pool) count (5 * «lane_bits» + 1) ⌝ }
+    requires { ⌜ (value .0 < count) × (2 ≤ «lane_bits») × («lane_bits» ≤ 64) ⌝ }
+    ensures { λ r. ⌜ Builds1 (now (pool .entry)) count (now (pool .exit)) r (5 * «lane_bits» + 1) value «lane_bits» «lane_bits»
+        (λ v. bitwiseUnaryLane LeadingSignBits v «lane_bits») (value .0 ∷ []) ⌝ }
+{
+    let width = lane_bits - 1;
+    let high = pool::extract(pool, count, value, Bit(lane_bits - 1), Bit(1));
+    let low = pool::extract(pool, high.count, value, Bit(width - 1), Bit(0));
+    let folded = pool::bv(pool, low.count, BinOp::Xor, high.node, low.node);
+    let zeros = leading_zeros(pool, folded.count, folded.node, width);
+    pool::zero_ext(pool, zeros.count, zeros.node, lane_bits)
+}
+
+// The bits from the top down, the first of them lowest.
+pub fn reverse_bits(pool: &mut [u64], count: usize, value: Node, lane_bits: u64) -> Built
+    requires { ⌜ Room (now pool) count (2 * «lane_bits») ⌝ }
+    requires { ⌜ (value .0 < count) × (1 ≤ «lane_bits») × («lane_bits» ≤ 64) ⌝ }
+    ensures { λ r. ⌜ Builds1 (now (pool .entry)) count (now (pool .exit)) r (2 * «lane_bits») value «lane_bits» «lane_bits»
+        (λ v. bitwiseUnaryLane ReverseBits v «lane_bits») (value .0 ∷ []) ⌝ }
+{
+    let top = lane_bits - 1;
+    let mut acc = pool::extract(pool, count, value, Bit(top), Bit(top));
+    let mut i = 1;
+    while i < lane_bits {
+        let at = top - i;
+        let bit = pool::extract(pool, acc.count, value, Bit(at), Bit(at));
+        acc = pool::concat(pool, bit.count, bit.node, acc.node);
+        i += 1;
+    }
+    acc
+}

@@ -1,0 +1,78 @@
+// The Rust's neon/lower/arith.rs: bitwise_unary_lane and bitwise_unary_lanes, the functions of a lane's own bits.
+use neon::Lane;
+use pool::Built;
+use pool::Node;
+use trees::BitwiseUnary;
+ghost use mathlib.Core.List.{[], _∷_};
+ghost use Prim.Native.Nat.{_+_, _*_, _≤_, _<_};
+ghost use Rattle.pool.specs.Growth.{Room};
+ghost use Rattle.trees.specs.Arith.{bitwiseUnaryLane, bitwiseUnaryLanes};
+ghost use Rattle.lower.specs.Builds.{Builds1, Lowers, read, unread};
+ghost use Rattle.lower_bits.specs.Layers.{bitwiseAt};
+
+pub mod counts;
+
+fn bitwise_unary_lane(
+    pool: &mut [u64],
+    count: usize,
+    op: BitwiseUnary,
+    value: Node,
+    lane_bits: u64,
+) -> Built
+    requires { ⌜ Room (now pool) count (5 * «lane_bits» + 1) ⌝ }
+    requires { ⌜ (value .0 < count) × (2 ≤ «lane_bits») × («lane_bits» ≤ 64) ⌝ }
+    ensures { λ r. ⌜ Builds1 (now (pool .entry)) count (now (pool .exit)) r (5 * «lane_bits» + 1) value «lane_bits» «lane_bits»
+        (λ v. bitwiseUnaryLane op v «lane_bits») (value .0 ∷ []) ⌝ }
+{
+    match op {
+        BitwiseUnary::PopulationCount => counts::population_count(pool, count, value, lane_bits),
+        BitwiseUnary::LeadingZeros => counts::leading_zeros(pool, count, value, lane_bits),
+        BitwiseUnary::LeadingSignBits => counts::leading_sign_bits(pool, count, value, lane_bits),
+        BitwiseUnary::ReverseBits => counts::reverse_bits(pool, count, value, lane_bits),
+    }
+}
+
+// Lane `index` of the answer.
+fn bitwise_at(
+    pool: &mut [u64],
+    count: usize,
+    op: BitwiseUnary,
+    first: Node,
+    lane_bits: u64,
+    lanes: u64,
+    index: Lane,
+) -> Built
+    requires { ⌜ Room (now pool) count (5 * «lane_bits» + 2) ⌝ }
+    requires { ⌜ first .0 < count ⌝ }
+    requires { ⌜ (2 ≤ «lane_bits») × («lane_bits» ≤ 64) × (index .0 < lanes) × («lane_bits» * lanes ≤ 128) ⌝ }
+    ensures { λ r. ⌜ Lowers (now (pool .entry)) count (now (pool .exit)) r (5 * «lane_bits» + 2) «lane_bits» unread (read first («lane_bits» * lanes))
+        unread (λ d a b. bitwiseAt op «lane_bits» d a b (index .0)) [] ⌝ }
+{
+    let element = lower::simd::extract_lane(pool, count, first, lane_bits, index);
+    bitwise_unary_lane(pool, element.count, op, element.node, lane_bits)
+}
+
+// CNT, CLZ, CLS and RBIT, lane by lane.
+pub fn bitwise_unary_lanes(
+    pool: &mut [u64],
+    count: usize,
+    op: BitwiseUnary,
+    first: Node,
+    lane_bits: u64,
+    lanes: u64,
+) -> Built
+    requires { ⌜ Room (now pool) count ((5 * «lane_bits» + 3) * lanes) ⌝ }
+    requires { ⌜ first .0 < count ⌝ }
+    requires { ⌜ (2 ≤ «lane_bits») × («lane_bits» ≤ 64) × (1 ≤ lanes) × («lane_bits» * lanes ≤ 128) ⌝ }
+    ensures { λ r. ⌜ Lowers (now (pool .entry)) count (now (pool .exit)) r ((5 * «lane_bits» + 3) * lanes) («lane_bits» * lanes) unread
+        (read first («lane_bits» * lanes)) unread (λ d a b. bitwiseUnaryLanes op a «lane_bits» lanes) [] ⌝ }
+{
+    let mut acc = bitwise_at(pool, count, op, first, lane_bits, lanes, Lane(0));
+    let mut i = 1;
+    while i < lanes {
+        let lane = bitwise_at(pool, acc.count, op, first, lane_bits, lanes, Lane(i));
+        acc = pool::concat(pool, lane.count, lane.node, acc.node);
+        i += 1;
+    }
+    acc
+}

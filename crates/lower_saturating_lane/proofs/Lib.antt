@@ -1,0 +1,4 @@
+pub mod Adding
+pub mod Narrowing
+pub mod Doubling
+pub mod Choosing

@@ -1,0 +1,26 @@
+-- What a saturating kind says of its sources: whether there is a second, the bits of a source lane, and the lanes and amounts of its rows.
+use mathlib.Core.Bool.{Bool, true, false, cond}
+use Prim.Native.Nat.{ℕ, _*_, _≤_}
+use Rattle.trees.specs.declared.SaturatingKind.{SaturatingKind}
+use Rattle.trees.specs.declared.SaturatingKind.the-variants.{AddSub, Halving, Narrow, ShiftNarrow, DoublingMultiplyHigh, Unary}
+use Rattle.trees.specs.Arith.{narrowing}
+
+abbrev pub usesSecond : SaturatingKind → Bool
+usesSecond (AddSub op to) = true
+usesSecond (Halving rounding) = true
+usesSecond (Narrow to) = false
+usesSecond (ShiftNarrow shift rounding to) = false
+usesSecond (DoublingMultiplyHigh rounding) = true
+usesSecond (Unary negate) = false
+
+abbrev pub sourceBits : SaturatingKind → ℕ → ℕ
+sourceBits kind n = cond (narrowing kind) (n * 2) n
+
+-- a lane of n bits: at most 32 where the lane is computed at 2n + 1, and a shift of 1 to n
+abbrev pub KindIn : SaturatingKind → ℕ → Type 0
+KindIn (AddSub op to) n = n ≤ 64
+KindIn (Halving rounding) n = n ≤ 64
+KindIn (Narrow to) n = n ≤ 32
+KindIn (ShiftNarrow shift rounding to) n = (n ≤ 32) × (1 ≤ shift) × (shift ≤ n)
+KindIn (DoublingMultiplyHigh rounding) n = n ≤ 32
+KindIn (Unary negate) n = n ≤ 64

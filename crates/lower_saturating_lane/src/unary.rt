@@ -1,0 +1,42 @@
+// The Rust's neon/lower/arith.rs: saturating_lane's Unary.
+use pool::Built;
+use pool::Node;
+use terms::BinOp;
+use terms::CmpOp;
+use trees::SaturateTo;
+use trees::SaturatingKind;
+ghost use mathlib.Core.Bool.{true};
+ghost use mathlib.Core.List.{[], _∷_};
+ghost use Prim.Native.Nat.{_≤_, _<_};
+ghost use Rattle.pool.specs.Growth.{Room};
+ghost use Rattle.trees.specs.Arith.{negated as negatedTree, saturatingLane};
+ghost use Rattle.lower.specs.Builds.{Builds1};
+
+// SQNEG's value, or SQABS's.
+fn negated(pool: &mut [u64], count: usize, negate: bool, value: Node, wide: u64) -> Built
+    requires { ⌜ Room (now pool) count 4 ⌝ }
+    requires { ⌜ (value .0 < count) × (1 ≤ wide) × (wide ≤ 129) ⌝ }
+    ensures { λ r. ⌜ Builds1 (now (pool .entry)) count (now (pool .exit)) r 4 value wide wide (λ v. negatedTree negate v wide) (value .0 ∷ []) ⌝ }
+{
+    let zero = pool::konst(pool, count, 0, 0, wide);
+    let opposite = pool::bv(pool, zero.count, BinOp::Sub, zero.node, value);
+    if negate {
+        return opposite;
+    }
+    let negative = pool::compare(pool, opposite.count, CmpOp::Slt, value, zero.node);
+    pool::ite(pool, negative.count, negative.node, opposite.node, value)
+}
+
+// One bit more holds the least number's opposite, which the clamp then brings back. The source is signed.
+pub fn unary_lane(pool: &mut [u64], count: usize, negate: bool, a: Node, lane_bits: u64) -> Built
+    requires { ⌜ Room (now pool) count 12 ⌝ }
+    requires { ⌜ (a .0 < count) × (1 ≤ «lane_bits») × («lane_bits» ≤ 64) ⌝ }
+    ensures { λ r. ⌜ Builds1 (now (pool .entry)) count (now (pool .exit)) r 12 a «lane_bits» «lane_bits»
+        (λ a. saturatingLane (SaturatingKind.Unary negate) a a «lane_bits» true) (a .0 ∷ []) ⌝ }
+{
+    let wide = lane_bits + 1;
+    let value = lower::extend(pool, count, a, wide, true);
+    let result = negated(pool, value.count, negate, value.node, wide);
+    let to = SaturateTo::Signed;
+    lower::arith::clamp(pool, result.count, result.node, wide, lane_bits, to)
+}
