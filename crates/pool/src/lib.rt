@@ -4,7 +4,7 @@ use terms::CmpOp;
 ghost use mathlib.Core.Path.{_≡_};
 ghost use Prim.Native.Nat.{_+_, _*_, _≤_, _<_, _%_};
 ghost use lib.ListN.{length};
-ghost use Rattle.pool.specs.Node.{kindWord, operandWord, widthAt, bvCode, compareCode};
+ghost use Rattle.pool.specs.Node.{kindWord, operandWord, widthAt, places, bvCode, compareCode};
 ghost use Rattle.pool.specs.Growth.{Room, Pushed};
 ghost use Rattle.pool.specs.Builders.{MadeVar, MadeConst, MadeBv, MadeCompare, MadeIte, MadeExtract, MadeConcat, MadeZeroExtend, MadeSignExtend};
 
@@ -31,6 +31,17 @@ pub struct Bit(pub u64);
 pub struct Built {
     pub node: Node,
     pub count: usize,
+}
+
+// The nodes that the words have places for.
+pub fn places(pool: &[u64]) -> usize
+    ensures { λ r. ⌜ r ≡ places (now (pool .entry)) ⌝ }
+{
+    let all = pool.len() / 4;
+    if all < Node::NONE {
+        return all;
+    }
+    Node::NONE
 }
 
 // Writes the four words of node `count`.
