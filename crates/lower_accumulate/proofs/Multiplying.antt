@@ -1,7 +1,7 @@
 -- The doubling long multiplications, from what their calls build. Assumes nothing.
-use Prim.Native.Nat.{ℕ, _+_, _-_, _*_, _/_, _^_, _≤_, _<_}
+use Prim.Native.Nat.{ℕ, _+_, _-_, _*_, _/_, _≤_, _<_}
 use mathlib.Core.Path.{_≡_, refl}
-use mathlib.Core.Bool.{Bool, true, false, cond}
+use mathlib.Core.Bool.{Bool, true, false}
 use mathlib.Core.List.{List, [], _∷_}
 use native.Mathlib.Omega.{arith}
 use native.Mathlib.Nat.{mul-le-mul-left}
@@ -9,7 +9,6 @@ use Rattle.facts.proofs.Numbers.{small}
 use Rattle.facts.proofs.Tests.{false≢true}
 use Rattle.terms.specs.declared.BinOp.{BinOp}
 use Rattle.terms.specs.declared.BinOp.the-variants.{Mul, Shl}
-use Rattle.terms.specs.Expr.{Expr}
 use Rattle.pool.specs.declared.Node.{Node}
 use Rattle.pool.specs.declared.Built.{Built}
 use Rattle.pool.specs.Builders.{MadeConst, MadeBv}
@@ -17,9 +16,9 @@ use Rattle.pool.proofs.Steps.{start, step, finish, stay, given, spare}
 use Rattle.trees.specs.declared.SaturateTo.the-variants.{Signed}
 use Rattle.trees.specs.declared.Combine.{Combine}
 use Rattle.trees.specs.declared.Combine.the-variants.{Nothing, With}
-use Rattle.trees.specs.Simd.{extractLane, concatLanes}
-use Rattle.trees.specs.Arith.{clamp, doublingProduct, combined, sourceLane, doublingLongLane, doublingLongLanes}
-use Rattle.lower.specs.Builds.{Builds1, Builds2, Lowers, read, readIf, unread, withLower, MadeExtend, MadeLane}
+use Rattle.trees.specs.Simd.{concatLanes}
+use Rattle.trees.specs.Arith.{clamp, doublingProduct, sourceLane, doublingLongLane, doublingLongLanes}
+use Rattle.lower.specs.Builds.{Builds1, Builds2, Lowers, read, readIf, unread, MadeExtend, MadeLane}
 use Rattle.lower.proofs.Lanes.{lane-fits, source-kept}
 use Rattle.lower_accumulate.specs.declared.Element.{Element}
 use Rattle.lower_accumulate.specs.declared.Element.the-variants.{One, PerLane}

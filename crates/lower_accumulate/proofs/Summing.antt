@@ -1,19 +1,17 @@
 -- Mixed-sign sums and absolute differences, from what their calls build. Assumes nothing.
-use Prim.Native.Nat.{ℕ, _+_, _-_, _*_, _^_, _≤_, _<_}
+use Prim.Native.Nat.{ℕ, _+_, _*_, _≤_, _<_}
 use mathlib.Core.Path.{_≡_, refl}
 use mathlib.Core.Bool.{Bool, true, false, not}
 use mathlib.Core.List.{List, [], _∷_}
 use native.Mathlib.Omega.{arith}
-use Rattle.terms.specs.declared.BinOp.{BinOp}
 use Rattle.terms.specs.declared.BinOp.the-variants.{Add, Sub}
 use Rattle.terms.specs.declared.CmpOp.{CmpOp}
-use Rattle.terms.specs.Expr.{Expr}
 use Rattle.pool.specs.declared.Node.{Node}
 use Rattle.pool.specs.declared.Built.{Built}
 use Rattle.pool.specs.Builders.{MadeBv, MadeCompare, MadeIte}
 use Rattle.pool.proofs.Steps.{start, step, finish, given, spare}
 use Rattle.trees.specs.declared.SaturateTo.{SaturateTo}
-use Rattle.trees.specs.Arith.{clamp, mixedBits, mixedTo, mixedSignAddLane, lessOp, absoluteDifferenceLane, accumulated}
+use Rattle.trees.specs.Arith.{clamp, mixedTo, mixedSignAddLane, lessOp, absoluteDifferenceLane}
 use Rattle.lower.specs.Builds.{Builds1, Builds2, Lowers, read, readIf, unread, MadeExtend, MadeLane}
 use Rattle.lower.proofs.Lanes.{lane-fits}
 use Rattle.lower_accumulate.specs.Lanes.{mixedAt, differenceAt}

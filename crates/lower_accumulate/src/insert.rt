@@ -1,4 +1,4 @@
-// The Rust's neon/lower/arith.rs: shift_insert_lanes.
+// The Rust's neon/lower/arith.rs: shift_insert_lanes and low_bits.
 use neon::Lane;
 use pool::Built;
 use pool::Node;
@@ -8,9 +8,21 @@ ghost use mathlib.Core.List.{[], _∷_};
 ghost use Prim.Native.Nat.{_+_, _*_, _-_, _≤_, _<_, _^_};
 ghost use Rattle.pool.specs.Growth.{Room};
 ghost use Rattle.trees.specs.Simd.{concatLanes};
+ghost use Rattle.trees.specs.Lower.{unsignedMax};
 ghost use Rattle.trees.specs.Arith.{insertOp, keptBits, shiftInsertLanes};
 ghost use Rattle.lower.specs.Builds.{Lowers, read, unread};
 ghost use Rattle.lower_accumulate.specs.Lanes.{insertAt};
+
+// A mask of the low bits, none for SLI by 0 and for SRI by the whole lane.
+fn low_bits(bits: u64) -> u64
+    requires { ⌜ bits ≤ 64 ⌝ }
+    ensures { λ r. ⌜ r ≡ unsignedMax bits ⌝ }
+{
+    if bits == 0 {
+        return 0;
+    }
+    lower::unsigned_max(bits)
+}
 
 // The bits of the old destination that an insert keeps: the low ones, or the high ones.
 fn kept_bits(left: bool, lane_bits: u64, shift: u64) -> u64
@@ -18,9 +30,9 @@ fn kept_bits(left: bool, lane_bits: u64, shift: u64) -> u64
     ensures { λ r. ⌜ r ≡ keptBits left «lane_bits» shift ⌝ }
 {
     if left {
-        return lower::unsigned_max(shift);
+        return low_bits(shift);
     }
-    lower::unsigned_max(lane_bits) - lower::unsigned_max(lane_bits - shift)
+    lower::unsigned_max(lane_bits) - low_bits(lane_bits - shift)
 }
 
 fn insert_op(left: bool) -> BinOp

@@ -1,0 +1,171 @@
+// The Rust's neon/lower/arith.rs: saturating_lanes, the saturating, halving and narrowing operations lane by lane.
+use neon::Lane;
+use pool::Built;
+use pool::Node;
+use trees::SaturatingKind;
+ghost use mathlib.Core.Path.{_≡_};
+ghost use mathlib.Core.Bool.{true};
+ghost use mathlib.Core.List.{[]};
+ghost use Prim.Native.Nat.{_+_, _-_, _*_, _≤_, _<_};
+ghost use Rattle.pool.specs.Growth.{Room};
+ghost use Rattle.trees.specs.Simd.{concatLanes};
+ghost use Rattle.trees.specs.Arith.{narrowing as narrowingTree, saturatingLanes};
+ghost use Rattle.lower.specs.Builds.{Lowers, read, readIf, unread, Below, withLower};
+ghost use Rattle.lower_saturating_lane.specs.Kinds.{usesSecond, sourceBits, KindIn};
+ghost use Rattle.lower_saturating.specs.Lanes.{saturatingAt};
+
+// The kinds of two sources.
+fn uses_second(kind: SaturatingKind) -> bool
+    ensures { λ r. ⌜ r ≡ usesSecond kind ⌝ }
+{
+    match kind {
+        SaturatingKind::AddSub { op: _, to: _ } => true,
+        SaturatingKind::Halving { rounding: _ } => true,
+        SaturatingKind::Narrow { to: _ } => false,
+        SaturatingKind::ShiftNarrow {
+            shift: _,
+            rounding: _,
+            to: _,
+        } => false,
+        SaturatingKind::DoublingMultiplyHigh { rounding: _ } => true,
+        SaturatingKind::Unary { negate: _ } => false,
+    }
+}
+
+fn narrowing(kind: SaturatingKind) -> bool
+    ensures { λ r. ⌜ r ≡ narrowingTree kind ⌝ }
+{
+    match kind {
+        SaturatingKind::AddSub { op: _, to: _ } => false,
+        SaturatingKind::Halving { rounding: _ } => false,
+        SaturatingKind::Narrow { to: _ } => true,
+        SaturatingKind::ShiftNarrow {
+            shift: _,
+            rounding: _,
+            to: _,
+        } => true,
+        SaturatingKind::DoublingMultiplyHigh { rounding: _ } => false,
+        SaturatingKind::Unary { negate: _ } => false,
+    }
+}
+
+// The bits of a source's lane.
+fn source_bits(kind: SaturatingKind, lane_bits: u64) -> u64
+    requires { ⌜ «lane_bits» ≤ 64 ⌝ }
+    ensures { λ r. ⌜ r ≡ sourceBits kind «lane_bits» ⌝ }
+{
+    if narrowing(kind) {
+        return lane_bits * 2;
+    }
+    lane_bits
+}
+
+// Lane `index` of the result.
+fn saturating_at(
+    pool: &mut [u64],
+    count: usize,
+    kind: SaturatingKind,
+    signed: bool,
+    first: Node,
+    second: Node,
+    lane_bits: u64,
+    lanes: u64,
+    index: Lane,
+) -> Built
+    requires { ⌜ Room (now pool) count 18 ⌝ }
+    requires { ⌜ (first .0 < count) × Below (readIf (usesSecond kind) second 0) count ⌝ }
+    requires { ⌜ (1 ≤ «lane_bits») × («lane_bits» ≤ 64) × KindIn kind «lane_bits» × (index .0 < lanes) × (sourceBits kind «lane_bits» * lanes ≤ 128) ⌝ }
+    ensures { λ r. ⌜ Lowers (now (pool .entry)) count (now (pool .exit)) r 18 «lane_bits» unread (read first (sourceBits kind «lane_bits» * lanes))
+        (readIf (usesSecond kind) second (sourceBits kind «lane_bits» * lanes)) (λ d a b. saturatingAt kind signed «lane_bits» d a b (index .0)) [] ⌝ }
+{
+    let bits = source_bits(kind, lane_bits);
+    let a = lower::simd::extract_lane(pool, count, first, bits, index);
+    if uses_second(kind) {
+        let b = lower::simd::extract_lane(pool, a.count, second, bits, index);
+        return lower_saturating_lane::saturating_lane(
+            pool,
+            b.count,
+            kind,
+            a.node,
+            b.node,
+            lane_bits,
+            signed,
+        );
+    }
+    lower_saturating_lane::saturating_lane(pool, a.count, kind, a.node, a.node, lane_bits, signed)
+}
+
+// The lanes, one put above those so far as it arises.
+fn made_lanes(
+    pool: &mut [u64],
+    count: usize,
+    kind: SaturatingKind,
+    signed: bool,
+    first: Node,
+    second: Node,
+    lane_bits: u64,
+    lanes: u64,
+) -> Built
+    requires { ⌜ Room (now pool) count (19 * lanes) ⌝ }
+    requires { ⌜ (first .0 < count) × Below (readIf (usesSecond kind) second 0) count ⌝ }
+    requires { ⌜ (1 ≤ «lane_bits») × («lane_bits» ≤ 64) × KindIn kind «lane_bits» × (1 ≤ lanes) × (sourceBits kind «lane_bits» * lanes ≤ 128) ⌝ }
+    ensures { λ r. ⌜ Lowers (now (pool .entry)) count (now (pool .exit)) r (19 * lanes) («lane_bits» * lanes) unread (read first (sourceBits kind «lane_bits» * lanes))
+        (readIf (usesSecond kind) second (sourceBits kind «lane_bits» * lanes)) (λ d a b. concatLanes (lanes - 1) (saturatingAt kind signed «lane_bits» d a b)) [] ⌝ }
+{
+    let mut acc = saturating_at(
+        pool,
+        count,
+        kind,
+        signed,
+        first,
+        second,
+        lane_bits,
+        lanes,
+        Lane(0),
+    );
+    let mut i = 1;
+    while i < lanes {
+        let lane = saturating_at(
+            pool,
+            acc.count,
+            kind,
+            signed,
+            first,
+            second,
+            lane_bits,
+            lanes,
+            Lane(i),
+        );
+        acc = pool::concat(pool, lane.count, lane.node, acc.node);
+        i += 1;
+    }
+    acc
+}
+
+// The 2 forms write the upper half of the destination and keep the lower one.
+pub fn saturating_lanes(
+    pool: &mut [u64],
+    count: usize,
+    kind: SaturatingKind,
+    signed: bool,
+    upper: bool,
+    first: Node,
+    second: Node,
+    d: Node,
+    lane_bits: u64,
+    lanes: u64,
+) -> Built
+    requires { ⌜ Room (now pool) count (19 * lanes + 2) ⌝ }
+    requires { ⌜ (first .0 < count) × Below (readIf (usesSecond kind) second 0) count × Below (readIf upper d 0) count ⌝ }
+    requires { ⌜ (1 ≤ «lane_bits») × («lane_bits» ≤ 64) × KindIn kind «lane_bits» × (1 ≤ lanes) × (sourceBits kind «lane_bits» * lanes ≤ 128)
+        × (upper ≡ true → «lane_bits» * lanes ≤ 64) ⌝ }
+    ensures { λ r. ⌜ Lowers (now (pool .entry)) count (now (pool .exit)) r (19 * lanes + 2) (withLower upper («lane_bits» * lanes))
+        (readIf upper d («lane_bits» * lanes * 2)) (read first (sourceBits kind «lane_bits» * lanes))
+        (readIf (usesSecond kind) second (sourceBits kind «lane_bits» * lanes)) (λ d a b. saturatingLanes kind signed upper a b d «lane_bits» lanes) [] ⌝ }
+{
+    let new = made_lanes(pool, count, kind, signed, first, second, lane_bits, lanes);
+    if upper {
+        return lower::arith::keep_lower(pool, new.count, true, new.node, d, lane_bits, lanes);
+    }
+    new
+}
