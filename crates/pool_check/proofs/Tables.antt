@@ -17,7 +17,7 @@ use Rattle.pool_check.specs.declared.Fields.{Fields}
 use Rattle.pool_check.specs.Check.{rule, fieldsAt}
 
 -- P of the first m of a list
-abbrev First : (Kind → Type 0) → ℕ → List Kind → Type 0
+abbrev pub First : (Kind → Type 0) → ℕ → List Kind → Type 0
 First P zero xs = Unit {0}
 First P (suc m) [] = ⊥
 First P (suc m) (x ∷ xs) = P x × First P m xs
@@ -29,7 +29,7 @@ among P (suc m) (x ∷ xs) h zero l = h .0
 among P (suc m) (x ∷ xs) h (suc j) l = among P m xs (h .1) j (le-of-suc-le-suc l)
 
 -- P of kind k, one of the m from i on
-within : (P : Kind → Type 0) (i m : ℕ) → First P m (drop i kinds) → (k : ℕ) → i ≤ k → k < i + m → P (kindAt k)
+pub within : (P : Kind → Type 0) (i m : ℕ) → First P m (drop i kinds) → (k : ℕ) → i ≤ k → k < i + m → P (kindAt k)
 unfolding kindAt
 within P i m h k l u =
     let e : i + (k - i) ≡ k = omega arith in

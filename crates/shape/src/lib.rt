@@ -6,42 +6,10 @@ use trees::NeonShape;
 use trees::SaturatingKind;
 ghost use mathlib.Core.Path.{_≡_};
 ghost use Prim.Native.Nat.{_≤_};
-ghost use Rattle.neon.specs.Op.{opAt, arrangementAt, laneBits, full};
+ghost use Rattle.neon.specs.Op.{opAt, arrangementAt, full};
 ghost use Rattle.neon.specs.Form.{isNarrow, madeBits};
 ghost use Rattle.trees.specs.Neon.{neonOp, shapeOf};
 ghost use Rattle.shape.specs.Family.{kindLanes, lanesOf};
-
-// The bits of a destination lane.
-fn lane_bits(arrangement: u64) -> u64
-    requires { ⌜ arrangement ≤ 6 ⌝ }
-    ensures { λ r. ⌜ r ≡ laneBits (arrangementAt arrangement) ⌝ }
-{
-    match arrangement {
-        0 => 8,
-        1 => 8,
-        2 => 16,
-        3 => 16,
-        4 => 32,
-        5 => 32,
-        _ => 64,
-    }
-}
-
-// Whether the view has 128 bits.
-pub fn is_full(arrangement: u64) -> bool
-    requires { ⌜ arrangement ≤ 6 ⌝ }
-    ensures { λ r. ⌜ r ≡ full (arrangementAt arrangement) ⌝ }
-{
-    match arrangement {
-        0 => false,
-        1 => true,
-        2 => false,
-        3 => true,
-        4 => false,
-        5 => true,
-        _ => true,
-    }
-}
 
 fn kind_narrows(kind: SaturatingKind) -> bool
     ensures { λ r. ⌜ r ≡ isNarrow (kindLanes kind) ⌝ }
@@ -121,9 +89,9 @@ pub fn shape(operation: u64, arrangement: u64, i: u64) -> NeonShape
     requires { ⌜ (1 ≤ operation) × (operation ≤ 67) × (arrangement ≤ 6) ⌝ }
     ensures { λ r. ⌜ r ≡ shapeOf (opAt operation) (arrangementAt arrangement) i ⌝ }
 {
-    let full = is_full(arrangement);
+    let full = form::is_full(arrangement);
     let op = neon_op(operation, i, full);
-    let bits = lane_bits(arrangement);
+    let bits = form::lane_bits(arrangement);
     let made = made_bits(op, full);
     NeonShape {
         op,

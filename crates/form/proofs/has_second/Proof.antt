@@ -1,0 +1,11 @@
+use Rattle.form.proofs.Parts.{parts}
+use Rattle.form.proofs.has_second.Statement.{statement}
+use Rattle.form.proofs.has_second.Tie as tie
+
+returns : tie.Need-returns
+returns c =
+    let st = c in
+    λ o v h e. parts _ o v h e .second
+
+pub has-second-spec : {M : Type 1} → statement M
+has-second-spec = tie.close (tie.spec returns)

@@ -1,0 +1,11 @@
+use Rattle.form.proofs.Parts.{parts}
+use Rattle.form.proofs.reads_d.Statement.{statement}
+use Rattle.form.proofs.reads_d.Tie as tie
+
+returns : tie.Need-returns
+returns c =
+    let st = c in
+    λ o v h e. parts _ o v h e .old
+
+pub reads-d-spec : {M : Type 1} → statement M
+reads-d-spec = tie.close (tie.spec returns)

@@ -1,0 +1,5 @@
+pub mod Laws
+pub mod Lengths
+pub mod Kept
+pub mod Operands
+pub mod Tree

@@ -1,0 +1,47 @@
+use Rattle.terms.specs.Display.{display}
+use Rattle.text_parts.proofs.Laws.{room-front, room-step, wrote-then}
+use borrow.Author.Needs.{needs}
+use Rattle.text_parts.proofs.put_const.Statement.{statement}
+use Rattle.text_parts.proofs.put_const.Tie as tie
+
+slice-aggregate-put : tie.Need-slice-aggregate-put
+slice-aggregate-put c = search needs
+
+put-requires : tie.Need-put-requires
+unfolding display
+put-requires c κs = room-front _ (c .before .before .before .pre)
+
+put-hex-requires : tie.Need-put-hex-requires
+unfolding display
+put-hex-requires c κs = room-front _ (room-step (c .before .before .before .put .ensures) (c .before .before .before .before .before .before .before .pre))
+
+slice-aggregate-put-2 : tie.Need-slice-aggregate-put-2
+slice-aggregate-put-2 c = search needs
+
+put-requires-2 : tie.Need-put-requires-2
+unfolding display
+put-requires-2 c κs = room-front _ (room-step (c .before .before .before .before .put-hex .ensures) (room-step (c .before .before .before .before .before .before .before .before .put .ensures) (c .before .before .before .before .before .before .before .before .before .before .before .before .pre)))
+
+put-decimal-requires : tie.Need-put-decimal-requires
+unfolding display
+put-decimal-requires c κs = room-step (c .before .before .before .put2 .ensures) (room-step (c .before .before .before .before .before .before .before .before .put-hex .ensures) (room-step (c .before .before .before .before .before .before .before .before .before .before .before .before .put .ensures) (c .before .before .before .before .before .before .before .before .before .before .before .before .before .before .before .before .pre)))
+
+same-length : tie.Need-same-length
+same-length c = search needs
+
+returns : tie.Need-returns
+unfolding display
+returns c = wrote-then (c .before .before .before .before .before .before .before .before .before .before .before .before .before .before .before .put .ensures) (wrote-then (c .before .before .before .before .before .before .before .before .before .before .before .put-hex .ensures) (wrote-then (c .before .before .before .before .before .before .put2 .ensures) (c .before .before .put-decimal .ensures)))
+
+pub put-const-spec : {M : Type 1} → statement M
+put-const-spec =
+    tie.close
+    (tie.spec
+    slice-aggregate-put
+    put-requires
+    put-hex-requires
+    slice-aggregate-put-2
+    put-requires-2
+    put-decimal-requires
+    same-length
+    returns)

@@ -1,0 +1,80 @@
+-- The text of a node, and what writing asks of a buffer and leaves in it.
+use mathlib.Core.List.{List, [], _++_}
+use mathlib.Core.Path.{_≡_}
+use Prim.Native.Nat.{ℕ, _+_, _*_, _≤_, _<_}
+use lib.ListN.{length, getD}
+use lib.Seq.{sets}
+use Rattle.terms.specs.Display.{bytes, operator, comparison, decimal, display}
+use Rattle.pool.specs.Node.{Kind, bad, var, const, bv, compare, ite, extract, concat, zext, sext, kindAt, kindOf, aOf, bOf, cOf}
+use Rattle.pool.specs.Rules.{Valid}
+use Rattle.pool.specs.Unfold.{unfoldAt}
+
+-- the text of node n
+unfoldable pub text : List ℕ → ℕ → List ℕ
+text ws n = display (unfoldAt ws n)
+
+-- the number of node n's kind, and its operands
+abbrev pub kindNumber : List ℕ → ℕ → ℕ
+kindNumber ws n = kindOf (getD ws (4 * n) 0)
+
+abbrev pub opA : List ℕ → ℕ → ℕ
+opA ws n = aOf (getD ws (4 * n + 1) 0)
+
+abbrev pub opB : List ℕ → ℕ → ℕ
+opB ws n = bOf (getD ws (4 * n + 1) 0)
+
+abbrev pub opC : List ℕ → ℕ → ℕ
+opC ws n = cOf (getD ws (4 * n + 1) 0)
+
+-- what stands between the operands of the kinds 3 to 14
+abbrev pub infixOf : Kind → List ℕ
+infixOf bad = []
+infixOf var = []
+infixOf const = []
+infixOf (bv o) = operator o
+infixOf (compare o) = comparison o
+infixOf ite = []
+infixOf extract = []
+infixOf concat = []
+infixOf zext = []
+infixOf sext = []
+
+unfoldable pub infixText : ℕ → List ℕ
+infixText k = infixOf (kindAt k)
+
+-- what an extension begins with, 18 or 19
+abbrev pub extendOf : Kind → List ℕ
+extendOf bad = []
+extendOf var = []
+extendOf const = []
+extendOf (bv o) = []
+extendOf (compare o) = []
+extendOf ite = []
+extendOf extract = []
+extendOf concat = []
+extendOf zext = bytes "zext("
+extendOf sext = bytes "sext("
+
+unfoldable pub extendText : ℕ → List ℕ
+extendText k = extendOf (kindAt k)
+
+-- what an Extract and an extension end with
+abbrev pub rangeText : ℕ → ℕ → List ℕ
+rangeText hi lo = bytes "[" ++ (decimal hi ++ (bytes ":" ++ (decimal lo ++ bytes "]")))
+
+abbrev pub widthText : ℕ → List ℕ
+widthText w = bytes ", " ++ (decimal w ++ bytes ")")
+
+-- nodes 0 to n are in the pool and keep its rules
+pub record Ready (ws : List ℕ) (n : ℕ) : Type 0 where
+  pub inside : 4 * n + 3 < length ws
+  pub valid : Valid ws (n + 1)
+
+-- the buffer l has room for the text s at i
+pub record Room (l : List ℕ) (i : ℕ) (s : List ℕ) : Type 0 where
+  pub room : i + length s ≤ length l
+
+-- the text s was written into the buffer `before` at `at`: what the buffer then holds, and the place after it
+pub record Wrote (before : List ℕ) (at : ℕ) (s : List ℕ) (next : ℕ) (after : List ℕ) : Type 0 where
+  pub next-is : next ≡ at + length s
+  pub after-is : after ≡ sets before at s

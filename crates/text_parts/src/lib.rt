@@ -1,0 +1,268 @@
+// The parts of a term's text: what `Display` of the Rust's expr.rs writes by one `write!`, as bytes into a lent buffer.
+// Each writer takes the place where it begins and returns the place after what it wrote.
+use pool::Node;
+ghost use mathlib.Core.Path.{_≡_};
+ghost use Prim.Native.Nat.{_+_, _*_, _-_, _≤_, _<_};
+ghost use lib.ListN.{length};
+ghost use Rattle.terms.specs.Expr.{Var, Const};
+ghost use Rattle.terms.specs.Display.{digit, decimal, hexadecimal, display};
+ghost use Rattle.pool.specs.Node.{wide, wordAt, widthAt};
+ghost use Rattle.text_parts.specs.Text.{kindNumber, opA, opB, opC, infixText, extendText, rangeText, widthText, Room, Wrote};
+
+pub fn kind_of(p: &[u64], n: Node) -> u64
+    requires { ⌜ 4 * n .0 + 3 < length (now p) ⌝ }
+    ensures { λ r. ⌜ r ≡ kindNumber (now (p .entry)) (n .0) ⌝ }
+{
+    let at = 4 * n.0;
+    p[at] % 65536
+}
+
+pub fn width_of(p: &[u64], n: Node) -> u64
+    requires { ⌜ 4 * n .0 + 3 < length (now p) ⌝ }
+    ensures { λ r. ⌜ r ≡ widthAt (now (p .entry)) (n .0) ⌝ }
+{
+    let at = 4 * n.0;
+    p[at] / 65536
+}
+
+pub fn first(p: &[u64], n: Node) -> Node
+    requires { ⌜ 4 * n .0 + 3 < length (now p) ⌝ }
+    ensures { λ r. ⌜ r .0 ≡ opA (now (p .entry)) (n .0) ⌝ }
+{
+    let at = 4 * n.0;
+    Node((p[at + 1] % 65536) as usize)
+}
+
+pub fn second(p: &[u64], n: Node) -> Node
+    requires { ⌜ 4 * n .0 + 3 < length (now p) ⌝ }
+    ensures { λ r. ⌜ r .0 ≡ opB (now (p .entry)) (n .0) ⌝ }
+{
+    let at = 4 * n.0;
+    Node((p[at + 1] / 65536 % 65536) as usize)
+}
+
+pub fn third(p: &[u64], n: Node) -> Node
+    requires { ⌜ 4 * n .0 + 3 < length (now p) ⌝ }
+    ensures { λ r. ⌜ r .0 ≡ opC (now (p .entry)) (n .0) ⌝ }
+{
+    let at = 4 * n.0;
+    Node((p[at + 1] / 4294967296) as usize)
+}
+
+pub fn low(p: &[u64], n: Node) -> u64
+    requires { ⌜ 4 * n .0 + 3 < length (now p) ⌝ }
+    ensures { λ r. ⌜ r ≡ wordAt (now (p .entry)) (n .0) 2 ⌝ }
+{
+    let at = 4 * n.0;
+    p[at + 2]
+}
+
+pub fn high(p: &[u64], n: Node) -> u64
+    requires { ⌜ 4 * n .0 + 3 < length (now p) ⌝ }
+    ensures { λ r. ⌜ r ≡ wordAt (now (p .entry)) (n .0) 3 ⌝ }
+{
+    let at = 4 * n.0;
+    p[at + 3]
+}
+
+// What is left of x when y is taken off, and 0 where y is larger.
+pub fn less(x: usize, y: usize) -> usize
+    ensures { λ r. ⌜ r ≡ x - y ⌝ }
+{
+    if x < y { 0 } else { x - y }
+}
+
+// The character of a digit below 16.
+fn digit_of(d: u64) -> u8
+    requires { ⌜ d < 16 ⌝ }
+    ensures { λ r. ⌜ r ≡ digit d ⌝ }
+{
+    if d < 10 {
+        (48 + d) as u8
+    } else {
+        (87 + d) as u8
+    }
+}
+
+// A number as tens and ones.
+struct Tens {
+    tens: u64,
+    ones: u64,
+}
+
+// By subtracting, with no division: positions and widths have three digits at most.
+fn tens_of(x: u64) -> Tens
+    ensures { λ r. ⌜ (10 * r .tens + r .ones ≡ x) × (r .ones < 10) ⌝ }
+{
+    let mut tens = 0;
+    let mut ones = x;
+    while 10 <= ones {
+        ones -= 10;
+        tens += 1;
+    }
+    Tens { tens, ones }
+}
+
+// How many decimal digits a number below 1,000 has.
+pub fn decimal_length(x: u64) -> usize
+    requires { ⌜ x < 1000 ⌝ }
+    ensures { λ r. ⌜ (r ≡ length (decimal x)) × (r ≤ 3) ⌝ }
+{
+    if x < 10 {
+        return 1;
+    }
+    if x < 100 { 2 } else { 3 }
+}
+
+// Decimal digits.
+fn put_decimal(x: u64, buf: &mut [u8], at: usize) -> usize
+    requires { ⌜ Room (now buf) at (decimal x) ⌝ }
+    ensures { λ r. ⌜ Wrote (now (buf .entry)) at (decimal x) r (now (buf .exit)) ⌝ }
+{
+    if x < 10 {
+        buf[at] = digit_of(x);
+        return at + 1;
+    }
+    let t = tens_of(x);
+    let i = put_decimal(t.tens, buf, at);
+    buf[i] = digit_of(t.ones);
+    i + 1
+}
+
+// What is left of b when the number of hexadecimal digits of two words is taken off.
+pub fn less_hex(low: u64, high: u64, b: usize) -> usize
+    ensures { λ r. ⌜ r ≡ b - length (hexadecimal (wide low high)) ⌝ }
+{
+    let c = less(b, 1);
+    if high == 0 {
+        if low < 16 {
+            return c;
+        }
+    }
+    less_hex(low / 16 + high % 16 * 1152921504606846976, high / 16, c)
+}
+
+// Hexadecimal digits of two words.
+fn put_hex(low: u64, high: u64, buf: &mut [u8], at: usize) -> usize
+    requires { ⌜ Room (now buf) at (hexadecimal (wide low high)) ⌝ }
+    ensures { λ r. ⌜ Wrote (now (buf .entry)) at (hexadecimal (wide low high)) r (now (buf .exit)) ⌝ }
+{
+    if high == 0 {
+        if low < 16 {
+            buf[at] = digit_of(low);
+            return at + 1;
+        }
+    }
+    let i = put_hex(
+        low / 16 + high % 16 * 1152921504606846976,
+        high / 16,
+        buf,
+        at,
+    );
+    buf[i] = digit_of(low % 16);
+    i + 1
+}
+
+// Copies s into buf.
+pub fn put(s: &[u8], buf: &mut [u8], at: usize) -> usize
+    requires { ⌜ Room (now buf) at (now s) ⌝ }
+    ensures { λ r. ⌜ Wrote (now (buf .entry)) at (now (s .entry)) r (now (buf .exit)) ⌝ }
+{
+    let mut j = 0;
+    let mut i = at;
+    while j < s.len() {
+        buf[i] = s[j];
+        i += 1;
+        j += 1;
+    }
+    i
+}
+
+// The operator between two operands.
+pub fn put_infix(k: u64, buf: &mut [u8], at: usize) -> usize
+    requires { ⌜ (3 ≤ k) × (k < 15) × (Room (now buf) at (infixText k)) ⌝ }
+    ensures { λ r. ⌜ Wrote (now (buf .entry)) at (infixText k) r (now (buf .exit)) ⌝ }
+{
+    match k {
+        3 => put(b" + ", buf, at),
+        4 => put(b" - ", buf, at),
+        5 => put(b" * ", buf, at),
+        6 => put(b" & ", buf, at),
+        7 => put(b" | ", buf, at),
+        8 => put(b" ^ ", buf, at),
+        9 => put(b" << ", buf, at),
+        10 => put(b" >>u ", buf, at),
+        11 => put(b" >>s ", buf, at),
+        12 => put(b" == ", buf, at),
+        13 => put(b" <u ", buf, at),
+        _ => put(b" <s ", buf, at),
+    }
+}
+
+// The length of that operator. A constant table would be copied to the frame of each level of nesting.
+pub fn infix_length(k: u64) -> usize
+    requires { ⌜ (3 ≤ k) × (k < 15) ⌝ }
+    ensures { λ r. ⌜ (r ≡ length (infixText k)) × (r ≤ 5) ⌝ }
+{
+    if k < 9 {
+        return 3;
+    }
+    if k < 10 {
+        return 4;
+    }
+    if k < 12 { 5 } else { 4 }
+}
+
+// "v" and the register's number.
+pub fn put_var(r: u64, buf: &mut [u8], at: usize) -> usize
+    requires { ⌜ Room (now buf) at (display (Var r)) ⌝ }
+    ensures { λ q. ⌜ Wrote (now (buf .entry)) at (display (Var r)) q (now (buf .exit)) ⌝ }
+{
+    let i = put(b"v", buf, at);
+    put_decimal(r, buf, i)
+}
+
+// The value in hexadecimal, ":" and the width.
+pub fn put_const(low: u64, high: u64, w: u64, buf: &mut [u8], at: usize) -> usize
+    requires { ⌜ Room (now buf) at (display (Const (wide low high) w)) ⌝ }
+    ensures { λ q. ⌜ Wrote (now (buf .entry)) at (display (Const (wide low high) w)) q (now (buf .exit)) ⌝ }
+{
+    let i = put(b"0x", buf, at);
+    let j = put_hex(low, high, buf, i);
+    let l = put(b":", buf, j);
+    put_decimal(w, buf, l)
+}
+
+// "[hi:lo]"
+pub fn put_range(hi: u64, lo: u64, buf: &mut [u8], at: usize) -> usize
+    requires { ⌜ Room (now buf) at (rangeText hi lo) ⌝ }
+    ensures { λ q. ⌜ Wrote (now (buf .entry)) at (rangeText hi lo) q (now (buf .exit)) ⌝ }
+{
+    let i = put(b"[", buf, at);
+    let j = put_decimal(hi, buf, i);
+    let l = put(b":", buf, j);
+    let m = put_decimal(lo, buf, l);
+    put(b"]", buf, m)
+}
+
+// ", w)"
+pub fn put_width(w: u64, buf: &mut [u8], at: usize) -> usize
+    requires { ⌜ Room (now buf) at (widthText w) ⌝ }
+    ensures { λ q. ⌜ Wrote (now (buf .entry)) at (widthText w) q (now (buf .exit)) ⌝ }
+{
+    let i = put(b", ", buf, at);
+    let j = put_decimal(w, buf, i);
+    put(b")", buf, j)
+}
+
+// "zext(" or "sext("
+pub fn put_extend(k: u64, buf: &mut [u8], at: usize) -> usize
+    requires { ⌜ (18 ≤ k) × (k ≤ 19) × (Room (now buf) at (extendText k)) ⌝ }
+    ensures { λ r. ⌜ Wrote (now (buf .entry)) at (extendText k) r (now (buf .exit)) ⌝ }
+{
+    if k == 18 {
+        put(b"zext(", buf, at)
+    } else {
+        put(b"sext(", buf, at)
+    }
+}
