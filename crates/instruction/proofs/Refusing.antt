@@ -1,0 +1,169 @@
+-- The tests of an instruction's refusals, in order. Assumes nothing.
+use Prim.Native.Nat.{ℕ, _+_, _-_, _*_, _/_, _≤_, _<_}
+use mathlib.Core.Path.{_≡_, refl, sym, subst, _∙_}
+use mathlib.Core.Bool.{Bool, true, false, not, _&&_}
+use mathlib.Core.List.{List}
+use native.Mathlib.Omega.{arith}
+use lib.Dec.{leb, ltb, eqb}
+use lib.ListN.{length, getD}
+use borrow.Author.Tests.{leb-true, ltb-true, eqb-true, le-leb, lt-leb, lt-ltb, le-ltb, not-true, not-false}
+use Rattle.facts.specs.Refuse.{unless}
+use Rattle.facts.proofs.Tests.{and-both, passed}
+use Rattle.neon.specs.Op.{Op, isOperation, opAt, Arrangement, isArrangement, arrangementAt, laneBits, full, bitsIf, view}
+use Rattle.neon.specs.Form.{form, hasForm, least, most, hasSecond, readsD, firstFull, secondFull, byElement, firstBits}
+use Rattle.neon.specs.Refusal.{formNumber, reserve}
+use Rattle.neon.proofs.Legal.{formed}
+use Rattle.pool.specs.Node.{widthAt, places}
+use Rattle.pool.specs.Rules.{okPool, poolOk}
+use Rattle.instruction.specs.Lowering.{sourceOk, sourcesOk, instructionNumber}
+
+-- a pool that passes the check has places for its nodes
+pub within-places : (ws : List ℕ) (count : ℕ) → poolOk ws count ≡ true → count ≤ places ws
+within-places ws count h = leb-true count (places ws) (and-both (leb count (places ws)) (okPool ws count) h .0)
+
+pub words-for : (ws : List ℕ) (count : ℕ) → poolOk ws count ≡ true → 4 * count ≤ length ws
+words-for ws count h = omega (arith, within-places ws count h)
+
+-- ---- one source
+
+module _ (ws : List ℕ) (count : ℕ) (wanted full : Bool) (node : ℕ) where
+  pub source-none : not wanted ≡ true → eqb node 65535 ≡ sourceOk ws count wanted (bitsIf full) node
+  source-none e = rw (not-true wanted e) refl
+
+  pub source-above : not wanted ≡ false → count ≤ node → false ≡ sourceOk ws count wanted (bitsIf full) node
+  source-above e h = rw (not-false wanted e, le-ltb node count h) refl
+
+  pub source-full : not wanted ≡ false → node < count → full ≡ true → eqb (getD ws (4 * node) 0 / 65536) 128 ≡ sourceOk ws count wanted (bitsIf full) node
+  source-full e h f = rw (not-false wanted e, lt-ltb node count h, f) refl
+
+  pub source-half : not wanted ≡ false → node < count → full ≡ false → eqb (getD ws (4 * node) 0 / 65536) 64 ≡ sourceOk ws count wanted (bitsIf full) node
+  source-half e h f = rw (not-false wanted e, lt-ltb node count h, f) refl
+
+pub source-is : (ws : List ℕ) (count : ℕ) (wanted : Bool) (w node : ℕ) → sourceOk ws count wanted w node ≡ true → wanted ≡ true
+    → (node < count) × (widthAt ws node ≡ w)
+source-is ws count wanted w node h e =
+    let p = and-both (ltb node count) (eqb (widthAt ws node) w) (subst (λ (b : Bool). sourceOk ws count b w node ≡ true) e h) in
+    (ltb-true node count (p .0), eqb-true (widthAt ws node) w (p .1))
+
+-- ---- the three of them
+
+module _ (ws : List ℕ) (count : ℕ) (o : Op) (v : Arrangement) (d n m : ℕ) where
+  pub sources-first : {f rd x : Bool} → f ≡ full v → rd ≡ readsD o v → x ≡ sourceOk ws count rd (bitsIf f) d → not x ≡ true → false ≡ sourcesOk ws count o v d n m
+  sources-first {x = x} e p q h = rw (sym q′) refl
+    where
+      q′ : false ≡ sourceOk ws count (readsD o v) (view v) d
+      q′ = sym (not-true x h) ∙ q ∙ rw (p, e)
+
+  pub sources-second : {f rd ff x y : Bool} → f ≡ full v → rd ≡ readsD o v → ff ≡ firstFull (form o .lanes) (full v) → x ≡ sourceOk ws count rd (bitsIf f) d → not x ≡ false
+      → y ≡ sourceOk ws count true (bitsIf ff) n
+      → not y ≡ true
+      → false ≡ sourcesOk ws count o v d n m
+  sources-second {x = x} {y = y} e p p2 q h q2 h2 = rw (sym q′, sym q2′) refl
+    where
+      q′ : true ≡ sourceOk ws count (readsD o v) (view v) d
+      q′ = sym (not-false x h) ∙ q ∙ rw (p, e)
+
+      q2′ : false ≡ sourceOk ws count true (firstBits o v) n
+      q2′ = sym (not-true y h2) ∙ q2 ∙ rw p2
+
+  pub sources-third : {f rd ff hs sf x y z : Bool} → f ≡ full v → rd ≡ readsD o v → ff ≡ firstFull (form o .lanes) (full v) → hs ≡ hasSecond o
+      → sf ≡ secondFull (form o .lanes) (byElement o) (full v)
+      → x ≡ sourceOk ws count rd (bitsIf f) d
+      → not x ≡ false
+      → y ≡ sourceOk ws count true (bitsIf ff) n
+      → not y ≡ false
+      → z ≡ sourceOk ws count hs (bitsIf sf) m
+      → z ≡ sourcesOk ws count o v d n m
+  sources-third {x = x} {y = y} e p p2 p3 p4 q h q2 h2 q3 = q3 ∙ rw (p3, p4, sym q′, sym q2′) refl
+    where
+      q′ : true ≡ sourceOk ws count (readsD o v) (view v) d
+      q′ = sym (not-false x h) ∙ q ∙ rw (p, e)
+
+      q2′ : true ≡ sourceOk ws count true (firstBits o v) n
+      q2′ = sym (not-false y h2) ∙ q2 ∙ rw p2
+
+-- ---- the number
+
+rest-of : (a b c : Bool) (rest : ℕ) → unless a 2 (unless b 3 (unless c 4 0)) ≡ 0 → unless a 2 (unless b 3 (unless c 4 rest)) ≡ rest
+rest-of true true true rest e = refl
+rest-of true true false rest e = absurd (omega (arith, e))
+rest-of true false c rest e = absurd (omega (arith, e))
+rest-of false b c rest e = absurd (omega (arith, e))
+
+first-of : (a b c : Bool) (rest : ℕ) → (unless a 2 (unless b 3 (unless c 4 0)) ≡ 0 → ⊥)
+    → unless a 2 (unless b 3 (unless c 4 0)) ≡ unless a 2 (unless b 3 (unless c 4 rest))
+first-of true true true rest f = absurd (f refl)
+first-of true true false rest f = refl
+first-of true false c rest f = refl
+first-of false b c rest f = refl
+
+module _ (operation arrangement i rest : ℕ) where
+  abbrev o : Op
+  o = opAt operation
+
+  abbrev v : Arrangement
+  v = arrangementAt arrangement
+
+  form-rest : formNumber operation arrangement i 0 ≡ 0 → formNumber operation arrangement i rest ≡ rest
+  form-rest e =
+      rest-of (isOperation operation) (isArrangement arrangement && hasForm o v) (leb (least o) i && leb i (most o (laneBits v))) rest e
+
+  form-first : (formNumber operation arrangement i 0 ≡ 0 → ⊥) → formNumber operation arrangement i 0 ≡ formNumber operation arrangement i rest
+  form-first f =
+      first-of (isOperation operation) (isArrangement arrangement && hasForm o v) (leb (least o) i && leb i (most o (laneBits v))) rest f
+
+module _ (ws : List ℕ) (count operation arrangement i d n m : ℕ) where
+  abbrev number : ℕ
+  number = instructionNumber ws count operation arrangement i d n m
+
+  abbrev sources : Bool
+  sources = sourcesOk ws count (opAt operation) (arrangementAt arrangement) d n m
+
+  pub number-pool : poolOk ws count ≡ false → 1 ≡ number
+  unfolding instructionNumber
+  number-pool e = rw e refl
+
+  pub number-form : {k : ℕ} → poolOk ws count ≡ true → k ≡ formNumber operation arrangement i 0 → (k ≡ 0 → ⊥) → k ≡ number
+  unfolding instructionNumber
+  number-form p q f = rw p (q ∙ form-first operation arrangement i (unless sources 5 (unless (leb (count + reserve) (places ws)) 6 0)) (λ z. f (q ∙ z)))
+
+  pub number-sources : {k : ℕ} → poolOk ws count ≡ true → k ≡ formNumber operation arrangement i 0 → k ≡ 0 → sources ≡ false → 5 ≡ number
+  unfolding instructionNumber
+  number-sources p q e s =
+      rw p (sym (form-rest operation arrangement i (unless sources 5 (unless (leb (count + reserve) (places ws)) 6 0)) (sym q ∙ e) ∙ rw s refl))
+
+  pub number-room : {k : ℕ} → poolOk ws count ≡ true → k ≡ formNumber operation arrangement i 0 → k ≡ 0 → sources ≡ true → places ws - count < 1024 → 6 ≡ number
+  unfolding instructionNumber
+  number-room p q e s h =
+      rw p
+      (sym (form-rest operation arrangement i (unless sources 5 (unless (leb (count + reserve) (places ws)) 6 0)) (sym q ∙ e)
+      ∙ rw (s, lt-leb (count + reserve) (places ws) (omega (arith, h, within-places ws count p))) refl))
+
+  pub number-done : {k : ℕ} → poolOk ws count ≡ true → k ≡ formNumber operation arrangement i 0 → k ≡ 0 → sources ≡ true → 1024 ≤ places ws - count → 0 ≡ number
+  unfolding instructionNumber
+  number-done p q e s h =
+      rw p
+      (sym (form-rest operation arrangement i (unless sources 5 (unless (leb (count + reserve) (places ws)) 6 0)) (sym q ∙ e)
+      ∙ rw (s, le-leb (count + reserve) (places ws) (omega (arith, h, within-places ws count p))) refl))
+
+  -- an instruction that is accepted
+  pub record Passed : Type 0 where
+    pub pool-ok : poolOk ws count ≡ true
+    pub form-ok : formNumber operation arrangement i 0 ≡ 0
+    pub sources-ok : sources ≡ true
+    pub room : count + 1024 ≤ places ws
+
+  pub passes : number ≡ 0 → Passed
+  unfolding instructionNumber
+  passes e =
+      let rest = unless sources 5 (unless (leb (count + reserve) (places ws)) 6 0) in
+      let p = passed (poolOk ws count) (λ z. omega arith) e in
+      let q = formed operation arrangement i rest (p .1) in
+      let s = passed sources (λ z. omega arith) (q .1) in
+      let t = passed (leb (count + reserve) (places ws)) (λ z. omega arith) (s .1) in
+      record {
+        pool-ok = p .0;
+        form-ok = subst (λ (x : ℕ). formNumber operation arrangement i x ≡ 0) (q .1) (p .1);
+        sources-ok = s .0;
+        room = leb-true (count + reserve) (places ws) (t .0);
+      }

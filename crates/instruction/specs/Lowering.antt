@@ -1,0 +1,56 @@
+-- One instruction on a pool (document 01, "Pool" and "The numbers"): its number, and what the pool then holds.
+use mathlib.Core.Bool.{Bool, true, cond, _&&_}
+use mathlib.Core.List.{List}
+use mathlib.Core.Path.{_≡_}
+use Prim.Native.Nat.{ℕ, _+_, _≤_, _<_}
+use lib.Dec.{leb, ltb, eqb}
+use Rattle.facts.specs.Refuse.{unless}
+use Rattle.neon.specs.Op.{Op, opAt, Arrangement, arrangementAt, view}
+use Rattle.neon.specs.Form.{hasSecond, readsD, firstBits, secondBits}
+use Rattle.neon.specs.Refusal.{formNumber, reserve}
+use Rattle.trees.specs.Neon.{resultTree}
+use Rattle.pool.specs.Node.{widthAt, places}
+use Rattle.pool.specs.Rules.{poolOk}
+use Rattle.pool.specs.Unfold.{unfoldAt}
+use Rattle.pool.specs.Growth.{Grown, NodeIs, Reach}
+use Rattle.instruction.specs.declared.Lowering.{Lowering}
+
+-- the number that stands for no node
+abbrev pub none : ℕ
+none = 65535
+
+-- a source that is wanted is below the count and has its width; one that is not is no node
+abbrev pub sourceOk : List ℕ → (count : ℕ) (wanted : Bool) (width node : ℕ) → Bool
+sourceOk ws count wanted w n = cond wanted (ltb n count && eqb (widthAt ws n) w) (eqb n none)
+
+abbrev pub sourcesOk : List ℕ → (count : ℕ) → Op → Arrangement → (d n m : ℕ) → Bool
+sourcesOk ws count o v d n m =
+    sourceOk ws count (readsD o v) (view v) d && sourceOk ws count true (firstBits o v) n && sourceOk ws count (hasSecond o) (secondBits o v) m
+
+-- 1, then 2 to 4, then 5 and 6; 0 for an instruction that is accepted
+unfoldable pub instructionNumber : List ℕ → (count operation arrangement i d n m : ℕ) → ℕ
+instructionNumber ws count operation arrangement i d n m =
+    unless (poolOk ws count) 1
+    (formNumber operation arrangement i
+    (unless (sourcesOk ws count (opAt operation) (arrangementAt arrangement) d n m) 5 (unless (leb (count + reserve) (places ws)) 6 0)))
+
+module _ (old : List ℕ) (count : ℕ) (new : List ℕ) (r : Lowering) where
+  -- the answer's node is the term of the instruction over those of its sources; the nodes that are new come after the count, keep the
+  -- pool's rules and are reached from the answer; every other word is as it was
+  pub record Lowered (o : Op) (v : Arrangement) (i d n m : ℕ) : Type 0 where
+    pub is : NodeIs new (r .count) (r .node) (view v) (resultTree o v i (unfoldAt old d) (unfoldAt old n) (unfoldAt old m))
+    pub grown : Grown old count new (r .count)
+    pub most : r .count ≤ count + reserve
+    pub checked : poolOk new (r .count) ≡ true
+    pub reached : (k : ℕ) → count ≤ k → k < r .count → Reach new (r .node) k
+
+  -- no node, the old count, and the pool as it was
+  pub record Refused : Type 0 where
+    pub no-node : r .node ≡ none
+    pub same-count : r .count ≡ count
+    pub same-words : new ≡ old
+
+  pub record Answers (operation arrangement i d n m : ℕ) : Type 0 where
+    pub number : r .number ≡ instructionNumber old count operation arrangement i d n m
+    pub done : r .number ≡ 0 → Lowered (opAt operation) (arrangementAt arrangement) i d n m
+    pub refused : (r .number ≡ 0 → ⊥) → Refused
