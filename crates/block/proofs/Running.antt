@@ -1,0 +1,183 @@
+-- Records in order: one more at the end of a run, the start of the pool, and the answer of the whole. Assumes nothing.
+use Prim.Native.Nat.{ℕ, zero, suc, _+_, _*_, _/_, _≤_, _<_}
+use mathlib.Core.Path.{_≡_, refl, sym, ap, subst, _∙_}
+use mathlib.Core.Bool.{Bool, true, false}
+use mathlib.Core.List.{List, [], _∷_, _++_}
+use mathlib.Core.Logic.{⊎-elim, _⊎_, inl, inr}
+use native.Mathlib.Omega.{arith}
+use native.Mathlib.Nat.{le-refl, le-trans, add-zero, zero-add, not-suc-le-zero, min-le-left, min-le-right}
+use native.Mathlib.Numerals.{add-one}
+use lib.Dec.{ltb}
+use lib.ListN.{length, length-append}
+use borrow.Author.Tests.{ltb-true, ltb-false, le-leb}
+use Rattle.terms.specs.Expr.{Expr, Var}
+use Rattle.neon.specs.declared.Instruction.{Instruction}
+use Rattle.neon.specs.Refusal.{Legal, AllLegal, blockRefusal}
+use Rattle.trees.specs.Block.{treeStep, treeRun}
+use Rattle.pool.specs.declared.Built.{Built}
+use Rattle.pool.specs.Node.{Cell, decode, kindAt, kinds, places}
+use Rattle.pool.specs.Rules.{Valid, okPool}
+use Rattle.pool.specs.Growth.{Room, Grown}
+use Rattle.pool.specs.Builders.{MadeVar}
+use Rattle.pool.proofs.Laws.{grown-refl, grown-trans, cell-kept, reach-kept, packed, appended, unfold-step}
+use Rattle.register_map.specs.declared.RegisterMap.{RegisterMap}
+use Rattle.register_map.specs.Map.{nodesFrom, firstMap, written}
+use Rattle.register_map.proofs.Nodes.{first-is}
+use Rattle.block_check.specs.Records.{recordAt, recordsFrom, recordsOf}
+use Rattle.block_check.proofs.Refusals.{from-length, block-legal, legal-at}
+use Rattle.lower_record.specs.Step.{MapOk, MapIs, Added, Steps}
+use Rattle.block.specs.Block.{VarAt, Lowered, Accepted, Started, Runs}
+
+-- ---- one record more
+
+-- the terms after one more
+tree-more : (cs : List Instruction) (c : Instruction) (t : ℕ → Expr) → treeRun (cs ++ c ∷ []) t ≡ treeStep c (treeRun cs t)
+unfolding treeRun
+tree-more [] c t = refl
+tree-more (x ∷ cs) c t = tree-more cs c (treeStep x t)
+
+pub from-more : (flat : List ℕ) (j k : ℕ) → recordsFrom flat j (suc k) ≡ recordsFrom flat j k ++ recordAt flat (j + k) ∷ []
+unfolding recordsFrom
+from-more flat j zero = rw (add-zero j)
+from-more flat j (suc k) =
+    ap (λ (l : List Instruction). recordAt flat j ∷ l)
+    (from-more flat (suc j) k ∙ ap (λ (i : ℕ). recordsFrom flat (suc j) k ++ recordAt flat i ∷ []) {x = suc j + k} {y = j + suc k} (omega arith))
+
+-- a run adds nodes
+lowered-more : (ws : List ℕ) (m : RegisterMap) (cs : List Instruction) (m′ : RegisterMap) → Lowered ws m cs m′ → m .count ≤ m′ .count
+lowered-more ws m [] m′ h = rw h (le-refl (m .count))
+lowered-more ws m (c ∷ cs) m′ h = le-trans (h .2 .more) (lowered-more ws (written m (c .d) (h .0) (h .1)) cs m′ (h .3))
+
+added-kept : {a b : List ℕ} {k k′ : ℕ} → Grown a k b k′ → {m : RegisterMap} {answer n : ℕ} → n ≤ k → Added a m answer n → Added b m answer n
+added-kept g {m} {answer} {n} l h =
+    record {
+      more = h .more;
+      most = h .most;
+      under = h .under;
+      all = λ x p q.
+          ⊎-elim (λ y. inl (reach-kept g (omega (arith, h .under)) y)) (λ y. inr (y .0, y .1, cell-kept g x (omega arith) ∙ y .2)) (h .all x p q);
+    }
+
+-- what a run added stays while the pool grows
+lowered-kept : {a b : List ℕ} (m : RegisterMap) (cs : List Instruction) (m′ : RegisterMap) {k′ : ℕ} → Grown a (m′ .count) b k′ → Lowered a m cs m′ → Lowered b m cs m′
+lowered-kept m [] m′ g h = h
+lowered-kept {a} m (c ∷ cs) m′ g h =
+    let n = written m (c .d) (h .0) (h .1) in
+    (h .0, h .1, added-kept g (lowered-more a n cs m′ (h .3)) (h .2), lowered-kept n cs m′ g (h .3))
+
+lowered-next : {ws : List ℕ} (m : RegisterMap) (cs : List Instruction) (m′ : RegisterMap) (c : Instruction) {answer k : ℕ} → Lowered ws m cs m′ → Added ws m′ answer k
+    → Lowered ws m (cs ++ c ∷ []) (written m′ (c .d) answer k)
+lowered-next {ws} m [] m′ c {answer} {k} h n =
+    (answer, k, subst (λ (x : RegisterMap). Added ws x answer k) h n, ap (λ (x : RegisterMap). written x (c .d) answer k) h)
+lowered-next m (x ∷ cs) m′ c h n = (h .0, h .1, h .2, lowered-next (written m (x .d) (h .0) (h .1)) cs m′ c (h .3) n)
+
+pub runs-none : {ws : List ℕ} {m : RegisterMap} → MapOk m → Runs ws m ws m []
+unfolding treeRun
+runs-none {ws} {m} ok =
+    record {
+      long = refl;
+      most = omega arith;
+      map-ok = ok;
+      made = λ v h. record { grown = grown-refl ws (m .count); valid = v; is = h; lowered = refl };
+    }
+
+pub runs-more : {w0 w1 w2 : List ℕ} {m0 m1 m2 : RegisterMap} {cs : List Instruction} {c : Instruction} → Runs w0 m0 w1 m1 cs → Steps w1 m1 w2 m2 c
+    → Runs w0 m0 w2 m2 (cs ++ c ∷ [])
+runs-more {w2 = w2} {m0} {m1} {m2} {cs} {c} r s =
+    record {
+      long = s .long ∙ r .long;
+      most = omega (arith, s .most, r .most, length-append cs (c ∷ []));
+      map-ok = s .map-ok;
+      made = λ {t} v h.
+          let a = r .made v h in
+          let b = s .made (a .valid) (a .is) in
+          record {
+            grown = grown-trans (a .grown) (b .grown);
+            valid = b .valid;
+            is = rw (tree-more cs c t) (b .is);
+            lowered =
+                subst (λ (m : RegisterMap). Lowered w2 m0 (cs ++ c ∷ []) m) (sym (s .map-is))
+                (lowered-next m0 cs m1 c (lowered-kept m0 cs m1 (b .grown) (a .lowered)) (b .added));
+          };
+    }
+
+-- ---- the flat records
+
+pub legal-here : (flat : List ℕ) (j : ℕ) → AllLegal (recordsOf flat) → j < length flat / 6 → Legal (recordAt flat j)
+legal-here flat j l h = rw zero-add at (legal-at flat 0 (length flat / 6) j l h)
+
+pub runs-next : {w0 w1 w2 : List ℕ} {m0 m1 m2 : RegisterMap} (flat : List ℕ) (j : ℕ) → Runs w0 m0 w1 m1 (recordsFrom flat 0 j) → Steps w1 m1 w2 m2 (recordAt flat j)
+    → Runs w0 m0 w2 m2 (recordsFrom flat 0 (j + 1))
+runs-next flat j r s = rw (add-one j, from-more flat 0 j, zero-add j) (runs-more r s)
+
+pub runs-all : {w0 w1 : List ℕ} {m0 m1 : RegisterMap} (flat : List ℕ) (j : ℕ) → j ≡ length flat / 6 → Runs w0 m0 w1 m1 (recordsFrom flat 0 j) → Runs w0 m0 w1 m1 (recordsOf flat)
+runs-all flat j e r = rw (← e) r
+
+-- ---- the start of the pool
+
+before-or-from : (x k : ℕ) → (x < k) ⊎ (k ≤ x)
+before-or-from x k = go (ltb x k) refl
+  where
+    go : (b : Bool) → ltb x k ≡ b → (x < k) ⊎ (k ≤ x)
+    go true e = inl (ltb-true x k e)
+    go false e = inr (ltb-false x k e)
+
+pub start-none : (ws : List ℕ) → Started ws ws 0
+unfolding okPool
+start-none ws = record { grown = grown-refl ws 0; valid = refl; vars = λ r h. absurd (not-suc-le-zero h) }
+
+pub start-more : {w0 w1 w2 : List ℕ} {k : ℕ} {b : Built} → k < 32 → Room w1 k 1 → Started w0 w1 k → MadeVar w1 k w2 b k → Started w0 w2 (k + 1)
+unfolding kindAt kinds
+start-more {w0} {w1} {w2} {k} {b} l m s d =
+    let a = appended m (d .words) (packed 1 128 0 0 0 k 0 (omega arith) (omega arith) (omega arith)) in
+    let x = d .made (s .valid) l in
+    record {
+      grown = grown-trans (s .grown) (a .grown);
+      valid = subst (λ (n : ℕ). Valid w2 n) (a .next) (x .valid);
+      vars = λ r h. ⊎-elim (λ p. cell-kept (a .grown) r p ∙ s .vars r p) (λ p. subst (λ (n : ℕ). VarAt w2 n) {x = k} {y = r} (omega arith) (a .cell-is)) (before-or-from r k);
+    }
+
+-- the registers' nodes have their terms
+pub start-is : {old new : List ℕ} → Started old new 32 → MapIs new firstMap Var
+unfolding decode
+start-is {new = new} s r h =
+    rw (first-is r h)
+    (record { under = h; wide = ap (λ (c : Cell). c .width) (s .vars r h); tree = unfold-step new r _ (s .vars r h) })
+
+pub first-ok : MapOk firstMap
+unfolding nodesFrom
+first-ok = record { size = refl; below = λ r h. rw (first-is r h) h }
+
+-- ---- the whole
+
+pub all-done : {w0 w1 w2 : List ℕ} {m : RegisterMap} {cs : List Instruction} → 32 + 1024 * length cs ≤ places w0 → Started w0 w1 32 → Runs w1 firstMap w2 m cs
+    → Accepted w0 cs w2 m
+all-done {w0} {w1} {w2} {m} {cs} l s r =
+    let d = r .made (s .valid) (start-is s) in
+    let long : length w2 ≡ length w0 = r .long ∙ s .grown .long in
+    record {
+      terms = d .is;
+      checked = rw (long, le-leb (m .count) (places w0) (omega (arith, r .most, l)), d .valid);
+      long = long;
+      past = λ i h. d .grown .above i h ∙ s .grown .above i (omega (arith, d .grown .more));
+      vars = λ x h. cell-kept (d .grown) x h ∙ s .vars x h;
+      lowered = d .lowered;
+    }
+
+-- what an accepted block of flat records has
+pub record Fits (ws flat : List ℕ) : Type 0 where
+  pub words : 4 * (32 + 1024 * (length flat / 6)) ≤ length ws
+  pub numbers : 32 + 1024 * (length flat / 6) ≤ 65535
+  pub placed : 32 + 1024 * length (recordsOf flat) ≤ places ws
+  pub legal : AllLegal (recordsOf flat)
+
+pub fits : (ws flat : List ℕ) {n : ℕ} → n ≡ blockRefusal (places ws) (recordsOf flat) .number → n ≤ 0 → Fits ws flat
+fits ws flat e h =
+    let b = block-legal (places ws) (recordsOf flat) (omega (arith, e, h)) in
+    let n = from-length flat 0 (length flat / 6) in
+    let l : 32 + 1024 * (length flat / 6) ≤ places ws = rw n at (b .1) in
+    record { words = omega (arith, l, min-le-left (length ws / 4) 65535); numbers = omega (arith, l, min-le-right (length ws / 4) 65535); placed = b .1; legal = b .2 }
+
+-- a run from the map of the start
+pub runs-first : {w0 w1 : List ℕ} {m m′ : RegisterMap} {cs : List Instruction} → m ≡ firstMap → Runs w0 m w1 m′ cs → Runs w0 firstMap w1 m′ cs
+runs-first {w0} {w1} {m′ = m′} {cs} e r = subst (λ (x : RegisterMap). Runs w0 x w1 m′ cs) e r

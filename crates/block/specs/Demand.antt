@@ -1,0 +1,31 @@
+-- Demand 3 of document 01, of what the lowering of a block answers: the Arm run is fed a start and the records, and nothing of the pool.
+use mathlib.Core.List.{List}
+use mathlib.Core.Logic.{_↔_}
+use mathlib.Core.Path.{_≡_}
+use Prim.Native.Nat.{ℕ, _<_}
+use Rattle.terms.specs.Value.{value}
+use Rattle.neon.specs.declared.Instruction.{Instruction}
+use Rattle.neon.specs.Run.{armRun}
+use Rattle.pool.specs.Unfold.{unfoldAt}
+use Rattle.register_map.specs.Map.{nodeOf}
+use Rattle.block.specs.declared.BlockAnswer.{BlockAnswer}
+use Rattle.block.specs.Block.{Answered}
+
+-- the value at a start of register r's term, in the pool as the call left it
+abbrev pub termValue : (ℕ → ℕ) → List ℕ → BlockAnswer → ℕ → ℕ
+termValue start new a r = value start (unfoldAt new (nodeOf (a .map) r))
+
+-- for every start and every accepted block: each register after the Arm run holds the bits that are its term's value at that start
+abbrev pub RegistersHold : Type 0
+RegistersHold =
+    (old : List ℕ) (cs : List Instruction) (new : List ℕ) (a : BlockAnswer) → Answered old cs new a → a .number ≡ 0 → (start : ℕ → ℕ) (r : ℕ) → r < 32
+    → armRun cs start r ≡ termValue start new a r
+
+-- for every start and every two accepted blocks, each in its own pool: a register after the first and a register after the second
+-- are equal exactly when their terms have equal values at that start
+abbrev pub EqualWhenTermsAre : Type 0
+EqualWhenTermsAre =
+    (old : List ℕ) (cs : List Instruction) (new : List ℕ) (a : BlockAnswer) → Answered old cs new a → a .number ≡ 0
+    → (old′ : List ℕ) (cs′ : List Instruction) (new′ : List ℕ) (a′ : BlockAnswer) → Answered old′ cs′ new′ a′ → a′ .number ≡ 0
+    → (start : ℕ → ℕ) (r r′ : ℕ) → r < 32 → r′ < 32
+    → (armRun cs start r ≡ armRun cs′ start r′) ↔ (termValue start new a r ≡ termValue start new′ a′ r′)

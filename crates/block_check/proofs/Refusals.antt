@@ -1,0 +1,168 @@
+-- The refusals of a record and of records in order. Assumes nothing.
+use mathlib.Core.Path.{_≡_, refl, sym, ap, subst, _∙_}
+use mathlib.Core.Bool.{Bool, true, false, cond, _&&_}
+use mathlib.Core.List.{List, [], _∷_}
+use Prim.Native.Nat.{ℕ, zero, suc, _+_, _-_, _*_, _/_, _≤_, _<_}
+use native.Mathlib.Omega.{arith}
+use native.Mathlib.Nat.{add-zero, le-of-suc-le-suc, not-suc-le-zero}
+use native.Mathlib.Numerals.{add-one}
+use lib.Dec.{leb, eqb}
+use lib.ListN.{length}
+use borrow.Author.Tests.{le-leb, lt-leb, eq-eqb, ne-eqb, eqb-true, eqb-false, leb-true}
+use Rattle.facts.specs.Refuse.{unless}
+use Rattle.neon.specs.declared.Instruction.{Instruction}
+use Rattle.neon.specs.Op.{opAt, arrangementAt, isOperation, isArrangement, laneBits}
+use Rattle.neon.specs.Form.{hasForm, hasSecond, least, most}
+use Rattle.neon.specs.Refusal.{formNumber, mostM, registersOk, recordNumber, Legal, AllLegal, refusal, recordsRefusal, blockRefusal}
+use Rattle.neon.proofs.Legal.{m-le}
+use Rattle.block_check.specs.Records.{recordAt, recordsFrom, recordsOf}
+
+-- ---- one record
+
+-- what follows the tests on the form is looked at where they pass, and only there
+rest-of : (a b c : Bool) (rest : ℕ) → unless a 2 (unless b 3 (unless c 4 0)) ≡ 0 → unless a 2 (unless b 3 (unless c 4 rest)) ≡ rest
+rest-of true true true rest e = refl
+rest-of true true false rest e = absurd (omega arith)
+rest-of true false c rest e = absurd (omega arith)
+rest-of false b c rest e = absurd (omega arith)
+
+stops : (a b c : Bool) (rest : ℕ) → (unless a 2 (unless b 3 (unless c 4 0)) ≡ 0 → ⊥) → unless a 2 (unless b 3 (unless c 4 0)) ≡ unless a 2 (unless b 3 (unless c 4 rest))
+stops true true true rest e = absurd (e refl)
+stops true true false rest e = refl
+stops true false c rest e = refl
+stops false b c rest e = refl
+
+module _ (c : Instruction) where
+  -- refused for its form
+  pub by-form : (k : ℕ) → 0 < k → k ≡ formNumber (c .operation) (c .arrangement) (c .i) 0 → k ≡ recordNumber c
+  unfolding recordNumber
+  by-form k h e =
+      let o = opAt (c .operation) in
+      let v = arrangementAt (c .arrangement) in
+      e ∙ stops (isOperation (c .operation)) (isArrangement (c .arrangement) && hasForm o v) (leb (least o) (c .i) && leb (c .i) (most o (laneBits v))) _ (λ z. omega (arith, e, z))
+
+  -- the form is accepted: the registers decide
+  pub by-registers : (k : ℕ) (b : Bool) → 0 ≡ formNumber (c .operation) (c .arrangement) (c .i) 0 → registersOk c ≡ b → unless b 7 0 ≡ k → k ≡ recordNumber c
+  unfolding recordNumber
+  by-registers k b e g h =
+      let o = opAt (c .operation) in
+      let v = arrangementAt (c .arrangement) in
+      sym (rest-of (isOperation (c .operation)) (isArrangement (c .arrangement) && hasForm o v) (leb (least o) (c .i) && leb (c .i) (most o (laneBits v))) _ (sym e)
+      ∙ ap (λ (t : Bool). unless t 7 0) g ∙ h)
+
+  pub bad-d : 31 < c .d → registersOk c ≡ false
+  bad-d h = rw (lt-leb (c .d) 31 h)
+
+  pub bad-n : c .d ≤ 31 → 31 < c .n → registersOk c ≡ false
+  bad-n p h = rw (le-leb (c .d) 31 p, lt-leb (c .n) 31 h)
+
+  pub bad-m : c .d ≤ 31 → c .n ≤ 31 → 31 < c .m → registersOk c ≡ false
+  bad-m p q h =
+      let o = opAt (c .operation) in
+      let v = arrangementAt (c .arrangement) in
+      rw (le-leb (c .d) 31 p, le-leb (c .n) 31 q, lt-leb (c .m) (mostM o v) (omega (arith, m-le o v)))
+
+  -- with a second source, and without one
+  pub all-ok : c .d ≤ 31 → c .n ≤ 31 → c .m ≤ 31 → true ≡ hasSecond (opAt (c .operation)) → registersOk c ≡ true
+  all-ok p q r s = rw (le-leb (c .d) 31 p, le-leb (c .n) 31 q, ← s, le-leb (c .m) 31 r)
+
+  pub some-m : c .d ≤ 31 → c .n ≤ 31 → 0 < c .m → false ≡ hasSecond (opAt (c .operation)) → registersOk c ≡ false
+  some-m p q r s = rw (le-leb (c .d) 31 p, le-leb (c .n) 31 q, ← s, lt-leb (c .m) 0 r)
+
+  pub no-m : c .d ≤ 31 → c .n ≤ 31 → c .m ≤ 0 → false ≡ hasSecond (opAt (c .operation)) → registersOk c ≡ true
+  no-m p q r s = rw (le-leb (c .d) 31 p, le-leb (c .n) 31 q, ← s, le-leb (c .m) 0 r)
+
+-- ---- records in order
+
+pub from-length : (flat : List ℕ) (j k : ℕ) → length (recordsFrom flat j k) ≡ k
+unfolding recordsFrom
+from-length flat j zero = refl
+from-length flat j (suc k) = ap suc (from-length flat (suc j) k)
+
+-- the first of k records, and those after it
+from-next : (flat : List ℕ) (j k : ℕ) → j < k → recordsFrom flat j (k - j) ≡ recordAt flat j ∷ recordsFrom flat (suc j) (k - suc j)
+unfolding recordsFrom
+from-next flat j k h = ap (λ (n : ℕ). recordsFrom flat j n) {x = k - j} {y = suc (k - suc j)} (omega arith)
+
+pub refused-here : (flat : List ℕ) (j k : ℕ) → j < k → 0 < recordNumber (recordAt flat j)
+    → recordsRefusal j (recordsFrom flat j (k - j)) ≡ refusal (recordNumber (recordAt flat j)) j
+unfolding recordsRefusal
+refused-here flat j k h n = rw (from-next flat j k h, ne-eqb (recordNumber (recordAt flat j)) 0 (λ e. omega arith))
+
+pub passed-here : (flat : List ℕ) (j k : ℕ) → j < k → recordNumber (recordAt flat j) ≤ 0
+    → recordsRefusal j (recordsFrom flat j (k - j)) ≡ recordsRefusal (j + 1) (recordsFrom flat (j + 1) (k - (j + 1)))
+unfolding recordsRefusal
+passed-here flat j k h n = rw (from-next flat j k h, eq-eqb (recordNumber (recordAt flat j)) 0 (omega arith), add-one j)
+
+pub none-left : (flat : List ℕ) (j k : ℕ) → k ≤ j → recordsRefusal j (recordsFrom flat j (k - j)) ≡ refusal 0 0
+unfolding recordsRefusal recordsFrom
+none-left flat j k h = ap (λ (n : ℕ). recordsRefusal j (recordsFrom flat j n)) {x = k - j} {y = 0} (omega arith)
+
+-- from the first record on, all of them
+pub all-left : (flat : List ℕ) → recordsRefusal 0 (recordsFrom flat 0 (length flat / 6 - 0)) ≡ recordsRefusal 0 (recordsOf flat)
+all-left flat = ap (λ (n : ℕ). recordsRefusal 0 (recordsFrom flat 0 n)) {x = length flat / 6 - 0} {y = length flat / 6} (omega arith)
+
+-- ---- a block
+
+module _ (p : ℕ) (flat : List ℕ) where
+  pub too-long : 63 < length flat / 6 → blockRefusal p (recordsOf flat) ≡ refusal 8 0
+  unfolding blockRefusal
+  too-long h = rw (from-length flat 0 (length flat / 6), lt-leb (length flat / 6) 63 h)
+
+  pub no-room : length flat / 6 ≤ 63 → p < 32 + 1024 * (length flat / 6) → blockRefusal p (recordsOf flat) ≡ refusal 6 0
+  unfolding blockRefusal
+  no-room h l = rw (from-length flat 0 (length flat / 6), le-leb (length flat / 6) 63 h, lt-leb (32 + 1024 * (length flat / 6)) p l)
+
+  pub has-room : length flat / 6 ≤ 63 → 32 + 1024 * (length flat / 6) ≤ p → blockRefusal p (recordsOf flat) ≡ recordsRefusal 0 (recordsOf flat)
+  unfolding blockRefusal
+  has-room h l = rw (from-length flat 0 (length flat / 6), le-leb (length flat / 6) 63 h, le-leb (32 + 1024 * (length flat / 6)) p l)
+
+-- ---- what is accepted
+
+form-zero : (a b c : Bool) (rest : ℕ) → unless a 2 (unless b 3 (unless c 4 rest)) ≡ 0 → unless a 2 (unless b 3 (unless c 4 0)) ≡ 0
+form-zero true true true rest e = refl
+form-zero true true false rest e = e
+form-zero true false c rest e = e
+form-zero false b c rest e = e
+
+-- a record that is accepted has a form that is
+pub form-legal : (c : Instruction) → Legal c → formNumber (c .operation) (c .arrangement) (c .i) 0 ≡ 0
+unfolding recordNumber
+form-legal c e =
+    let o = opAt (c .operation) in
+    let v = arrangementAt (c .arrangement) in
+    form-zero (isOperation (c .operation)) (isArrangement (c .arrangement) && hasForm o v) (leb (least o) (c .i) && leb (c .i) (most o (laneBits v))) _ e
+
+pub all-legal : (p : ℕ) (cs : List Instruction) → recordsRefusal p cs .number ≡ 0 → AllLegal cs
+unfolding recordsRefusal
+all-legal p [] e = tt
+all-legal p (c ∷ cs) e = go (λ z. all-legal (suc p) cs z) (eqb (recordNumber c) 0) refl e
+  where
+    go : (recordsRefusal (suc p) cs .number ≡ 0 → AllLegal cs) → (b : Bool) → eqb (recordNumber c) 0 ≡ b
+        → cond b (recordsRefusal (suc p) cs) (refusal (recordNumber c) p) .number ≡ 0
+        → AllLegal (c ∷ cs)
+    go f true q z = (eqb-true (recordNumber c) 0 q, f z)
+    go f false q z = absurd (eqb-false (recordNumber c) 0 q z)
+
+-- a block that is accepted: its records fit and are accepted
+pub block-legal : (p : ℕ) (cs : List Instruction) → blockRefusal p cs .number ≡ 0 → (length cs ≤ 63) × (32 + 1024 * length cs ≤ p) × AllLegal cs
+unfolding blockRefusal
+block-legal p cs e = long (leb (length cs) 63) refl e
+  where
+    room : length cs ≤ 63 → (b : Bool) → leb (32 + 1024 * length cs) p ≡ b → cond b (recordsRefusal 0 cs) (refusal 6 0) .number ≡ 0
+        → (length cs ≤ 63) × (32 + 1024 * length cs ≤ p) × AllLegal cs
+    room h true q z = (h, leb-true _ _ q, all-legal 0 cs z)
+    room h false q z = absurd (omega arith)
+
+    long : (b : Bool) → leb (length cs) 63 ≡ b → cond b (cond (leb (32 + 1024 * length cs) p) (recordsRefusal 0 cs) (refusal 6 0)) (refusal 8 0) .number ≡ 0
+        → (length cs ≤ 63) × (32 + 1024 * length cs ≤ p) × AllLegal cs
+    long true q z = room (leb-true _ _ q) (leb (32 + 1024 * length cs) p) refl z
+    long false q z = absurd (omega arith)
+
+-- record j + n of records that are accepted
+pub legal-at : (flat : List ℕ) (j k n : ℕ) → AllLegal (recordsFrom flat j k) → n < k → Legal (recordAt flat (j + n))
+unfolding recordsFrom
+legal-at flat j zero n l h = absurd (not-suc-le-zero h)
+legal-at flat j (suc k) zero l h = rw (add-zero j) (l .0)
+legal-at flat j (suc k) (suc n) l h =
+    subst (λ (i : ℕ). Legal (recordAt flat i)) {x = suc j + n} {y = j + suc n} (omega arith) (legal-at flat (suc j) k n (l .1) (le-of-suc-le-suc h))

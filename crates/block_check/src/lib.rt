@@ -1,0 +1,88 @@
+// The refusals of a block (document 01, "The numbers"). A record is six numbers: operation, arrangement, i, d, n, m; numbers after the
+// last whole record are not read. The Rust has no counterpart: it lowers one instruction at a time.
+ghost use mathlib.Core.Path.{_≡_};
+ghost use Rattle.neon.specs.Refusal.{recordNumber, recordsRefusal, blockRefusal};
+ghost use Rattle.pool.specs.Node.{places};
+ghost use Rattle.block_check.specs.Records.{instruction, recordsOf, Refuses};
+
+// 0 and 0, or the number and the position that refuse a block.
+pub struct Refused {
+    pub number: u64,
+    pub position: usize,
+}
+
+// 0, or the first of 2, 3, 4 and 7 that refuses a record.
+pub fn record_number(operation: u64, arrangement: u64, i: u64, d: u64, n: u64, m: u64) -> u64
+    ensures { λ r. ⌜ r ≡ recordNumber (instruction operation arrangement i d n m) ⌝ }
+{
+    let number = form::form_number(operation, arrangement, i);
+    if 0 < number {
+        return number;
+    }
+    if 31 < d {
+        return 7;
+    }
+    if 31 < n {
+        return 7;
+    }
+    if 31 < m {
+        return 7;
+    }
+    if form::has_second(neon::form_code(operation, arrangement)) {
+        return 0;
+    }
+    if 0 < m {
+        return 7;
+    }
+    0
+}
+
+// The first record that is refused.
+fn records_refusal(records: &[u64]) -> Refused
+    ensures { λ r. ⌜ Refuses r (recordsRefusal 0 (recordsOf (now (records .entry)))) ⌝ }
+{
+    let count = records.len() / 6;
+    let mut j = 0;
+    while j < count {
+        let at = 6 * j;
+        let number = record_number(
+            records[at],
+            records[at + 1],
+            records[at + 2],
+            records[at + 3],
+            records[at + 4],
+            records[at + 5],
+        );
+        if 0 < number {
+            return Refused {
+                number,
+                position: j,
+            };
+        }
+        j += 1;
+    }
+    Refused {
+        number: 0,
+        position: 0,
+    }
+}
+
+// What refuses a block of these records for this pool.
+pub fn block_refusal(pool: &[u64], records: &[u64]) -> Refused
+    ensures { λ r. ⌜ Refuses r (blockRefusal (places (now (pool .entry))) (recordsOf (now (records .entry)))) ⌝ }
+{
+    let count = records.len() / 6;
+    if 63 < count {
+        return Refused {
+            number: 8,
+            position: 0,
+        };
+    }
+    if pool::places(pool) < 32 + pool::Node::RESERVE * count {
+        return Refused {
+            number: 6,
+            position: 0,
+        };
+    }
+    records_refusal(records)
+}

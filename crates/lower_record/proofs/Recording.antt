@@ -1,0 +1,201 @@
+-- The reads of a record, its form and its widening, put together. Assumes nothing.
+use Prim.Native.Nat.{ℕ, _+_, _≤_, _<_}
+use mathlib.Core.Path.{_≡_, refl, sym, subst, _∙_}
+use mathlib.Core.Bool.{Bool, true, false, cond}
+use mathlib.Core.List.{List, [], _∷_}
+use mathlib.Core.Logic.{⊎-elim, _⊎_, inl, inr}
+use native.Mathlib.Omega.{arith}
+use native.Mathlib.Nat.{not-le-of-lt}
+use lib.Dec.{ltb, eqb}
+use lib.ListN.{length, length-set}
+use borrow.Author.Tests.{ltb-true, ltb-false, eq-eqb}
+use Rattle.facts.proofs.Tests.{false≢true}
+use Rattle.terms.specs.Expr.{Expr}
+use Rattle.neon.specs.declared.Instruction.{Instruction}
+use Rattle.neon.specs.Op.{Op, opAt, Arrangement, arrangementAt, full, bitsIf, view}
+use Rattle.neon.specs.Form.{form, hasSecond, readsD, byElement, firstFull, secondFull, firstBits, secondBits}
+use Rattle.trees.specs.Neon.{resultTree}
+use Rattle.trees.specs.Block.{readTree, widenTree, recordTree, treeStep}
+use Rattle.pool.specs.declared.Node.{Node}
+use Rattle.pool.specs.declared.Built.{Built}
+use Rattle.pool.specs.Node.{kindAt, kinds}
+use Rattle.pool.specs.Rules.{Valid}
+use Rattle.pool.specs.Growth.{Room, Reach, Grown, NodeIs}
+use Rattle.pool.specs.Builders.{MadeExtract, MadeZeroExtend}
+use Rattle.pool.proofs.Laws.{grown-refl, grown-trans, cell-kept, is-kept, reach-kept, reach-trans, packed, appended}
+use Rattle.pool.proofs.Steps.{stay}
+use Rattle.lower.specs.Builds.{Builds1, Lowers, read, readIf}
+use Rattle.register_map.specs.declared.RegisterMap.{RegisterMap}
+use Rattle.register_map.specs.Map.{node, nodeOf, written}
+use Rattle.register_map.proofs.Nodes.{written-is}
+use Rattle.lower_neon.specs.Family.{mostNodes}
+use Rattle.lower_record.specs.Step.{LowHalf, Reads, MapOk, MapIs, RegisterRead, StepMade, Steps}
+
+-- ---- a read
+
+module _ {ws : List ℕ} {k : ℕ} {r : Built} {used whole : Bool} {register : Node} (e : r .count ≡ k) where
+  -- no node is added
+  pub read-none : used ≡ false → Reads ws k ws r used whole register
+  read-none q =
+      record {
+        long = refl;
+        more = omega (arith, e);
+        most = omega (arith, e);
+        under = λ p. absurd (false≢true (sym q ∙ p));
+        made = λ v h. record {
+          grown = rw e (grown-refl ws k);
+          valid = rw e v;
+          is = λ p. absurd (false≢true (sym q ∙ p));
+          halves = λ x l g. absurd (not-le-of-lt g (omega (arith, e)));
+        };
+      }
+
+  pub read-whole : whole ≡ true → r .node .0 ≡ register .0 → register .0 < k → Reads ws k ws r used whole register
+  read-whole q f b =
+      record {
+        long = refl;
+        more = omega (arith, e);
+        most = omega (arith, e);
+        under = λ p. omega (arith, e, f, b);
+        made = λ v h. record {
+          grown = rw e (grown-refl ws k);
+          valid = rw e v;
+          is = λ p. rw (q, e, f) h;
+          halves = λ x l g. absurd (not-le-of-lt g (omega (arith, e)));
+        };
+      }
+
+half-cell : {old : List ℕ} {k : ℕ} {new : List ℕ} {r : Built} {register : Node} → Room old k 1 → register .0 < k → MadeExtract old k new r register 63 0
+    → (x : ℕ) → k ≤ x → x < r .count → LowHalf new (register .0) x
+unfolding kindAt kinds
+half-cell {old} {k} {new} {r} {register} m b d x l h =
+    let a = appended m (d .words) (packed 16 64 (register .0) 0 0 63 0 (omega arith) (omega (arith, m .numbers)) (omega arith)) in
+    let q : k ≡ x = omega (arith, a .next) in
+    subst (λ (y : ℕ). LowHalf new (register .0) y) q (a .cell-is)
+
+pub read-half : {old : List ℕ} {k : ℕ} {new : List ℕ} {r : Built} {used whole : Bool} {register : Node} → Room old k 1 → register .0 < k → whole ≡ false
+    → MadeExtract old k new r register 63 0
+    → Reads old k new r used whole register
+read-half m b q d =
+    record {
+      long = d .sized .long;
+      more = d .sized .more;
+      most = d .sized .most;
+      under = λ p. d .sized .under;
+      made = λ v h.
+          let x = d .made {u = 64} v (omega arith) refl h in
+          record { grown = x .grown; valid = x .valid; is = λ p. rw q (x .is); halves = half-cell m b d };
+    }
+
+-- ---- the widening
+
+pub widen-none : {ws : List ℕ} {k : ℕ} {r : Built} {whole : Bool} {a : Node} → whole ≡ true → a .0 < k → r .node .0 ≡ a .0 → r .count ≡ k
+    → Builds1 ws k ws r 1 a (bitsIf whole) 128 (widenTree whole) (a .0 ∷ [])
+widen-none q b e f = rw q (record { sized = omega (arith, b, e, f); made = λ v x. rw (e, f) (stay v x) })
+
+pub widen-some : {old : List ℕ} {k : ℕ} {new : List ℕ} {r : Built} {whole : Bool} {a : Node} → whole ≡ false → MadeZeroExtend old k new r a 128
+    → Builds1 old k new r 1 a (bitsIf whole) 128 (widenTree whole) (a .0 ∷ [])
+widen-some q d = rw q (record { sized = omega (arith, d .sized); made = λ v x. d .made v (omega arith) (omega arith) (omega arith) x })
+
+-- ---- the record
+
+before-or-from : (x k : ℕ) → (x < k) ⊎ (k ≤ x)
+before-or-from x k = go (ltb x k) refl
+  where
+    go : (b : Bool) → ltb x k ≡ b → (x < k) ⊎ (k ≤ x)
+    go true e = inl (ltb-true x k e)
+    go false e = inr (ltb-false x k e)
+
+half-kept : {a b : List ℕ} {k k′ : ℕ} → Grown a k b k′ → {register y : ℕ} → y ≡ register → (x : ℕ) → x < k → LowHalf a y x → LowHalf b register x
+half-kept g q x l h = rw (← q) (cell-kept g x l ∙ h)
+
+either : {ws : List ℕ} {k w x y : ℕ} {s t : Expr} (b : Bool) → NodeIs ws k x w s → NodeIs ws k y w t → NodeIs ws k (cond b x y) w (cond b s t)
+either true p q = p
+either false p q = q
+
+node-at : {ws : List ℕ} {k w x y : ℕ} {t : Expr} → y ≡ x → NodeIs ws k x w t → NodeIs ws k y w t
+node-at {ws} {k} {w} {t = t} e h = subst (λ (z : ℕ). NodeIs ws k z w t) (sym e) h
+
+written-at : (m : RegisterMap) (d n k : ℕ) → d < length (m .nodes) → nodeOf (written m d n k) d ≡ n
+written-at m d n k h = rw (written-is m d n k d h, eq-eqb d d refl)
+
+-- what a record reads, at its operation o and arrangement v
+module _ (m : RegisterMap) (ok : MapOk m) (c : Instruction) (hd : c .d < 32) (hn : c .n < 32) (hm : c .m < 32) (o : Op) (v : Arrangement)
+    (eo : opAt (c .operation) ≡ o) (ev : arrangementAt (c .arrangement) ≡ v) {w0 w1 w2 w3 w4 w5 : List ℕ} {b1 b2 b3 b4 b5 : Built} {n1 n2 n3 : Node}
+    (q1 : n1 .0 ≡ nodeOf m (c .n)) (q2 : n2 .0 ≡ nodeOf m (c .m)) (q3 : n3 .0 ≡ nodeOf m (c .d))
+    (r1 : Reads w0 (m .count) w1 b1 true (firstFull (form o .lanes) (full v)) n1)
+    (r2 : Reads w1 (b1 .count) w2 b2 (hasSecond o) (secondFull (form o .lanes) (byElement o) (full v)) n2)
+    (r3 : Reads w2 (b2 .count) w3 b3 (readsD o v) (full v) n3)
+    (f : Lowers w3 (b3 .count) w4 b4 mostNodes (view v) (readIf (readsD o v) (b3 .node) (view v)) (read (b1 .node) (firstBits o v))
+    (readIf (hasSecond o) (b2 .node) (secondBits o v)) (resultTree o v (c .i)) [])
+    (w : Builds1 w4 (b4 .count) w5 b5 1 (b4 .node) (view v) 128 (widenTree (full v)) (b4 .node .0 ∷ [])) where
+  in-map : c .d < length (m .nodes)
+  in-map = omega (arith, ok .size)
+
+  after-at : nodeOf (written m (c .d) (b5 .node .0) (b5 .count)) (c .d) ≡ b5 .node .0
+  after-at = written-at m (c .d) (b5 .node .0) (b5 .count) in-map
+
+  sizes : (m .count ≤ b5 .count) × (b5 .count ≤ m .count + 1024)
+  sizes =
+      (omega (arith, r1 .more, r2 .more, r3 .more, f .sized, w .sized), omega (arith, r1 .most, r2 .most, r3 .most, f .sized, w .sized))
+
+  after-ok : MapOk (written m (c .d) (b5 .node .0) (b5 .count))
+  after-ok = record { size = length-set (m .nodes) (c .d) (node (b5 .node .0)) ∙ ok .size; below = λ r l. rw (written-is m (c .d) (b5 .node .0) (b5 .count) r in-map) (go r l (eqb r (c .d))) }
+    where
+      go : (r : ℕ) → r < 32 → (b : Bool) → cond b (b5 .node .0) (nodeOf m r) < b5 .count
+      go r l true = w .sized .under
+      go r l false = omega (arith, ok .below r l, sizes .0)
+
+  made : (t : ℕ → Expr) → Valid w0 (m .count) → MapIs w0 m t → StepMade w0 m w5 (written m (c .d) (b5 .node .0) (b5 .count)) c t
+  unfolding treeStep recordTree
+  made t val h =
+      let m1 = r1 .made val (node-at q1 (h (c .n) hn)) in
+      let m2 = r2 .made (m1 .valid) (is-kept (m1 .grown) (node-at q2 (h (c .m) hm))) in
+      let g2 = grown-trans (m1 .grown) (m2 .grown) in
+      let m3 = r3 .made (m2 .valid) (is-kept g2 (node-at q3 (h (c .d) hd))) in
+      let g3 = grown-trans g2 (m3 .grown) in
+      let mf = f .made {td = readTree (full v) (t (c .d))} {ta = readTree (firstFull (form o .lanes) (full v)) (t (c .n))}
+      {tb = readTree (secondFull (form o .lanes) (byElement o) (full v)) (t (c .m))} (m3 .valid) (m3 .is)
+      (λ u. is-kept (grown-trans (m2 .grown) (m3 .grown)) (m1 .is refl)) (λ u. is-kept (m3 .grown) (m2 .is u)) in
+      let mw = w .made (mf .valid) (mf .is) in
+      let g45 = mw .grown in
+      let g35 = grown-trans (mf .grown) g45 in
+      let g25 = grown-trans (m3 .grown) g35 in
+      let g15 = grown-trans (m2 .grown) g25 in
+      let g05 = grown-trans (m1 .grown) g15 in
+      let own : (x : ℕ) → m .count ≤ x → x < b5 .count → Reach w5 (b5 .node .0) x ⊎ RegisterRead w5 m x =
+      λ x l r. ⊎-elim (λ k. inr (c .n, hn, half-kept g15 q1 x k (m1 .halves x l k)))
+      (λ l1. ⊎-elim (λ k. inr (c .m, hm, half-kept g25 q2 x k (m2 .halves x l1 k)))
+      (λ l2. ⊎-elim (λ k. inr (c .d, hd, half-kept g35 q3 x k (m3 .halves x l2 k)))
+      (λ l3. ⊎-elim (λ k. inl (reach-trans (mw .ins-reached .0) (reach-kept g45 (mf .is .under) (mf .all x l3 k)))) (λ l4. inl (mw .all x l4 r))
+      (before-or-from x (b4 .count))) (before-or-from x (b3 .count))) (before-or-from x (b2 .count))) (before-or-from x (b1 .count)) in
+      record {
+        grown = g05;
+        valid = mw .valid;
+        is = λ x l.
+            rw (eo, ev, written-is m (c .d) (b5 .node .0) (b5 .count) x in-map)
+            (either (eqb x (c .d)) (mw .is) (is-kept g05 (h x l)));
+        added = rw after-at (record { more = sizes .0; most = sizes .1; under = w .sized .under; all = own });
+      }
+
+  pub recorded : Steps w0 m w5 (written m (c .d) (b5 .node .0) (b5 .count)) c
+  recorded =
+      record {
+        long = w .sized .long ∙ f .sized .long ∙ r3 .long ∙ r2 .long ∙ r1 .long;
+        most = sizes .1;
+        map-ok = after-ok;
+        map-is = rw after-at refl;
+        made = λ {t} val h. made t val h;
+      }
+
+-- ---- flags that are known by an equation
+
+pub read-flags : {old : List ℕ} {k : ℕ} {new : List ℕ} {r : Built} {used used′ whole whole′ : Bool} {register : Node} → used ≡ used′ → whole ≡ whole′
+    → Reads old k new r used whole register
+    → Reads old k new r used′ whole′ register
+read-flags p q h = rw (← p, ← q) h
+
+pub widen-flag : {old : List ℕ} {k : ℕ} {new : List ℕ} {r : Built} {whole whole′ : Bool} {a : Node} → whole ≡ whole′
+    → Builds1 old k new r 1 a (bitsIf whole) 128 (widenTree whole) (a .0 ∷ [])
+    → Builds1 old k new r 1 a (bitsIf whole′) 128 (widenTree whole′) (a .0 ∷ [])
+widen-flag q h = rw (← q) h

@@ -1,0 +1,74 @@
+-- What one record of a block does to the pool and to the map of the registers (document 01, "Pool").
+use mathlib.Core.Bool.{Bool, true}
+use mathlib.Core.List.{List}
+use mathlib.Core.Logic.{_⊎_}
+use mathlib.Core.Path.{_≡_}
+use Prim.Native.Nat.{ℕ, _+_, _≤_, _<_}
+use lib.ListN.{length}
+use Rattle.terms.specs.Expr.{Expr}
+use Rattle.neon.specs.declared.Instruction.{Instruction}
+use Rattle.neon.specs.Op.{bitsIf}
+use Rattle.neon.specs.Refusal.{reserve}
+use Rattle.trees.specs.Block.{readTree, treeStep}
+use Rattle.pool.specs.declared.Node.{Node}
+use Rattle.pool.specs.declared.Built.{Built}
+use Rattle.pool.specs.Node.{extract, Cell, cellAt}
+use Rattle.pool.specs.Rules.{Valid}
+use Rattle.pool.specs.Growth.{Reach, Grown, NodeIs}
+use Rattle.register_map.specs.declared.RegisterMap.{RegisterMap}
+use Rattle.register_map.specs.Map.{nodeOf, written}
+
+-- node x is Extract(register, 63, 0)
+abbrev pub LowHalf : List ℕ → (register x : ℕ) → Type 0
+LowHalf ws register x = _≡_ {A = Cell} (cellAt ws x) (record { kind = extract; width = 64; a = register; b = 0; c = 0; x = 63; y = 0 })
+
+-- ---- a read of one register
+
+pub record ReadMade (old : List ℕ) (k : ℕ) (new : List ℕ) (r : Built) (used whole : Bool) (register : Node) (t : Expr) : Type 0 where
+  pub grown : Grown old k new (r .count)
+  pub valid : Valid new (r .count)
+  pub is : used ≡ true → NodeIs new (r .count) (r .node .0) (bitsIf whole) (readTree whole t)
+  pub halves : (x : ℕ) → k ≤ x → x < r .count → LowHalf new (register .0) x
+
+pub record Reads (old : List ℕ) (k : ℕ) (new : List ℕ) (r : Built) (used whole : Bool) (register : Node) : Type 0 where
+  pub long : length new ≡ length old
+  pub more : k ≤ r .count
+  pub most : r .count ≤ k + 1
+  pub under : used ≡ true → r .node .0 < r .count
+  pub made : {t : Expr} → Valid old k → NodeIs old k (register .0) 128 t → ReadMade old k new r used whole register t
+
+-- ---- a record
+
+-- the map has 32 entries, each below the count
+pub record MapOk (m : RegisterMap) : Type 0 where
+  pub size : length (m .nodes) ≡ 32
+  pub below : (r : ℕ) → r < 32 → nodeOf m r < m .count
+
+-- the registers have 128 bits and the terms t
+abbrev pub MapIs : List ℕ → RegisterMap → (ℕ → Expr) → Type 0
+MapIs ws m t = (r : ℕ) → r < 32 → NodeIs ws (m .count) (nodeOf m r) 128 (t r)
+
+-- node x reads a register of the map
+abbrev pub RegisterRead : List ℕ → RegisterMap → ℕ → Type 0
+RegisterRead ws m x = (r : ℕ) × (r < 32) × LowHalf ws (nodeOf m r) x
+
+-- the nodes of a record, from count k to count k′: at most the reserve, each reached from the answer save reads of the registers
+pub record Added (ws : List ℕ) (m : RegisterMap) (answer k′ : ℕ) : Type 0 where
+  pub more : m .count ≤ k′
+  pub most : k′ ≤ m .count + reserve
+  pub under : answer < k′
+  pub all : (x : ℕ) → m .count ≤ x → x < k′ → Reach ws answer x ⊎ RegisterRead ws m x
+
+pub record StepMade (old : List ℕ) (m : RegisterMap) (new : List ℕ) (m′ : RegisterMap) (c : Instruction) (t : ℕ → Expr) : Type 0 where
+  pub grown : Grown old (m .count) new (m′ .count)
+  pub valid : Valid new (m′ .count)
+  pub is : MapIs new m′ (treeStep c t)
+  pub added : Added new m (nodeOf m′ (c .d)) (m′ .count)
+
+-- the numbers, whatever the pool holds; and what a valid pool and registers of known terms become
+pub record Steps (old : List ℕ) (m : RegisterMap) (new : List ℕ) (m′ : RegisterMap) (c : Instruction) : Type 0 where
+  pub long : length new ≡ length old
+  pub most : m′ .count ≤ m .count + reserve
+  pub map-ok : MapOk m′
+  pub map-is : m′ ≡ written m (c .d) (nodeOf m′ (c .d)) (m′ .count)
+  pub made : {t : ℕ → Expr} → Valid old (m .count) → MapIs old m t → StepMade old m new m′ c t
