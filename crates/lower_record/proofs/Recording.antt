@@ -14,6 +14,8 @@ use Rattle.terms.specs.Expr.{Expr}
 use Rattle.neon.specs.declared.Instruction.{Instruction}
 use Rattle.neon.specs.Op.{Op, opAt, Arrangement, arrangementAt, full, bitsIf, view}
 use Rattle.neon.specs.Form.{form, hasSecond, readsD, byElement, firstFull, secondFull, firstBits, secondBits}
+use Rattle.neon.specs.Refusal.{Legal}
+use Rattle.neon.proofs.Legal.{accepted, m-le}
 use Rattle.trees.specs.Neon.{resultTree}
 use Rattle.trees.specs.Block.{readTree, widenTree, recordTree, treeStep}
 use Rattle.pool.specs.declared.Node.{Node}
@@ -199,3 +201,15 @@ pub widen-flag : {old : List ℕ} {k : ℕ} {new : List ℕ} {r : Built} {whole 
     → Builds1 old k new r 1 a (bitsIf whole) 128 (widenTree whole) (a .0 ∷ [])
     → Builds1 old k new r 1 a (bitsIf whole′) 128 (widenTree whole′) (a .0 ∷ [])
 widen-flag q h = rw (← q) h
+
+-- ---- the registers of an accepted record, and their nodes
+
+pub registers-in : (c : Instruction) → Legal c → (c .d < 32) × (c .n < 32) × (c .m < 32)
+registers-in c l =
+    let a = accepted c l in
+    (omega (arith, a .at-d), omega (arith, a .at-n), omega (arith, a .at-m, m-le (opAt (c .operation)) (arrangementAt (c .arrangement))))
+
+pub nodes-in : (m : RegisterMap) → MapOk m → (c : Instruction) → Legal c → (nodeOf m (c .d) < m .count) × (nodeOf m (c .n) < m .count) × (nodeOf m (c .m) < m .count)
+nodes-in m ok c l =
+    let r = registers-in c l in
+    (ok .below (c .d) (r .0), ok .below (c .n) (r .1), ok .below (c .m) (r .2))
