@@ -1,6 +1,6 @@
 // Pools that are chains of 65,535 nodes, and their texts in buffers of several sizes, for the programs that try the
 // deepest and the longest texts. They have no counterpart in the Rust.
-ghost use Prim.Native.Nat.{_≤_, _<_};
+ghost use Prim.Native.Nat.{_<_};
 
 // The words of a node.
 struct Words {

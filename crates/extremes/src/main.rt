@@ -1,5 +1,5 @@
 // Texts that are 65,534 levels deep, through every operand of every kind, in buffers of 0 and 1 byte, of just enough, of
-// one less, of 65,536 bytes and of 768 KB; and terms of more characters than there are atoms. It runs on a stack of 8 MB: the
+// one less, of 65,536 bytes and of 768 KB; and terms of 2^65,534 characters. It runs on a stack of 8 MB: the
 // pool takes 2 MB, the deepest text 5 MB.
 ghost use Prim.Native.Nat.{_<_};
 

@@ -1,6 +1,5 @@
 -- `all_forms::column` meets its contract: each byte that it reads is one of the 48. Assumes nothing.
 use Prim.Native.Nat.{_≤_, _-_}
-use native.Mathlib.Omega.{arith}
 use borrow.Author.Needs.{needs}
 use Rattle.all_forms.proofs.column.Statement.{statement}
 use Rattle.all_forms.proofs.column.Tie as tie

@@ -1,6 +1,5 @@
 -- `all_forms::hash` meets its contract: it stops at the end of the buffer. Assumes nothing.
 use Prim.Native.Nat.{_≤_, _-_}
-use native.Mathlib.Omega.{arith}
 use borrow.Author.Needs.{needs}
 use Rattle.all_forms.proofs.hash.Statement.{statement}
 use Rattle.all_forms.proofs.hash.Tie as tie

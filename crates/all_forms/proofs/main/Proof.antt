@@ -1,5 +1,4 @@
 -- `all_forms::main` meets its contract: the count of cases that are left falls. Assumes nothing.
-use native.Mathlib.Omega.{arith}
 use borrow.Author.Needs.{needs}
 use Rattle.all_forms.proofs.main.Statement.{statement}
 use Rattle.all_forms.proofs.main.Tie as tie

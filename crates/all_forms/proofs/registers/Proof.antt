@@ -1,7 +1,6 @@
 -- `all_forms::registers` meets its contract: 35 nodes have room in 140 words. Assumes nothing.
 use mathlib.Core.Path.{_≡_}
 use Prim.Native.Nat.{_≤_, _-_}
-use native.Mathlib.Omega.{arith}
 use borrow.Author.Needs.{needs}
 use lib.ListN.{length}
 use Rattle.all_forms.proofs.registers.Statement.{statement}

@@ -1,12 +1,7 @@
 use borrow.Author.Needs.{needs}
-use native.Mathlib.Omega.{arith}
 use Prim.Native.Nat.{_≤_, _-_}
 use Rattle.chains.proofs.build.Statement.{statement}
 use Rattle.chains.proofs.build.Tie as tie
-use Rattle.chains.proofs.build.Reads as reads
-use Rattle.chains.proofs.build.Lts as lts
-use Rattle.chains.proofs.link.Reads as link-reads
-use Rattle.chains.proofs.put_node.Reads as put-node-reads
 
 abbrev Inv-loop : tie.InvT-loop
 Inv-loop pool₀ shape kind n₀ pool n = n ≤ 65535

@@ -5,8 +5,6 @@ use mathlib.Core.Path.{_≡_}
 use lib.ListN.{length, length-set}
 use Rattle.chains.proofs.fill.Statement.{statement}
 use Rattle.chains.proofs.fill.Tie as tie
-use Rattle.chains.proofs.fill.Reads as reads
-use Rattle.chains.proofs.fill.Lts as lts
 
 abbrev Inv-loop : tie.InvT-loop
 Inv-loop buffer₀ i₀ buffer i = (i ≤ length buffer) × (length buffer ≡ length buffer₀)

@@ -1,11 +1,7 @@
 use borrow.Author.Needs.{needs}
-use native.Mathlib.Omega.{arith}
 use Prim.Native.Nat.{_≤_}
 use Rattle.chains.proofs.show.Statement.{statement}
 use Rattle.chains.proofs.show.Tie as tie
-use Rattle.chains.proofs.show.Reads as reads
-use Rattle.chains.proofs.show.Lts as lts
-use Rattle.chains.proofs.put_columns.Reads as put-columns-reads
 
 abbrev Inv-loop : tie.InvT-loop
 Inv-loop x out₀ rest₀ i₀ out rest i = i ≤ 11

@@ -4,9 +4,6 @@ use lib.Seq.{length-take-le}
 use borrow.Author.Needs.{needs}
 use Rattle.chains.proofs.sized.Statement.{statement}
 use Rattle.chains.proofs.sized.Tie as tie
-use Rattle.chains.proofs.sized.Reads as reads
-use Rattle.chains.proofs.sized.Lts as lts
-use Rattle.chains.proofs.attempt.Reads as attempt-reads
 
 slice-relend-prefix-attempt : tie.Need-slice-relend-prefix-attempt
 slice-relend-prefix-attempt c = search needs

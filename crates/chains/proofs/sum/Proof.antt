@@ -1,12 +1,8 @@
 use borrow.Author.Needs.{needs}
-use native.Mathlib.Omega.{arith}
 use Prim.Native.Nat.{_≤_, _<_, _-_}
 use lib.ListN.{length}
 use Rattle.chains.proofs.sum.Statement.{statement}
 use Rattle.chains.proofs.sum.Tie as tie
-use Rattle.chains.proofs.sum.Reads as reads
-use Rattle.chains.proofs.sum.Lts as lts
-use Rattle.chains.proofs.wide.Reads as wide-reads
 
 abbrev Inv-loop : tie.InvT-loop
 Inv-loop buffer a₀ b₀ i₀ a b i = (i ≤ length buffer) × (a < 65521) × (b < 65521)

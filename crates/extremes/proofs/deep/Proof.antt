@@ -2,9 +2,6 @@ use Prim.Native.Nat.{_+_, _-_}
 use borrow.Author.Needs.{needs}
 use Rattle.extremes.proofs.deep.Statement.{statement}
 use Rattle.extremes.proofs.deep.Tie as tie
-use Rattle.extremes.proofs.deep.Reads as reads
-use Rattle.extremes.proofs.deep.Lts as lts
-use Rattle.extremes.proofs.deep_chain.Reads as deep-chain-reads
 
 abbrev Inv-loop : tie.InvT-loop
 Inv-loop pool₀ node shape from to buffer₀ kind₀ pool buffer kind = Unit {0}
