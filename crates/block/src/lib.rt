@@ -1,9 +1,11 @@
 // A block of records, lowered into a new pool (document 01, "Pool"). The Rust has no counterpart: it lowers one instruction at a time.
 use register_map::RegisterMap;
+ghost use mathlib.Core.Path.{_≡_};
 ghost use Prim.Native.Nat.{_+_, _*_, _/_};
 ghost use lib.ListN.{length};
 ghost use Rattle.neon.specs.Refusal.{reserve, AllLegal};
 ghost use Rattle.pool.specs.Growth.{Room};
+ghost use Rattle.register_map.specs.Map.{firstMap};
 ghost use Rattle.block_check.specs.Records.{recordsOf};
 ghost use Rattle.lower_record.specs.Step.{MapOk};
 ghost use Rattle.block.specs.Block.{Started, Runs, Answered};
@@ -15,16 +17,17 @@ pub struct BlockAnswer {
     pub map: RegisterMap,
 }
 
-// Nodes 0 to 31 are the registers.
-fn start_pool(pool: &mut [u64])
+// Nodes 0 to 31 are the registers, and so the map says.
+pub fn start_pool(pool: &mut [u64]) -> RegisterMap
     requires { ⌜ Room (now pool) 0 32 ⌝ }
-    ensures { λ _. ⌜ Started (now (pool .entry)) (now (pool .exit)) 32 ⌝ }
+    ensures { λ m. ⌜ Started (now (pool .entry)) (now (pool .exit)) 32 × (m ≡ firstMap) ⌝ }
 {
     let mut r: usize = 0;
     while r < 32 {
         pool::var(pool, r, r as u64);
         r += 1;
     }
+    RegisterMap::initial()
 }
 
 // The records in order, each on the map that the one before left.
@@ -69,8 +72,8 @@ pub fn lower_block(pool: &mut [u64], records: &[u64]) -> BlockAnswer
             map: RegisterMap::refused(),
         };
     }
-    start_pool(pool);
-    let map = run_records(pool, RegisterMap::initial(), records);
+    let start = start_pool(pool);
+    let map = run_records(pool, start, records);
     BlockAnswer {
         number,
         position,

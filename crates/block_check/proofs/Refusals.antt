@@ -4,7 +4,7 @@ use mathlib.Core.Bool.{Bool, true, false, cond, _&&_}
 use mathlib.Core.List.{List, [], _∷_}
 use Prim.Native.Nat.{ℕ, zero, suc, _+_, _-_, _*_, _/_, _≤_, _<_}
 use native.Mathlib.Omega.{arith}
-use native.Mathlib.Nat.{add-zero, le-of-suc-le-suc, not-suc-le-zero}
+use native.Mathlib.Nat.{add-zero, le-of-suc-le-suc, not-suc-le-zero, min-le-left, le-min}
 use native.Mathlib.Numerals.{add-one}
 use lib.Dec.{leb, eqb}
 use lib.ListN.{length}
@@ -15,7 +15,7 @@ use Rattle.neon.specs.Op.{opAt, arrangementAt, isOperation, isArrangement, lane
 use Rattle.neon.specs.Form.{hasForm, hasSecond, least, most}
 use Rattle.neon.specs.Refusal.{formNumber, mostM, registersOk, recordNumber, Legal, AllLegal, refusal, recordsRefusal, blockRefusal}
 use Rattle.neon.proofs.Legal.{m-le}
-use Rattle.block_check.specs.Records.{recordAt, recordsFrom, recordsOf}
+use Rattle.block_check.specs.Records.{recordAt, recordsFrom, recordsOf, placesIn, sizeNumber}
 
 -- ---- one record
 
@@ -104,18 +104,39 @@ all-left flat = ap (λ (n : ℕ). recordsRefusal 0 (recordsFrom flat 0 n)) {x = 
 
 -- ---- a block
 
-module _ (p : ℕ) (flat : List ℕ) where
-  pub too-long : 63 < length flat / 6 → blockRefusal p (recordsOf flat) ≡ refusal 8 0
-  unfolding blockRefusal
-  too-long h = rw (from-length flat 0 (length flat / 6), lt-leb (length flat / 6) 63 h)
+module _ (words count : ℕ) where
+  pub too-long : 63 < count → 8 ≡ sizeNumber (placesIn words) count
+  unfolding sizeNumber
+  too-long h = rw (lt-leb count 63 h)
 
-  pub no-room : length flat / 6 ≤ 63 → p < 32 + 1024 * (length flat / 6) → blockRefusal p (recordsOf flat) ≡ refusal 6 0
-  unfolding blockRefusal
-  no-room h l = rw (from-length flat 0 (length flat / 6), le-leb (length flat / 6) 63 h, lt-leb (32 + 1024 * (length flat / 6)) p l)
+  pub no-room : count ≤ 63 → words / 4 < 32 + 1024 * count → 6 ≡ sizeNumber (placesIn words) count
+  unfolding sizeNumber
+  no-room h l = rw (le-leb count 63 h, lt-leb (32 + 1024 * count) (placesIn words) (omega (arith, min-le-left (words / 4) 65535)))
 
-  pub has-room : length flat / 6 ≤ 63 → 32 + 1024 * (length flat / 6) ≤ p → blockRefusal p (recordsOf flat) ≡ recordsRefusal 0 (recordsOf flat)
-  unfolding blockRefusal
-  has-room h l = rw (from-length flat 0 (length flat / 6), le-leb (length flat / 6) 63 h, le-leb (32 + 1024 * (length flat / 6)) p l)
+  pub has-room : count ≤ 63 → 32 + 1024 * count ≤ words / 4 → 0 ≡ sizeNumber (placesIn words) count
+  unfolding sizeNumber
+  has-room h l = rw (le-leb count 63 h, le-leb (32 + 1024 * count) (placesIn words) (le-min l (omega arith)))
+
+module _ (p : ℕ) (cs : List Instruction) where
+  -- refused for its size
+  pub by-size : 0 < sizeNumber p (length cs) → blockRefusal p cs ≡ refusal (sizeNumber p (length cs)) 0
+  unfolding blockRefusal sizeNumber
+  by-size h = go (leb (length cs) 63) (leb (32 + 1024 * length cs) p) h
+    where
+      go : (a b : Bool) → 0 < unless a 8 (unless b 6 0) → cond a (cond b (recordsRefusal 0 cs) (refusal 6 0)) (refusal 8 0) ≡ refusal (unless a 8 (unless b 6 0)) 0
+      go true true l = absurd (omega arith)
+      go true false l = refl
+      go false b l = refl
+
+  -- the size is accepted: the records decide
+  pub by-records : sizeNumber p (length cs) ≤ 0 → blockRefusal p cs ≡ recordsRefusal 0 cs
+  unfolding blockRefusal sizeNumber
+  by-records h = go (leb (length cs) 63) (leb (32 + 1024 * length cs) p) h
+    where
+      go : (a b : Bool) → unless a 8 (unless b 6 0) ≤ 0 → cond a (cond b (recordsRefusal 0 cs) (refusal 6 0)) (refusal 8 0) ≡ recordsRefusal 0 cs
+      go true true l = refl
+      go true false l = absurd (omega arith)
+      go false b l = absurd (omega arith)
 
 -- ---- what is accepted
 

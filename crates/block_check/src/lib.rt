@@ -3,7 +3,7 @@
 ghost use mathlib.Core.Path.{_≡_};
 ghost use Rattle.neon.specs.Refusal.{recordNumber, recordsRefusal, blockRefusal};
 ghost use Rattle.pool.specs.Node.{places};
-ghost use Rattle.block_check.specs.Records.{instruction, recordsOf, Refuses};
+ghost use Rattle.block_check.specs.Records.{instruction, recordsOf, placesIn, sizeNumber, Refuses};
 
 // 0 and 0, or the number and the position that refuse a block.
 pub struct Refused {
@@ -67,20 +67,28 @@ fn records_refusal(records: &[u64]) -> Refused
     }
 }
 
+// 0, or the first of 8 and 6 that refuses a block of so many records for a pool of so many words. The longest block needs fewer
+// places than a pool can have.
+pub fn size_number(words: usize, count: usize) -> u64
+    ensures { λ r. ⌜ r ≡ sizeNumber (placesIn words) count ⌝ }
+{
+    if 63 < count {
+        return 8;
+    }
+    if words / 4 < 32 + pool::Node::RESERVE * count {
+        return 6;
+    }
+    0
+}
+
 // What refuses a block of these records for this pool.
 pub fn block_refusal(pool: &[u64], records: &[u64]) -> Refused
     ensures { λ r. ⌜ Refuses r (blockRefusal (places (now (pool .entry))) (recordsOf (now (records .entry)))) ⌝ }
 {
-    let count = records.len() / 6;
-    if 63 < count {
+    let number = size_number(pool.len(), records.len() / 6);
+    if 0 < number {
         return Refused {
-            number: 8,
-            position: 0,
-        };
-    }
-    if pool::places(pool) < 32 + pool::Node::RESERVE * count {
-        return Refused {
-            number: 6,
+            number,
             position: 0,
         };
     }

@@ -30,31 +30,26 @@ start-pool-requires c κs =
     let f = fits (st .args .pool .now) (st .args .records .now) (l-block-refusal .block-refusal .ensures .0) (l-if1 .if1 .left) in
     record { words = omega (arith, f .words); numbers = omega (arith, f .numbers) }
 
-initial-requires : tie.Need-initial-requires
-initial-requires c κs = search needs
-
 run-records-requires : tie.Need-run-records-requires
 run-records-requires c κs =
-    let l-initial = c in
-    let l-start-pool = l-initial .before .before .before .before in
+    let l-start-pool = c .before .before .before in
     let l-if1 = l-start-pool .before .before in
     let l-block-refusal = l-if1 .before in
     let st = l-block-refusal .before .before .before .before in
     let f = fits (st .args .pool .now) (st .args .records .now) (l-block-refusal .block-refusal .ensures .0) (l-if1 .if1 .left) in
-    let e : l-initial .initial .result .count ≡ 32 = ap (λ (m : RegisterMap). m .count) (l-initial .initial .ensures) in
-    (record { words = omega (arith, f .words, e, l-start-pool .start-pool .ensures .grown .long); numbers = omega (arith, f .numbers, e) }, (rw (l-initial .initial .ensures) first-ok, f .legal))
+    let e : l-start-pool .start-pool .result .count ≡ 32 = ap (λ (m : RegisterMap). m .count) (l-start-pool .start-pool .ensures .1) in
+    (record { words = omega (arith, f .words, e, l-start-pool .start-pool .ensures .0 .grown .long); numbers = omega (arith, f .numbers, e) }, (rw (l-start-pool .start-pool .ensures .1) first-ok, f .legal))
 
 same-length-2 : tie.Need-same-length-2
 same-length-2 c =
     let l-run-records = c .before .before in
-    let l-start-pool = l-run-records .before .before .before .before .before in
-    omega (arith, l-start-pool .start-pool .ensures .grown .long, l-run-records .run-records .ensures .long)
+    let l-start-pool = l-run-records .before .before .before .before in
+    omega (arith, l-start-pool .start-pool .ensures .0 .grown .long, l-run-records .run-records .ensures .long)
 
 returns-2 : tie.Need-returns-2
 returns-2 c =
     let l-run-records = c .before .before in
-    let l-initial = l-run-records .before in
-    let l-start-pool = l-initial .before .before .before .before in
+    let l-start-pool = l-run-records .before .before .before .before in
     let l-if1 = l-start-pool .before .before in
     let l-block-refusal = l-if1 .before in
     let st = l-block-refusal .before .before .before .before in
@@ -63,7 +58,7 @@ returns-2 c =
       number = l-block-refusal .block-refusal .ensures .0;
       position = l-block-refusal .block-refusal .ensures .1;
       refused = λ h. absurd (h (omega (arith, l-if1 .if1 .left)));
-      accepted = λ z. all-done (f .placed) (l-start-pool .start-pool .ensures) (runs-first (l-initial .initial .ensures) (l-run-records .run-records .ensures));
+      accepted = λ z. all-done (f .placed) (l-start-pool .start-pool .ensures .0) (runs-first (l-start-pool .start-pool .ensures .1) (l-run-records .run-records .ensures));
     }
 
 pub lower-block-spec : {M : Type 1} → statement M
@@ -75,7 +70,6 @@ lower-block-spec =
     same-length
     returns
     start-pool-requires
-    initial-requires
     run-records-requires
     same-length-2
     returns-2)
