@@ -1,4 +1,5 @@
 pub mod Gathering
+pub mod Output
 pub mod Records
 pub mod Stores
 pub mod Texts
