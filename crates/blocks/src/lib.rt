@@ -78,7 +78,11 @@ fn run_instructions(pool: &mut [u64], records: &[Instruction], map: &mut Registe
 }
 
 // A block with one refused record is refused whole: then the pool is as it was, and no register has a node.
-pub fn lower_instructions(pool: &mut [u64], records: &[Instruction], map: &mut RegisterMap) -> Refused
+pub fn lower_instructions(
+    pool: &mut [u64],
+    records: &[Instruction],
+    map: &mut RegisterMap,
+) -> Refused
     ensures { λ r. ⌜ Answered (now (pool .entry)) (now (records .entry)) (now (pool .exit)) (answer r (now (map .exit))) ⌝ }
 {
     let refused = block_refusal(pool.len(), records);

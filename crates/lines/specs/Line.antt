@@ -1,6 +1,7 @@
 -- What the line program writes for a line (document 01, "Text and program"), as a function of the line's bytes.
-use mathlib.Core.Bool.{cond}
+use mathlib.Core.Bool.{true, cond}
 use mathlib.Core.List.{List, [], _∷_, _++_}
+use mathlib.Core.Logic.{_⊎_}
 use mathlib.Core.Path.{_≡_}
 use Prim.Native.Nat.{ℕ, zero, suc, _≤_}
 use lib.Dec.{leb}
@@ -12,6 +13,8 @@ use Rattle.facts.specs.Refuse.{unless}
 use Rattle.neon.specs.declared.Instruction.{Instruction}
 use Rattle.neon.specs.Refusal.{blockRefusal}
 use Rattle.trees.specs.Block.{treeRun}
+use Rattle.block.specs.declared.BlockAnswer.{BlockAnswer}
+use Rattle.block.specs.Block.{Answered}
 use Rattle.columns.specs.Columns.{columns, inColumns, recordOf}
 
 -- the bytes of the text buffer, and the most bytes that a line's answer has: a number, a blank, a text, a newline
@@ -53,6 +56,10 @@ answer places line = cond (inColumns line) (recordAnswer places (recordOf line))
 -- where the buffer may have too little room left, nothing
 abbrev pub answerIn : (room places : ℕ) → List ℕ → List ℕ
 answerIn room places line = cond (leb answerRoom room) (answer places line) []
+
+-- the pool after a line: as it was, or, for a line in columns, as the block of one leaves it
+abbrev pub PoolAfter : (old line new : List ℕ) → Type 0
+PoolAfter old line new = (new ≡ old) ⊎ ((inColumns line ≡ true) × ((a : BlockAnswer) × Answered old (recordOf line ∷ []) new a))
 
 -- the text s was asked for at `from` of a buffer, with the text buffer's room: what the buffer then holds
 pub record TextPut (old : List ℕ) (from : ℕ) (s : List ℕ) (number len : ℕ) (new : List ℕ) : Type 0 where

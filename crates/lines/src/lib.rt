@@ -15,7 +15,7 @@ ghost use Rattle.pool.specs.Node.{places};
 ghost use Rattle.pool.specs.Rules.{poolOk};
 ghost use Rattle.columns.specs.Columns.{columns};
 ghost use Rattle.text_parts.specs.Text.{text, Wrote};
-ghost use Rattle.lines.specs.Line.{textRoom, answerRoom, roomNumber, written, answerIn, TextPut};
+ghost use Rattle.lines.specs.Line.{textRoom, answerRoom, roomNumber, written, answerIn, PoolAfter, TextPut};
 ghost use Rattle.lines.specs.Pieces.{Gathers};
 
 // The most bytes that an answer has: a number, a blank, a text of at most 65,536 bytes, a newline.
@@ -67,6 +67,7 @@ fn put_term(pool: &[u64], count: usize, node: usize, out: &mut [u8], at: usize) 
 // Writes the answer to a line, at `at`. Where fewer bytes are left than the longest answer has, nothing is written.
 pub fn answer_line(pool: &mut [u64], line: &[u8], out: &mut [u8], at: usize) -> usize
     ensures { λ r. ⌜ Wrote (now (out .entry)) at (answerIn (length (now (out .entry)) - at) (places (now (pool .entry))) (now (line .entry))) r (now (out .exit)) ⌝ }
+    ensures { λ _. ⌜ PoolAfter (now (pool .entry)) (now (line .entry)) (now (pool .exit)) ⌝ }
 {
     if out.len() < at {
         return at;

@@ -223,7 +223,7 @@ module _ {M : Type 1} (𝓤 : URA M) (H : Heap 𝓤) (A : Atoms 𝓤) (W : Given
         move ! (1 ∷ []) $
         use1 W (raw (fact 𝓤 (r ≡ recordNumber elem))) (number-told elem r) $ heard ! (r ≡ recordNumber elem) (λ e.
         split ! $ lose ! $
-        peeks ! u64 (Is u64) (shows 𝓤 H A u64) r (v ∷ []) (λ is. 
+        peeks ! u64 (Is u64) (shows 𝓤 H A u64) r (v ∷ []) (λ is.
         land ! (from ! (stop !)) (init ! 15 refl (uint-lawful 𝓤 H A W w64 .typed r _ is .0)) $ rewrite ! 15 (λ (z : Val). ‵ (fat fullShare word l₆ 0 z)) (ap only (is .0)) refl $ lose ! $
         -- [token; list; _12; _11; _10; _9; _8; _7; _6; _5; _4; _3; _2; _1; _0]
         assigns ! (bin ! (lit ! tt) (load ! (from ! (stop !)) (look ! 14 refl)) tt) (from ! (stop !)) (store ! 6 refl (tt, tt)) $
@@ -291,7 +291,7 @@ module _ {M : Type 1} (𝓤 : URA M) (H : Heap 𝓤) (A : Atoms 𝓤) (W : Given
         move ! (1 ∷ []) $
         use1 W (raw (fact 𝓤 (r ≡ sizeNumber p n))) (size-told r) $ heard ! (r ≡ sizeNumber p n) (λ e.
         split ! $ lose ! $
-        peeks ! u64 (Is u64) (shows 𝓤 H A u64) r (v ∷ []) (λ is. 
+        peeks ! u64 (Is u64) (shows 𝓤 H A u64) r (v ∷ []) (λ is.
         land ! (from ! (stop !)) (init ! 21 refl (uint-lawful 𝓤 H A W w64 .typed r _ is .0)) $ rewrite ! 21 (λ (z : Val). ‵ (fat fullShare word l₃ 0 z)) (ap only (is .0)) refl $ lose ! $
         assigns ! (bin ! (lit ! tt) (load ! (from ! (stop !)) (look ! 20 refl)) tt) (from ! (stop !)) (init ! 10 refl (tt, tt)) $
         first ! $ branches ! (load ! (from ! (stop !)) (look ! 10 refl))

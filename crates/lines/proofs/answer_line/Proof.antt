@@ -1,6 +1,7 @@
 use native.Mathlib.Omega.{arith}
 use mathlib.Core.List.{List}
-use mathlib.Core.Path.{_≡_, sym, ap, _∙_}
+use mathlib.Core.Logic.{inl, inr}
+use mathlib.Core.Path.{_≡_, refl, sym, ap, _∙_}
 use Prim.Native.Nat.{ℕ}
 use lib.ListN.{getD}
 use borrow.Author.Tests.{not-true, not-false}
@@ -16,7 +17,7 @@ returns : tie.Need-returns
 returns c =
     let l-if1 = c in
     let st = l-if1 .before .before .before .before in
-    no-room (st .args .pool .now) (st .args .line .now) (st .args .out .now) (st .args .at) (l-if1 .if1 .taken)
+    (no-room (st .args .pool .now) (st .args .line .now) (st .args .out .now) (st .args .at) (l-if1 .if1 .taken), inl refl)
 
 sub-if2 : tie.Need-sub-if2
 sub-if2 c = search needs
@@ -25,7 +26,7 @@ returns-2 : tie.Need-returns-2
 returns-2 c =
     let l-if2 = c in
     let st = l-if2 .before .before .before .before .before in
-    little-room (st .args .pool .now) (st .args .line .now) (st .args .out .now) (st .args .at) (l-if2 .if2 .taken)
+    (little-room (st .args .pool .now) (st .args .line .now) (st .args .out .now) (st .args .at) (l-if2 .if2 .taken), inl refl)
 
 in-columns-requires : tie.Need-in-columns-requires
 in-columns-requires c κs = search needs
@@ -43,7 +44,7 @@ returns-3 c =
     let l-in-columns = l-if3 .before in
     let l-if2 = l-in-columns .before in
     let st = l-if2 .before .before .before .before .before in
-    other (st .args .pool .now) (st .args .line .now) (st .args .out .now) (st .args .at) (l-if2 .if2 .left) (sym (l-in-columns .in-columns .ensures) ∙ not-true _ (l-if3 .if3 .taken)) (l-put-number .put-number .ensures)
+    (other (st .args .pool .now) (st .args .line .now) (st .args .out .now) (st .args .at) (l-if2 .if2 .left) (sym (l-in-columns .in-columns .ensures) ∙ not-true _ (l-if3 .if3 .taken)) (l-put-number .put-number .ensures), inl refl)
 
 fields-of-requires : tie.Need-fields-of-requires
 fields-of-requires c κs =
@@ -83,7 +84,7 @@ returns-4 c =
     let l-in-columns = l-if3 .before in
     let l-if2 = l-in-columns .before in
     let st = l-if2 .before .before .before .before .before in
-    refused (st .args .pool .now) (st .args .line .now) (st .args .out .now) (st .args .at) (l-if2 .if2 .left) (sym (l-in-columns .in-columns .ensures) ∙ not-false _ (l-if3 .if3 .left)) (answered-one (st .args .line .now) (l-fields-of .fields-of .ensures) (l-lower-block .lower-block .ensures)) (l-if4 .if4 .taken) (l-put-number2 .put-number2 .ensures)
+    (refused (st .args .pool .now) (st .args .line .now) (st .args .out .now) (st .args .at) (l-if2 .if2 .left) (sym (l-in-columns .in-columns .ensures) ∙ not-false _ (l-if3 .if3 .left)) (answered-one (st .args .line .now) (l-fields-of .fields-of .ensures) (l-lower-block .lower-block .ensures)) (l-if4 .if4 .taken) (l-put-number2 .put-number2 .ensures), inr (sym (l-in-columns .in-columns .ensures) ∙ not-false _ (l-if3 .if3 .left), (l-lower-block .lower-block .result, answered-one (st .args .line .now) (l-fields-of .fields-of .ensures) (l-lower-block .lower-block .ensures))))
 
 array-read-get : tie.Need-array-read-get
 array-read-get c = search needs
@@ -124,7 +125,7 @@ returns-5 c =
     let l-in-columns = l-if3 .before in
     let l-if2 = l-in-columns .before in
     let st = l-if2 .before .before .before .before .before in
-    done (st .args .pool .now) (st .args .line .now) (st .args .out .now) (st .args .at) _ (l-if2 .if2 .left) (sym (l-in-columns .in-columns .ensures) ∙ not-false _ (l-if3 .if3 .left)) (answered-one (st .args .line .now) (l-fields-of .fields-of .ensures) (l-lower-block .lower-block .ensures)) (omega (arith, l-if4 .if4 .left)) (l-get .get .ensures ∙ ap (nodeOf (l-lower-block .lower-block .result .map)) (ap (λ (z : List ℕ). getD z 3 0) (l-fields-of .fields-of .ensures))) (l-put-term .put-term .ensures)
+    (done (st .args .pool .now) (st .args .line .now) (st .args .out .now) (st .args .at) _ (l-if2 .if2 .left) (sym (l-in-columns .in-columns .ensures) ∙ not-false _ (l-if3 .if3 .left)) (answered-one (st .args .line .now) (l-fields-of .fields-of .ensures) (l-lower-block .lower-block .ensures)) (omega (arith, l-if4 .if4 .left)) (l-get .get .ensures ∙ ap (nodeOf (l-lower-block .lower-block .result .map)) (ap (λ (z : List ℕ). getD z 3 0) (l-fields-of .fields-of .ensures))) (l-put-term .put-term .ensures), inr (sym (l-in-columns .in-columns .ensures) ∙ not-false _ (l-if3 .if3 .left), (l-lower-block .lower-block .result, answered-one (st .args .line .now) (l-fields-of .fields-of .ensures) (l-lower-block .lower-block .ensures))))
 
 pub answer-line-spec : {M : Type 1} → statement M
 answer-line-spec =
