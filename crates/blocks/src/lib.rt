@@ -25,17 +25,14 @@ fn block_refusal(words: usize, records: &[Instruction]) -> Refused
             position: 0,
         };
     }
-    let mut j = 0;
-    while j < records.len() {
-        let r = records[j];
+    let mut position = 0;
+    while position < records.len() {
+        let r = records[position];
         let number = block_check::record_number(r.operation, r.arrangement, r.i, r.d, r.n, r.m);
         if 0 < number {
-            return Refused {
-                number,
-                position: j,
-            };
+            return Refused { number, position };
         }
-        j += 1;
+        position += 1;
     }
     Refused {
         number: 0,
@@ -78,7 +75,11 @@ fn run_instructions(pool: &mut [u64], records: &[Instruction], map: &mut Registe
 }
 
 // A block with one refused record is refused whole: then the pool is as it was, and no register has a node.
-pub fn lower_instructions(pool: &mut [u64], records: &[Instruction], map: &mut RegisterMap) -> Refused
+pub fn lower_instructions(
+    pool: &mut [u64],
+    records: &[Instruction],
+    map: &mut RegisterMap,
+) -> Refused
     ensures { λ r. ⌜ Answered (now (pool .entry)) (now (records .entry)) (now (pool .exit)) (answer r (now (map .exit))) ⌝ }
 {
     let refused = block_refusal(pool.len(), records);

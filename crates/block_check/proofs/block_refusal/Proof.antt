@@ -20,7 +20,7 @@ returns c =
     let p = places (st .args .pool .now) in
     let flat = st .args .records .now in
     let n : l-size-number .size-number .result ≡ sizeNumber p (length (recordsOf flat)) =
-        l-size-number .size-number .ensures ∙ ap (λ (k : ℕ). sizeNumber p k) (sym (from-length flat 0 (length flat / 6))) in
+    l-size-number .size-number .ensures ∙ ap (λ (k : ℕ). sizeNumber p k) (sym (from-length flat 0 (length flat / 6))) in
     let e = by-size p (recordsOf flat) (omega (arith, n, c .if1 .taken)) in
     (n ∙ sym (ap (λ (x : Refusal). x .number) e), sym (ap (λ (x : Refusal). x .position) e))
 
@@ -35,7 +35,7 @@ returns-2 c =
     let p = places (st .args .pool .now) in
     let flat = st .args .records .now in
     let n : l-size-number .size-number .result ≡ sizeNumber p (length (recordsOf flat)) =
-        l-size-number .size-number .ensures ∙ ap (λ (k : ℕ). sizeNumber p k) (sym (from-length flat 0 (length flat / 6))) in
+    l-size-number .size-number .ensures ∙ ap (λ (k : ℕ). sizeNumber p k) (sym (from-length flat 0 (length flat / 6))) in
     let e = by-records p (recordsOf flat) (omega (arith, n, l-if1 .if1 .left)) in
     (c .records-refusal .ensures .0 ∙ sym (ap (λ (x : Refusal). x .number) e), c .records-refusal .ensures .1 ∙ sym (ap (λ (x : Refusal). x .position) e))
 
