@@ -48,14 +48,14 @@ lowered-more : (ws : List ℕ) (m : RegisterMap) (cs : List Instruction) (m′ :
 lowered-more ws m [] m′ h = rw h (le-refl (m .count))
 lowered-more ws m (c ∷ cs) m′ h = le-trans (h .2 .more) (lowered-more ws (written m (c .d) (h .0) (h .1)) cs m′ (h .3))
 
-added-kept : {a b : List ℕ} {k k′ : ℕ} → Grown a k b k′ → {m : RegisterMap} {answer n : ℕ} → n ≤ k → Added a m answer n → Added b m answer n
-added-kept g {m} {answer} {n} l h =
+added-kept : {a b : List ℕ} {k k′ : ℕ} → Grown a k b k′ → {m : RegisterMap} {c : Instruction} {answer n : ℕ} → n ≤ k → Added a m c answer n → Added b m c answer n
+added-kept g l h =
     record {
       more = h .more;
       most = h .most;
       under = h .under;
       all = λ x p q.
-          ⊎-elim (λ y. inl (reach-kept g (omega (arith, h .under)) y)) (λ y. inr (y .0, y .1, cell-kept g x (omega arith) ∙ y .2)) (h .all x p q);
+          ⊎-elim (λ y. inl (reach-kept g (omega (arith, h .under)) y)) (λ y. inr (y .0, y .1, y .2, cell-kept g x (omega arith) ∙ y .3, y .4)) (h .all x p q);
     }
 
 -- what a run added stays while the pool grows
@@ -65,10 +65,10 @@ lowered-kept {a} m (c ∷ cs) m′ g h =
     let n = written m (c .d) (h .0) (h .1) in
     (h .0, h .1, added-kept g (lowered-more a n cs m′ (h .3)) (h .2), lowered-kept n cs m′ g (h .3))
 
-lowered-next : {ws : List ℕ} (m : RegisterMap) (cs : List Instruction) (m′ : RegisterMap) (c : Instruction) {answer k : ℕ} → Lowered ws m cs m′ → Added ws m′ answer k
+lowered-next : {ws : List ℕ} (m : RegisterMap) (cs : List Instruction) (m′ : RegisterMap) (c : Instruction) {answer k : ℕ} → Lowered ws m cs m′ → Added ws m′ c answer k
     → Lowered ws m (cs ++ c ∷ []) (written m′ (c .d) answer k)
 lowered-next {ws} m [] m′ c {answer} {k} h n =
-    (answer, k, subst (λ (x : RegisterMap). Added ws x answer k) h n, ap (λ (x : RegisterMap). written x (c .d) answer k) h)
+    (answer, k, subst (λ (x : RegisterMap). Added ws x c answer k) h n, ap (λ (x : RegisterMap). written x (c .d) answer k) h)
 lowered-next m (x ∷ cs) m′ c h n = (h .0, h .1, h .2, lowered-next (written m (x .d) (h .0) (h .1)) cs m′ c (h .3) n)
 
 pub runs-none : {ws : List ℕ} {m : RegisterMap} → MapOk m → Runs ws m ws m []

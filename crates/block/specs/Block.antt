@@ -23,7 +23,7 @@ VarAt ws r = _≡_ {A = Cell} (cellAt ws r) (record { kind = var; width = 128; a
 -- the records in order, each on the map that the one before left: the nodes that it added, and its answer in the map
 abbrev pub Lowered : List ℕ → RegisterMap → List Instruction → RegisterMap → Type 0
 Lowered ws m [] m′ = m′ ≡ m
-Lowered ws m (c ∷ cs) m′ = (answer : ℕ) × (k : ℕ) × Added ws m answer k × Lowered ws (written m (c .d) answer k) cs m′
+Lowered ws m (c ∷ cs) m′ = (answer : ℕ) × (k : ℕ) × Added ws m c answer k × Lowered ws (written m (c .d) answer k) cs m′
 
 -- a block that is accepted
 pub record Accepted (old : List ℕ) (cs : List Instruction) (new : List ℕ) (m : RegisterMap) : Type 0 where

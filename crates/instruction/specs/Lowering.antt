@@ -9,15 +9,11 @@ use Rattle.neon.specs.Op.{Op, opAt, Arrangement, arrangementAt, view}
 use Rattle.neon.specs.Form.{hasSecond, readsD, firstBits, secondBits}
 use Rattle.neon.specs.Refusal.{formNumber, reserve}
 use Rattle.trees.specs.Neon.{resultTree}
-use Rattle.pool.specs.Node.{widthAt, places}
+use Rattle.pool.specs.Node.{widthAt, none, places}
 use Rattle.pool.specs.Rules.{poolOk}
 use Rattle.pool.specs.Unfold.{unfoldAt}
 use Rattle.pool.specs.Growth.{Grown, NodeIs, Reach}
 use Rattle.instruction.specs.declared.Lowering.{Lowering}
-
--- the number that stands for no node
-abbrev pub none : ℕ
-none = 65535
 
 -- a source that is wanted is below the count and has its width; one that is not is no node
 abbrev pub sourceOk : List ℕ → (count : ℕ) (wanted : Bool) (width node : ℕ) → Bool

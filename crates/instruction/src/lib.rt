@@ -3,6 +3,7 @@ use pool::Node;
 ghost use mathlib.Core.Path.{_≡_};
 ghost use mathlib.Core.Bool.{true};
 ghost use Rattle.neon.specs.Op.{bitsIf};
+ghost use Rattle.pool.specs.Node.{none};
 ghost use Rattle.pool.specs.Rules.{poolOk};
 ghost use Rattle.form.specs.Code.{OfCode};
 ghost use Rattle.neon.specs.Op.{full as fullOf};
@@ -90,7 +91,7 @@ fn instruction_number(
 }
 
 fn refused(number: u64, count: usize) -> Lowering
-    ensures { λ r. ⌜ r ≡ record { number = number; node = 65535; count = count } ⌝ }
+    ensures { λ r. ⌜ r ≡ record { number = number; node = none; count = count } ⌝ }
 {
     Lowering {
         number,

@@ -1,5 +1,5 @@
 -- What `clamp` and its parts build, from what their calls build. Assumes nothing.
-use Prim.Native.Nat.{ℕ, _+_, _-_, _*_, _^_, _≤_, _<_}
+use Prim.Native.Nat.{ℕ, _-_, _^_, _≤_, _<_}
 use mathlib.Core.Path.{_≡_, refl}
 use mathlib.Core.Bool.{Bool, true, false}
 use mathlib.Core.List.{List, [], _∷_}
@@ -8,7 +8,7 @@ use native.Mathlib.Nat.{lt-of-lt-of-le}
 use lib.Pow.{ones-lt, pow-mono, pow-sub-lt, pow-pos}
 use Rattle.terms.specs.declared.BinOp.the-variants.{Add}
 use Rattle.terms.specs.declared.CmpOp.the-variants.{Ult, Slt}
-use Rattle.terms.specs.Expr.{Expr, Const}
+use Rattle.terms.specs.Expr.{Const}
 use Rattle.pool.specs.declared.Node.{Node}
 use Rattle.pool.specs.declared.Built.{Built}
 use Rattle.pool.specs.Node.{wide as words}

@@ -47,7 +47,7 @@ withLower true bits = bits * 2
 withLower false bits = bits
 
 module _ (old : List ℕ) (k : ℕ) (new : List ℕ) (r : Built) where
-  -- over one operand, two, three
+  -- over one operand, and over two
   pub record Builds1 (m : ℕ) (a : Node) (wa w : ℕ) (t : Expr → Expr) (ins : List ℕ) : Type 0 where
     pub sized : Takes old k new r m
     pub made : {ta : Expr} → Valid old k → NodeIs old k (a .0) wa ta → Makes old k new r w (t ta) ins
@@ -55,11 +55,6 @@ module _ (old : List ℕ) (k : ℕ) (new : List ℕ) (r : Built) where
   pub record Builds2 (m : ℕ) (a : Node) (wa : ℕ) (b : Node) (wb w : ℕ) (t : Expr → Expr → Expr) (ins : List ℕ) : Type 0 where
     pub sized : Takes old k new r m
     pub made : {ta tb : Expr} → Valid old k → NodeIs old k (a .0) wa ta → NodeIs old k (b .0) wb tb → Makes old k new r w (t ta tb) ins
-
-  pub record Builds3 (m : ℕ) (a : Node) (wa : ℕ) (b : Node) (wb : ℕ) (c : Node) (wc w : ℕ) (t : Expr → Expr → Expr → Expr) (ins : List ℕ) : Type 0 where
-    pub sized : Takes old k new r m
-    pub made : {ta tb tc : Expr} → Valid old k → NodeIs old k (a .0) wa ta → NodeIs old k (b .0) wb tb → NodeIs old k (c .0) wc tc
-        → Makes old k new r w (t ta tb tc) ins
 
   -- over one operand, and a second where it is used
   pub record BuildsIf (m : ℕ) (a : Node) (wa : ℕ) (used : Bool) (b : Node) (wb w : ℕ) (t : Expr → Expr → Expr) : Type 0 where

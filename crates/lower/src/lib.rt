@@ -3,7 +3,7 @@
 use pool::Built;
 use pool::Node;
 ghost use mathlib.Core.Path.{_≡_};
-ghost use Prim.Native.Nat.{_+_, _*_, _-_, _≤_, _<_, _^_};
+ghost use Prim.Native.Nat.{_-_, _≤_, _<_, _^_};
 ghost use Rattle.pool.specs.Node.{wide as wideWords};
 ghost use Rattle.pool.specs.Growth.{Room};
 ghost use Rattle.trees.specs.Lower.{unsignedMax};

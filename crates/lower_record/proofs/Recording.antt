@@ -14,6 +14,8 @@ use Rattle.terms.specs.Expr.{Expr}
 use Rattle.neon.specs.declared.Instruction.{Instruction}
 use Rattle.neon.specs.Op.{Op, opAt, Arrangement, arrangementAt, full, bitsIf, view}
 use Rattle.neon.specs.Form.{form, hasSecond, readsD, byElement, firstFull, secondFull, firstBits, secondBits}
+use Rattle.neon.specs.Refusal.{Legal}
+use Rattle.neon.proofs.Legal.{accepted, m-le}
 use Rattle.trees.specs.Neon.{resultTree}
 use Rattle.trees.specs.Block.{readTree, widenTree, recordTree, treeStep}
 use Rattle.pool.specs.declared.Node.{Node}
@@ -29,7 +31,7 @@ use Rattle.register_map.specs.declared.RegisterMap.{RegisterMap}
 use Rattle.register_map.specs.Map.{node, nodeOf, written}
 use Rattle.register_map.proofs.Nodes.{written-is}
 use Rattle.lower_neon.specs.Family.{mostNodes}
-use Rattle.lower_record.specs.Step.{LowHalf, Reads, MapOk, MapIs, RegisterRead, StepMade, Steps}
+use Rattle.lower_record.specs.Step.{LowHalf, Reads, MapOk, MapIs, ReadsHalf, RegisterRead, StepMade, Steps}
 
 -- ---- a read
 
@@ -73,10 +75,10 @@ half-cell {old} {k} {new} {r} {register} m b d x l h =
     let q : k ≡ x = omega (arith, a .next) in
     subst (λ (y : ℕ). LowHalf new (register .0) y) q (a .cell-is)
 
-pub read-half : {old : List ℕ} {k : ℕ} {new : List ℕ} {r : Built} {used whole : Bool} {register : Node} → Room old k 1 → register .0 < k → whole ≡ false
+pub read-half : {old : List ℕ} {k : ℕ} {new : List ℕ} {r : Built} {used whole : Bool} {register : Node} → Room old k 1 → register .0 < k → used ≡ true → whole ≡ false
     → MadeExtract old k new r register 63 0
     → Reads old k new r used whole register
-read-half m b q d =
+read-half m b u q d =
     record {
       long = d .sized .long;
       more = d .sized .more;
@@ -84,7 +86,7 @@ read-half m b q d =
       under = λ p. d .sized .under;
       made = λ v h.
           let x = d .made {u = 64} v (omega arith) refl h in
-          record { grown = x .grown; valid = x .valid; is = λ p. rw q (x .is); halves = half-cell m b d };
+          record { grown = x .grown; valid = x .valid; is = λ p. rw q (x .is); halves = λ y l g. (u, q, half-cell m b d y l g) };
     }
 
 -- ---- the widening
@@ -146,6 +148,15 @@ module _ (m : RegisterMap) (ok : MapOk m) (c : Instruction) (hd : c .d < 32) (hn
       go r l true = w .sized .under
       go r l false = omega (arith, ok .below r l, sizes .0)
 
+  half-n : firstFull (form o .lanes) (full v) ≡ false → ReadsHalf c (c .n)
+  half-n h = inl (refl, rw (eo, ev) h)
+
+  half-m : hasSecond o ≡ true → secondFull (form o .lanes) (byElement o) (full v) ≡ false → ReadsHalf c (c .m)
+  half-m u h = inr (inl (refl, rw eo u, rw (eo, ev) h))
+
+  half-d : readsD o v ≡ true → full v ≡ false → ReadsHalf c (c .d)
+  half-d u h = inr (inr (refl, rw (eo, ev) u, rw ev h))
+
   made : (t : ℕ → Expr) → Valid w0 (m .count) → MapIs w0 m t → StepMade w0 m w5 (written m (c .d) (b5 .node .0) (b5 .count)) c t
   unfolding treeStep recordTree
   made t val h =
@@ -163,10 +174,10 @@ module _ (m : RegisterMap) (ok : MapOk m) (c : Instruction) (hd : c .d < 32) (hn
       let g25 = grown-trans (m3 .grown) g35 in
       let g15 = grown-trans (m2 .grown) g25 in
       let g05 = grown-trans (m1 .grown) g15 in
-      let own : (x : ℕ) → m .count ≤ x → x < b5 .count → Reach w5 (b5 .node .0) x ⊎ RegisterRead w5 m x =
-      λ x l r. ⊎-elim (λ k. inr (c .n, hn, half-kept g15 q1 x k (m1 .halves x l k)))
-      (λ l1. ⊎-elim (λ k. inr (c .m, hm, half-kept g25 q2 x k (m2 .halves x l1 k)))
-      (λ l2. ⊎-elim (λ k. inr (c .d, hd, half-kept g35 q3 x k (m3 .halves x l2 k)))
+      let own : (x : ℕ) → m .count ≤ x → x < b5 .count → Reach w5 (b5 .node .0) x ⊎ RegisterRead w5 m c x =
+      λ x l r. ⊎-elim (λ k. inr (c .n, hn, half-n (m1 .halves x l k .1), half-kept g15 q1 x k (m1 .halves x l k .2), omega (arith, k, r1 .most)))
+      (λ l1. ⊎-elim (λ k. inr (c .m, hm, half-m (m2 .halves x l1 k .0) (m2 .halves x l1 k .1), half-kept g25 q2 x k (m2 .halves x l1 k .2), omega (arith, k, r1 .most, r2 .most)))
+      (λ l2. ⊎-elim (λ k. inr (c .d, hd, half-d (m3 .halves x l2 k .0) (m3 .halves x l2 k .1), half-kept g35 q3 x k (m3 .halves x l2 k .2), omega (arith, k, r1 .most, r2 .most, r3 .most)))
       (λ l3. ⊎-elim (λ k. inl (reach-trans (mw .ins-reached .0) (reach-kept g45 (mf .is .under) (mf .all x l3 k)))) (λ l4. inl (mw .all x l4 r))
       (before-or-from x (b4 .count))) (before-or-from x (b3 .count))) (before-or-from x (b2 .count))) (before-or-from x (b1 .count)) in
       record {
@@ -199,3 +210,15 @@ pub widen-flag : {old : List ℕ} {k : ℕ} {new : List ℕ} {r : Built} {whole 
     → Builds1 old k new r 1 a (bitsIf whole) 128 (widenTree whole) (a .0 ∷ [])
     → Builds1 old k new r 1 a (bitsIf whole′) 128 (widenTree whole′) (a .0 ∷ [])
 widen-flag q h = rw (← q) h
+
+-- ---- the registers of an accepted record, and their nodes
+
+pub registers-in : (c : Instruction) → Legal c → (c .d < 32) × (c .n < 32) × (c .m < 32)
+registers-in c l =
+    let a = accepted c l in
+    (omega (arith, a .at-d), omega (arith, a .at-n), omega (arith, a .at-m, m-le (opAt (c .operation)) (arrangementAt (c .arrangement))))
+
+pub nodes-in : (m : RegisterMap) → MapOk m → (c : Instruction) → Legal c → (nodeOf m (c .d) < m .count) × (nodeOf m (c .n) < m .count) × (nodeOf m (c .m) < m .count)
+nodes-in m ok c l =
+    let r = registers-in c l in
+    (ok .below (c .d) (r .0), ok .below (c .n) (r .1), ok .below (c .m) (r .2))

@@ -1,5 +1,5 @@
 -- What one record of a block does to the pool and to the map of the registers (document 01, "Pool").
-use mathlib.Core.Bool.{Bool, true}
+use mathlib.Core.Bool.{Bool, true, false}
 use mathlib.Core.List.{List}
 use mathlib.Core.Logic.{_⊎_}
 use mathlib.Core.Path.{_≡_}
@@ -7,7 +7,8 @@ use Prim.Native.Nat.{ℕ, _+_, _≤_, _<_}
 use lib.ListN.{length}
 use Rattle.terms.specs.Expr.{Expr}
 use Rattle.neon.specs.declared.Instruction.{Instruction}
-use Rattle.neon.specs.Op.{bitsIf}
+use Rattle.neon.specs.Op.{opAt, arrangementAt, full, bitsIf}
+use Rattle.neon.specs.Form.{form, hasSecond, readsD, byElement, firstFull, secondFull}
 use Rattle.neon.specs.Refusal.{reserve}
 use Rattle.trees.specs.Block.{readTree, treeStep}
 use Rattle.pool.specs.declared.Node.{Node}
@@ -28,7 +29,7 @@ pub record ReadMade (old : List ℕ) (k : ℕ) (new : List ℕ) (r : Built) (use
   pub grown : Grown old k new (r .count)
   pub valid : Valid new (r .count)
   pub is : used ≡ true → NodeIs new (r .count) (r .node .0) (bitsIf whole) (readTree whole t)
-  pub halves : (x : ℕ) → k ≤ x → x < r .count → LowHalf new (register .0) x
+  pub halves : (x : ℕ) → k ≤ x → x < r .count → (used ≡ true) × (whole ≡ false) × LowHalf new (register .0) x
 
 pub record Reads (old : List ℕ) (k : ℕ) (new : List ℕ) (r : Built) (used whole : Bool) (register : Node) : Type 0 where
   pub long : length new ≡ length old
@@ -48,22 +49,31 @@ pub record MapOk (m : RegisterMap) : Type 0 where
 abbrev pub MapIs : List ℕ → RegisterMap → (ℕ → Expr) → Type 0
 MapIs ws m t = (r : ℕ) → r < 32 → NodeIs ws (m .count) (nodeOf m r) 128 (t r)
 
--- node x reads a register of the map
-abbrev pub RegisterRead : List ℕ → RegisterMap → ℕ → Type 0
-RegisterRead ws m x = (r : ℕ) × (r < 32) × LowHalf ws (nodeOf m r) x
+-- the record reads the low half of register r: as n, or as m or d where its form has them
+abbrev pub ReadsHalf : Instruction → ℕ → Type 0
+ReadsHalf c r =
+    let o = opAt (c .operation) in
+    let v = arrangementAt (c .arrangement) in
+    ((r ≡ c .n) × (firstFull (form o .lanes) (full v) ≡ false))
+    ⊎ ((r ≡ c .m) × (hasSecond o ≡ true) × (secondFull (form o .lanes) (byElement o) (full v) ≡ false))
+    ⊎ ((r ≡ c .d) × (readsD o v ≡ true) × (full v ≡ false))
 
--- the nodes of a record, from count k to count k′: at most the reserve, each reached from the answer save reads of the registers
-pub record Added (ws : List ℕ) (m : RegisterMap) (answer k′ : ℕ) : Type 0 where
+-- node x is such a read, of at most three
+abbrev pub RegisterRead : List ℕ → RegisterMap → Instruction → ℕ → Type 0
+RegisterRead ws m c x = (r : ℕ) × (r < 32) × ReadsHalf c r × LowHalf ws (nodeOf m r) x × (x < m .count + 3)
+
+-- the nodes of a record, from the map's count to count k′: at most the reserve, each reached from the answer save its reads of registers
+pub record Added (ws : List ℕ) (m : RegisterMap) (c : Instruction) (answer k′ : ℕ) : Type 0 where
   pub more : m .count ≤ k′
   pub most : k′ ≤ m .count + reserve
   pub under : answer < k′
-  pub all : (x : ℕ) → m .count ≤ x → x < k′ → Reach ws answer x ⊎ RegisterRead ws m x
+  pub all : (x : ℕ) → m .count ≤ x → x < k′ → Reach ws answer x ⊎ RegisterRead ws m c x
 
 pub record StepMade (old : List ℕ) (m : RegisterMap) (new : List ℕ) (m′ : RegisterMap) (c : Instruction) (t : ℕ → Expr) : Type 0 where
   pub grown : Grown old (m .count) new (m′ .count)
   pub valid : Valid new (m′ .count)
   pub is : MapIs new m′ (treeStep c t)
-  pub added : Added new m (nodeOf m′ (c .d)) (m′ .count)
+  pub added : Added new m c (nodeOf m′ (c .d)) (m′ .count)
 
 -- the numbers, whatever the pool holds; and what a valid pool and registers of known terms become
 pub record Steps (old : List ℕ) (m : RegisterMap) (new : List ℕ) (m′ : RegisterMap) (c : Instruction) : Type 0 where

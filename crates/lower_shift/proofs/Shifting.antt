@@ -1,13 +1,11 @@
 -- What the shifts of one lane build, from what their calls build. Assumes nothing.
-use Prim.Native.Nat.{ℕ, max, _+_, _-_, _*_, _^_, _≤_, _<_}
+use Prim.Native.Nat.{ℕ, _+_, _-_, _^_, _≤_, _<_}
 use mathlib.Core.Path.{_≡_, refl}
-use mathlib.Core.Bool.{Bool, true, false, cond}
+use mathlib.Core.Bool.{Bool, true, false}
 use mathlib.Core.List.{List, [], _∷_}
 use mathlib.Core.Logic.{_⊎_, inl, inr}
 use native.Mathlib.Omega.{arith}
-use native.Mathlib.Nat.{lt-of-lt-of-le, lt-trans}
-use lib.Dec.{ltb}
-use lib.Pow.{pow-pos, pow-mono, ones-lt, pow-lt}
+use lib.Pow.{pow-pos, ones-lt, pow-lt}
 use borrow.Author.Tests.{lt-ltb, le-ltb}
 use Rattle.facts.proofs.Numbers.{small}
 use Rattle.terms.specs.declared.BinOp.{BinOp}
@@ -25,7 +23,7 @@ use Rattle.trees.specs.declared.Saturate.the-variants.{Never, Into}
 use Rattle.trees.specs.declared.ShiftKind.{ShiftKind}
 use Rattle.trees.specs.declared.ShiftKind.the-variants.{LeftImmediate, RightImmediate, Register}
 use Rattle.trees.specs.Lower.{unsignedMax}
-use Rattle.trees.specs.Arith.{clamp, shiftOp, roundingBits, shiftRight, signedMax, shiftBound, saturatingShiftLeft, exactBits, leftImmediate, signedAmount, leftBy, registerShiftMax, shiftLane}
+use Rattle.trees.specs.Arith.{clamp, shiftOp, roundingBits, shiftRight, shiftBound, saturatingShiftLeft, exactBits, leftImmediate, signedAmount, leftBy, registerShiftMax, shiftLane}
 use Rattle.lower.specs.Builds.{Builds1, Builds2, BuildsIf, MadeExtend}
 use Rattle.lower_shift.specs.Amounts.{isRegister}
 

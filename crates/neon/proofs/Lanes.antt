@@ -2,7 +2,7 @@
 use mathlib.Core.Path.{_≡_, refl, ap, ap₂, _∙_}
 use mathlib.Core.Bool.{Bool, true, false}
 use Prim.Native.Nat.{ℕ, zero, suc, _+_, _-_, _*_, _/_, _%_, _^_, _≤_, _<_}
-use native.Mathlib.Nat.{mod-lt, mul-suc, mul-zero, mod-eq-of-lt, mul-add-div-right, mul-add-mod-self-right, mul-comm}
+use native.Mathlib.Nat.{mul-suc, mul-zero, mod-eq-of-lt, mul-add-div-right, mul-add-mod-self-right, mul-comm}
 use native.Mathlib.Omega.{arith}
 use borrow.Author.Tests.{ltb-true, ltb-false}
 use lib.Dec.{ltb}

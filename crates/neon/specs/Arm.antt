@@ -62,7 +62,7 @@ roundZ z (negsuc k) = round z (suc k)
 abbrev pub bitAt : ℕ → ℕ → ℕ
 bitAt j v = v / 2 ^ j % 2
 
--- the ones among the k low bits of v; the zeros from bit k - 1 down to the first one; the bits from k - 1 down that are t
+-- the ones among the k low bits of v; the bits from k - 1 down that are t, up to the first that is not
 unfoldable pub ones : ℕ → ℕ → ℕ
 ones zero v = 0
 ones (suc k) v = ones k v + bitAt k v

@@ -1,6 +1,5 @@
 // NEON instructions: records, lanes and the table of legal forms. What an instruction computes is in specs/.
 ghost use mathlib.Core.Path.{_≡_};
-ghost use Prim.Native.Nat.{_+_, _<_};
 ghost use Rattle.neon.specs.Form.{formCodeAt};
 
 // A record of a block. d, n and m are registers; m is 0 where there is no second source.
@@ -24,13 +23,6 @@ impl Lane {
         ensures { λ r. ⌜ r .0 ≡ 0 ⌝ }
     {
         Lane(0)
-    }
-
-    pub fn next(self) -> Self
-        requires { ⌜ self .0 < 128 ⌝ }
-        ensures { λ r. ⌜ r .0 ≡ self .0 + 1 ⌝ }
-    {
-        Lane(self.0 + 1)
     }
 }
 

@@ -1,7 +1,7 @@
 -- Laws of a pool: what growth keeps, what four words written make, and the term of a node by those of its operands. Assumes nothing.
-use Prim.Native.Nat.{ℕ, zero, suc, _+_, _-_, _*_, _/_, _%_, _^_, _≤_, _<_}
+use Prim.Native.Nat.{ℕ, zero, suc, _+_, _*_, _/_, _%_, _≤_, _<_}
 use mathlib.Core.Path.{_≡_, refl, sym, ap, _∙_, subst}
-use mathlib.Core.Bool.{Bool, true, false, _&&_}
+use mathlib.Core.Bool.{Bool, true, false}
 use mathlib.Core.List.{List, [], _∷_, List·Memᴰ, List·Memᴰ·head, List·Memᴰ·tail}
 use mathlib.Core.Logic.{⊎-elim, _⊎_, inl, inr}
 use native.Mathlib.Omega.{arith}
@@ -12,7 +12,7 @@ use lib.Seq.{getD-set-same, getD-set-other}
 use lib.Dec.{ltb}
 use borrow.Author.Tests.{ltb-true}
 use Rattle.terms.specs.Expr.{Expr}
-use Rattle.pool.specs.Node.{Cell, kindAt, kindOf, kindWord, operandWord, decode, cellAt, widthAt, writeNode}
+use Rattle.pool.specs.Node.{Cell, kindAt, kindWord, operandWord, decode, cellAt, widthAt, writeNode}
 use Rattle.pool.specs.Rules.{ifEarlier, widthBefore, okCell, okPool, Valid}
 use Rattle.pool.specs.Unfold.{shape, earlier, unfoldTo, unfoldAt}
 use Rattle.pool.specs.Growth.{operands, Reach, AllReached, Grown, NodeIs, Pushed, Room, Sized, Made}

@@ -1,10 +1,9 @@
 -- What a push of each kind makes, and so each constructor. Assumes nothing.
-use Prim.Native.Nat.{ℕ, _+_, _-_, _*_, _^_, _%_, _≤_, _<_}
-use mathlib.Core.Path.{_≡_, refl, sym, ap, _∙_}
-use mathlib.Core.Bool.{Bool, true, false, _&&_}
+use Prim.Native.Nat.{ℕ, _+_, _-_, _^_, _%_, _≤_, _<_}
+use mathlib.Core.Path.{_≡_, refl}
 use mathlib.Core.List.{List, [], _∷_}
 use native.Mathlib.Omega.{arith}
-use lib.Dec.{ltb, leb, eqb}
+use lib.Dec.{ltb}
 use borrow.Author.Tests.{lt-ltb, le-leb, eq-eqb}
 use Rattle.terms.specs.declared.BinOp.{BinOp}
 use Rattle.terms.specs.declared.BinOp.the-variants.{Add, Sub, Mul, And, Or, Xor, Shl, LShr, AShr}
@@ -14,9 +13,9 @@ use Rattle.terms.specs.Expr.{Expr, Var, Const, Bv, Compare, Ite, Extract, Conca
 use Rattle.pool.specs.declared.Node.{Node}
 use Rattle.pool.specs.declared.Built.{Built}
 use Rattle.pool.specs.Node.{Kind, var, const, bv, compare, ite, extract, concat, zext, sext, kinds, kindAt, bvCode, compareCode, kindWord, operandWord, wide, widthAt}
-use Rattle.pool.specs.Rules.{widthBefore, okCell, Valid}
+use Rattle.pool.specs.Rules.{widthBefore, Valid}
 use Rattle.pool.specs.Unfold.{earlier, unfoldAt}
-use Rattle.pool.specs.Growth.{NodeIs, Room, Pushed, Made}
+use Rattle.pool.specs.Growth.{NodeIs, Room, Made}
 use Rattle.pool.specs.Builders.{Writes, MadeVar, MadeConst, MadeBv, MadeCompare, MadeIte, MadeExtract, MadeConcat, MadeZeroExtend, MadeSignExtend}
 use Rattle.pool.proofs.Laws.{Appended, appended, packed, made-of, sized-of}
 

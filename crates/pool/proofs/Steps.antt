@@ -1,11 +1,10 @@
 -- A run of builders: the nodes that it has made so far, each with its width and term, and which of them still want a node above them. Assumes nothing.
-use Prim.Native.Nat.{ℕ, zero, suc, _+_, _-_, _*_, _≤_, _<_}
-use mathlib.Core.Path.{_≡_, refl, sym, ap, _∙_, subst}
+use Prim.Native.Nat.{ℕ, zero, suc, _≤_, _<_}
+use mathlib.Core.Path.{_≡_, refl, sym, _∙_, subst}
 use mathlib.Core.Bool.{Bool, true, false, _&&_, not}
 use mathlib.Core.List.{List, [], _∷_}
 use mathlib.Core.Logic.{⊎-elim, _⊎_, inl, inr}
-use native.Mathlib.Omega.{arith}
-use native.Mathlib.Nat.{le-refl, not-le-of-lt}
+use native.Mathlib.Nat.{not-le-of-lt}
 use lib.Dec.{ltb, T}
 use borrow.Author.Tests.{ltb-true, ltb-false}
 use Rattle.terms.specs.Expr.{Expr}

@@ -4,7 +4,7 @@ use mathlib.Core.Path.{_≡_}
 use Prim.Native.Nat.{ℕ, _+_, _*_, _≤_, _<_}
 use lib.ListN.{length, getD}
 use Rattle.terms.specs.Expr.{Expr}
-use Rattle.pool.specs.Node.{Kind, bad, var, const, bv, compare, ite, extract, concat, zext, sext, Cell, cellAt, widthAt, writeNode}
+use Rattle.pool.specs.Node.{Kind, bad, var, const, bv, compare, ite, extract, concat, zext, sext, Cell, cellAt, widthAt, writeNode, none}
 use Rattle.pool.specs.Rules.{Valid}
 use Rattle.pool.specs.Unfold.{unfoldAt}
 
@@ -52,7 +52,7 @@ pub record NodeIs (ws : List ℕ) (c n w : ℕ) (t : Expr) : Type 0 where
 -- room for m nodes after the first k
 pub record Room (ws : List ℕ) (k m : ℕ) : Type 0 where
   pub words : 4 * (k + m) ≤ length ws
-  pub numbers : k + m ≤ 65535
+  pub numbers : k + m ≤ none
 
 -- the four words of node k are written, and nothing else
 pub record Pushed (old : List ℕ) (k : ℕ) (new : List ℕ) (r k′ : ℕ) (w0 w1 w2 w3 : ℕ) : Type 0 where

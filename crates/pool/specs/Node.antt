@@ -94,6 +94,10 @@ widthAt ws n = widthOf (getD ws (4 * n) 0)
 abbrev pub writeNode : List ℕ → ℕ → (w0 w1 w2 w3 : ℕ) → List ℕ
 writeNode ws n w0 w1 w2 w3 = set (set (set (set ws (4 * n) w0) (4 * n + 1) w1) (4 * n + 2) w2) (4 * n + 3) w3
 
+-- the number that stands for no node; a pool has no more places
+abbrev pub none : ℕ
+none = 65535
+
 -- how many nodes the words have places for
 abbrev pub places : List ℕ → ℕ
-places ws = Prim.Native.Nat.min (length ws / 4) 65535
+places ws = Prim.Native.Nat.min (length ws / 4) none

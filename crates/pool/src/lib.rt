@@ -4,7 +4,7 @@ use terms::CmpOp;
 ghost use mathlib.Core.Path.{_≡_};
 ghost use Prim.Native.Nat.{_+_, _*_, _≤_, _<_, _%_};
 ghost use lib.ListN.{length};
-ghost use Rattle.pool.specs.Node.{kindWord, operandWord, widthAt, places, bvCode, compareCode};
+ghost use Rattle.pool.specs.Node.{kindWord, operandWord, widthAt, none, places, bvCode, compareCode};
 ghost use Rattle.pool.specs.Growth.{Room, Pushed};
 ghost use Rattle.pool.specs.Builders.{MadeVar, MadeConst, MadeBv, MadeCompare, MadeIte, MadeExtract, MadeConcat, MadeZeroExtend, MadeSignExtend};
 
@@ -18,7 +18,7 @@ impl Node {
     pub const NONE: usize = 65535;
 
     pub fn none() -> Self
-        ensures { λ r. ⌜ r .0 ≡ 65535 ⌝ }
+        ensures { λ r. ⌜ r .0 ≡ none ⌝ }
     {
         Node(Self::NONE)
     }

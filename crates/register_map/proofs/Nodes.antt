@@ -6,12 +6,12 @@ use Prim.Native.Nat.{ℕ, zero, suc, _+_, _<_}
 use native.Mathlib.Omega.{arith}
 use native.Mathlib.Nat.{add-zero, zero-add, add-suc, suc-add, le-of-suc-le-suc, not-suc-le-zero}
 use lib.Dec.{eqb}
-use lib.ListN.{length, getD, set, replicate}
+use lib.ListN.{length, getD, set}
 use lib.Seq.{ext-getD, getD-set-same, getD-set-other}
 use borrow.Author.Tests.{eqb-true, eqb-false}
 use Rattle.pool.specs.declared.Node.{Node}
 use Rattle.register_map.specs.declared.RegisterMap.{RegisterMap}
-use Rattle.register_map.specs.Map.{node, nodeOf, nodesFrom, firstMap, noMap, written}
+use Rattle.register_map.specs.Map.{node, nodeOf, nodesFrom, firstMap, written}
 
 from-length : (r k : ℕ) → length (nodesFrom r k) ≡ k
 unfolding nodesFrom
@@ -42,14 +42,6 @@ one-more l k e h f i g = go (eqb i k) refl
 
 pub first-is : (r : ℕ) → r < 32 → nodeOf firstMap r ≡ r
 first-is r h = ap (λ (n : Node). n .0) (from-at 0 32 r h) ∙ zero-add r
-
-replicate-at : (k j : ℕ) (n : Node) → j < k → getD (replicate k n) j (node 0) ≡ n
-replicate-at zero j n h = absurd (not-suc-le-zero h)
-replicate-at (suc k) zero n h = refl
-replicate-at (suc k) (suc j) n h = replicate-at k j n (le-of-suc-le-suc h)
-
-pub none-is : (r : ℕ) → r < 32 → nodeOf noMap r ≡ 65535
-none-is r h = ap (λ (n : Node). n .0) (replicate-at 32 r (node 65535) h)
 
 pub written-is : (m : RegisterMap) (d n count r : ℕ) → d < length (m .nodes) → nodeOf (written m d n count) r ≡ cond (eqb r d) n (nodeOf m r)
 written-is m d n count r h = go (eqb r d) refl

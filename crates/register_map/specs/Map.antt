@@ -3,6 +3,7 @@ use mathlib.Core.List.{List, [], _∷_}
 use Prim.Native.Nat.{ℕ, zero, suc}
 use lib.ListN.{getD, set, replicate}
 use Rattle.pool.specs.declared.Node.{Node}
+use Rattle.pool.specs.Node.{none}
 use Rattle.register_map.specs.declared.RegisterMap.{RegisterMap}
 
 abbrev pub node : ℕ → Node
@@ -23,7 +24,7 @@ firstMap = record { nodes = nodesFrom 0 32; count = 32 }
 
 -- 32 times no node
 abbrev pub noMap : RegisterMap
-noMap = record { nodes = replicate 32 (node 65535); count = 0 }
+noMap = record { nodes = replicate 32 (node none); count = 0 }
 
 -- n for register r
 abbrev pub written : RegisterMap → (r n count : ℕ) → RegisterMap

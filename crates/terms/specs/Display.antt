@@ -1,5 +1,5 @@
 -- The text of a term: `Display` of the Rust's expr.rs, as bytes. Registers are v0 to v31.
-use mathlib.Core.Bool.{Bool, true, false, cond}
+use mathlib.Core.Bool.{true, false, cond}
 use mathlib.Core.List.{List, _++_}
 use mathlib.Core.List as list
 use Prim.Native.Nat.{ℕ, zero, suc, _+_, _/_, _%_}

@@ -84,7 +84,7 @@ fn write_term(p: &[u64], n: Node, buf: &mut [u8], at: usize) -> usize
     if k < 15 {
         let i = put(b"(", buf, at);
         let j = operand(p, a, buf, i);
-        let l = put_infix(k, buf, j);
+        let l = put_infix(kind_of(p, n), buf, j);
         let m = operand(p, second(p, n), buf, l);
         return put(b")", buf, m);
     }
@@ -120,17 +120,17 @@ fn write_condition(p: &[u64], n: Node, buf: &mut [u8], at: usize) -> usize
     requires { ⌜ Room (now buf) at (text (now p) (n .0)) ⌝ }
     ensures { λ r. ⌜ Wrote (now (buf .entry)) at (text (now (p .entry)) (n .0)) r (now (buf .exit)) ⌝ }
 {
-    let k = kind_of(p, n);
     let i = put(b"(", buf, at);
     let j = operand(p, first(p, n), buf, i);
-    let l = put_infix(k, buf, j);
+    let l = put_infix(kind_of(p, n), buf, j);
     let m = operand(p, second(p, n), buf, l);
     put(b")", buf, m)
 }
 
 // An operand that is a vector term, and an Ite's condition. A call through these, which the compiler
 // puts in line, leaves `write_term` one place in its frame for the buffer's reference in the stead of
-// one for each call: about 100 bytes a level of nesting, and not 256.
+// one for each call: 80 bytes a level of nesting, and not 256. For its sake a kind is read again, too,
+// and not kept while an operand is written.
 fn operand(p: &[u64], n: Node, buf: &mut [u8], at: usize) -> usize
     requires { ⌜ Ready (now p) (n .0) ⌝ }
     requires { ⌜ 1 ≤ widthAt (now p) (n .0) ⌝ }

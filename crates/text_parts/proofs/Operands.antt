@@ -248,3 +248,10 @@ module _ (ws : List ℕ) (n : ℕ) (r : Ready ws n) (k : ℕ) (is-k : k ≡ kind
 
   pub width-small : (w : ℕ) → w ≡ widthAt ws n → w < 1000
   width-small w e = omega (arith, width-most ws n r)
+
+-- a kind that was read twice
+pub same-low : {κ k l : ℕ} → k ≡ κ → l ≡ κ → 3 ≤ k → 3 ≤ l
+same-low p q h = omega arith
+
+pub same-high : {κ k l : ℕ} → k ≡ κ → l ≡ κ → k < 15 → l < 15
+same-high p q h = omega arith

@@ -2,7 +2,7 @@
 use mathlib.Core.Bool.{Bool, true, false}
 use mathlib.Core.List.{List, [], _∷_}
 use Prim.Native.Nat.{ℕ}
-use Rattle.terms.specs.Expr.{Expr, Extract, ZeroExtend}
+use Rattle.terms.specs.Expr.{Expr, ZeroExtend}
 use Rattle.neon.specs.declared.Instruction.{Instruction}
 use Rattle.neon.specs.Op.{opAt, arrangementAt, full}
 use Rattle.neon.specs.Form.{form, firstFull, secondFull, byElement}

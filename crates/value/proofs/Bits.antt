@@ -3,7 +3,7 @@ use mathlib.Core.Path.{_≡_, refl, sym, ap, ap₂, _∙_, subst}
 use mathlib.Core.Bool.{Bool, true, false, cond}
 use Prim.Native.Nat.{ℕ, zero, suc, _+_, _-_, _*_, _/_, _%_, _^_, _≤_, _<_}
 use native.Mathlib.Omega.{arith}
-use native.Mathlib.Nat.{mod-lt, mod-eq-of-lt, pow-suc, div-one, div-le-self, add-zero, mul-mod-left}
+use native.Mathlib.Nat.{mod-lt, mod-eq-of-lt, div-one, div-le-self, add-zero, mul-mod-left}
 use borrow.Author.Tests.{eqb-true, eqb-false}
 use lib.Dec.{eqb}
 use lib.Bits as B
@@ -12,10 +12,10 @@ use lib.Pow.{pow-pos, shr-lt, shr-mod, shr-shr, shl-shr, field, mod-mod-pow, mod
 use lib.IntN.{ℤ, pos}
 use Rattle.facts.proofs.Numbers.{below}
 use Rattle.terms.specs.Expr.{Expr, Const, Bv, Compare, Ite, Extract, width}
-use Rattle.terms.specs.Value.{value, bit, bvshl, bvlshr}
+use Rattle.terms.specs.Value.{value, bvshl, bvlshr}
 use Rattle.terms.specs.declared.BinOp.the-variants.{Xor}
 use Rattle.terms.specs.declared.CmpOp.the-variants.{Eq}
-use Rattle.neon.specs.Arm.{wrap, floor, scale, bitAt, ones, equalRun, lane, lanes}
+use Rattle.neon.specs.Arm.{wrap, floor, scale, bitAt, ones, equalRun, lanes}
 use Rattle.trees.specs.Arith.{leadingZeros, populationCount, bitwiseUnaryLane, shiftInsertLane}
 use Rattle.trees.specs.Width.{highNarrowLane}
 use Rattle.trees.specs.declared.BitwiseUnary.the-variants.{LeadingSignBits, ReverseBits}

@@ -10,8 +10,7 @@ use lib.Dec.{ltb}
 use lib.Pow.{high-ones, pow-pos, pow-add, pow-mono}
 use lib.IntN.{ℤ, pos, negsuc, negℤ, _+ℤ_, _-ℤ_, _*ℤ_}
 use lib.Signed.{ltZ, shrZ}
-use Rattle.terms.specs.Value.{bit, msb, bvneg, bvnot, bvadd, bvsub, bvmul, bvshl, bvlshr, bvashr, bvslt, bvsext}
-use Rattle.neon.specs.Form.{most}
+use Rattle.terms.specs.Value.{msb, bvneg, bvnot, bvadd, bvsub, bvmul, bvshl, bvlshr, bvashr, bvslt, bvsext}
 use Rattle.neon.specs.Arm.{wrap, ones}
 use Rattle.value.proofs.Z.{up, dn, times, neg-up, neg-dn}
 use Rattle.value.proofs.Wrap.{half, over, under, wrap-eq, wrap-lt, wrap-is, wrap-add, wrap-mul}
@@ -72,10 +71,6 @@ wrap-pos w a h = mod-eq-of-lt h
 pub wrap-neg : (w a : ℕ) → a < 2 ^ w → wrap w (negsuc a) ≡ (2 ^ w - 1) - a
 unfolding wrap
 wrap-neg w a h = rw (mod-eq-of-lt h)
-
-pub unsigned : (w : ℕ) (z : ℤ) → FitsU w z → pos (wrap w z) ≡ z
-unsigned w (pos a) f = ap pos (wrap-pos w a (omega arith))
-unsigned w (negsuc a) f = absurd (omega arith)
 
 msb-clear : (w s : ℕ) → s < 2 ^ (w - 1) → msb w s ≡ 0
 unfolding msb

@@ -10,8 +10,8 @@ use lib.Pow.{pow-pos, pow-mono}
 use lib.IntN.{ℤ, pos, negsuc, negℤ, _-ℤ_}
 use lib.Signed.{ltZ, shrZ}
 use Rattle.terms.specs.Expr.{Expr}
-use Rattle.neon.specs.Arm.{wrap, S, reading, clampZ, cS, cU, lane}
-use Rattle.trees.specs.Arith.{clamped, clamp}
+use Rattle.neon.specs.Arm.{wrap, S, reading, clampZ, cS, cU}
+use Rattle.trees.specs.Arith.{clamp}
 use Rattle.trees.specs.declared.SaturateTo.the-variants.{Signed, Unsigned, SignedToUnsigned}
 use Rattle.value.proofs.Z.{up, dn, less, neg-up, neg-dn, ge-is, lt-is, lt-no, ext}
 use Rattle.value.proofs.Wrap.{half, wrap-is, wrap-lt, wrap-eq, over, under}

@@ -15,7 +15,6 @@ use Rattle.terms.specs.declared.BinOp.{BinOp}
 use Rattle.terms.specs.declared.CmpOp.{CmpOp}
 use Rattle.terms.specs.Rules.{Good}
 use Rattle.neon.specs.Form.{most}
-use Rattle.neon.specs.Arm.{lanes}
 use Rattle.trees.specs.Simd.{extractCollapsing, extractLane, concatLanes, joins}
 use Rattle.trees.specs.Lower.{extend}
 use Rattle.trees.specs.Arith.{clamp, shiftBy, plusIf, narrowed, negated, saturatingLane, shiftRight, shiftBound, saturatingShiftLeft, registerShiftMax, leftImmediate, signedAmount, leftBy, shiftLane, leadingZeros, populationCount, bitwiseUnaryLane, absoluteDifferenceLane, shiftInsertLane, mixedTo, mixedSignAddLane, doublingProduct, doublingLongLane}

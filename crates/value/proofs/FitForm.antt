@@ -17,7 +17,7 @@ use Rattle.neon.proofs.Geometry.{sized, source-some, filled, made-max, made-vie
 use Rattle.neon.proofs.Legal.{accepted, m-le}
 use Rattle.trees.specs.declared.SaturateTo.the-variants.{Signed, Unsigned, SignedToUnsigned}
 use Rattle.trees.specs.declared.Saturate.the-variants.{Never, Into}
-use Rattle.trees.specs.Simd.{extractLane, concatLanes}
+use Rattle.trees.specs.Simd.{concatLanes}
 use Rattle.trees.specs.Arith.{shiftLane, bitwiseUnaryLane, doublingLongLane}
 use Rattle.trees.specs.Neon.{neonOp, resultTree}
 use Rattle.trees.specs.Block.{readTree, widenTree, recordTree, treeStep, treeRun}

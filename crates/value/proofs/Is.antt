@@ -10,7 +10,7 @@ use lib.IntN.{ℤ, pos, negℤ, _+ℤ_, _-ℤ_, _*ℤ_}
 use lib.Signed.{ltZ, shrZ}
 use lib.Pow.{pow-pos}
 use Rattle.terms.specs.Expr.{Expr, Const, Bv, Compare, Ite, Extract, ZeroExtend, SignExtend, width}
-use Rattle.terms.specs.Value.{value, bit, ite, holds}
+use Rattle.terms.specs.Value.{value, bit, ite}
 use Rattle.terms.specs.declared.BinOp.the-variants.{Add, Sub, Mul, Shl, LShr, AShr}
 use Rattle.terms.specs.declared.CmpOp.the-variants.{Eq, Ult, Slt}
 use Rattle.neon.specs.Arm.{wrap}

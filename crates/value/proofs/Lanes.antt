@@ -1,13 +1,12 @@
 -- Lanes: a lane of a source, and lanes put together. Assumes nothing.
-use mathlib.Core.Path.{_≡_, refl, sym, ap, ap₂, subst, _∙_}
-use mathlib.Core.Bool.{Bool, true, false, cond, _&&_}
+use mathlib.Core.Path.{_≡_, refl, sym, ap, _∙_}
+use mathlib.Core.Bool.{Bool, true, false, cond}
 use Prim.Native.Nat.{ℕ, zero, suc, _+_, _-_, _*_, _/_, _%_, _^_, _≤_, _<_}
-use native.Mathlib.Nat.{div-one, mod-lt, mul-suc, mul-zero, mul-one, mod-eq-of-lt, sub-zero, mul-add-div-right, mul-add-mod-self-right, mul-comm}
+use native.Mathlib.Nat.{div-one, mod-lt, mul-suc, mul-zero, mul-one, sub-zero}
 use native.Mathlib.Omega.{arith}
-use borrow.Author.Tests.{leb-true, eqb-true, ltb-true, ltb-false}
-use lib.Dec.{T, leb, ltb, eqb}
-use lib.Arith.{digits-div, digits-lt}
-use lib.Pow.{pow-pos, pow-add, field, mod-mod-pow}
+use borrow.Author.Tests.{leb-true, eqb-true}
+use lib.Dec.{leb, eqb}
+use lib.Pow.{pow-pos, field, mod-mod-pow}
 use lib.IntN.{pos}
 use Rattle.facts.proofs.Tests.{and-both}
 use Rattle.terms.specs.Expr.{Expr, Var, Const, Bv, Compare, Ite, Extract, Concat, ZeroExtend, SignExtend, width}

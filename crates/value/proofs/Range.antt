@@ -1,10 +1,10 @@
 -- The value of a term that keeps the rules is a number of its width's bits, where the start's registers have 128. Assumes nothing.
-use mathlib.Core.Path.{_≡_, refl, sym, ap, _∙_, subst}
+use mathlib.Core.Path.{_≡_, sym, ap, _∙_, subst}
 use mathlib.Core.Bool.{Bool, true, false, cond}
 use mathlib.Core.List.{List}
 use Prim.Native.Nat.{ℕ, zero, suc, _+_, _-_, _*_, _/_, _%_, _^_, _≤_, _<_}
 use native.Mathlib.Omega.{arith}
-use native.Mathlib.Nat.{mod-lt, lt-of-lt-of-le, mul-le-mul, one-mul}
+use native.Mathlib.Nat.{mod-lt, lt-of-lt-of-le, mul-le-mul}
 use lib.Dec.{eqb}
 use lib.Arith.{digits-lt}
 use lib.Bits.{and-lt, or-lt, xor-lt}

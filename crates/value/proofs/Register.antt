@@ -1,20 +1,19 @@
 -- The shifts by a register, and by an immediate. Assumes nothing.
 use mathlib.Core.Path.{_≡_, refl, sym, ap, _∙_, subst}
 use mathlib.Core.Bool.{Bool, true, false, cond}
-use Prim.Native.Nat.{ℕ, zero, suc, _+_, _-_, _*_, _%_, _^_, _≤_, _<_}
+use Prim.Native.Nat.{ℕ, suc, _+_, _-_, _*_, _%_, _^_, _≤_, _<_}
 use native.Mathlib.Omega.{arith}
-use native.Mathlib.Nat.{mod-lt, mod-eq-of-lt, mul-le-mul-right, mul-le-mul-left, pow-suc, zero-add}
+use native.Mathlib.Nat.{mod-lt, mod-eq-of-lt, mul-le-mul-right, mul-le-mul-left, zero-add}
 use borrow.Author.Tests.{ltb-true, ltb-false}
 use lib.Dec.{ltb}
 use lib.Pow.{pow-pos, pow-mono, pow-add}
 use lib.IntN.{ℤ, pos, negsuc, _+ℤ_}
 use Rattle.facts.proofs.Numbers.{below}
 use Rattle.terms.specs.Expr.{Expr, Const, Bv, Compare, Ite, Extract, SignExtend, width}
-use Rattle.terms.specs.Value.{value}
 use Rattle.terms.specs.declared.BinOp.the-variants.{Sub}
 use Rattle.terms.specs.declared.CmpOp.the-variants.{Slt}
 use Rattle.neon.specs.Arm.{wrap, S, cU, floor, round, scale, byte, shiftZ, roundZ}
-use Rattle.trees.specs.Arith.{clamped, shiftBy, shiftRight, saturatingShiftLeft, registerShiftMax, leftImmediate, signedAmount, leftBy, shiftLane}
+use Rattle.trees.specs.Arith.{shiftBy, shiftRight, saturatingShiftLeft, registerShiftMax, leftImmediate, signedAmount, leftBy, shiftLane}
 use Rattle.trees.specs.declared.SaturateTo.the-variants.{SignedToUnsigned}
 use Rattle.trees.specs.declared.Saturate.the-variants.{Never, Into}
 use Rattle.trees.specs.declared.ShiftKind.the-variants.{Register}

@@ -7,11 +7,9 @@ use native.Mathlib.Nat.{mul-le-mul, mul-le-mul-left}
 use lib.Pow.{pow-pos, pow-mono, pow-add, pow-lt}
 use lib.IntN.{ℤ, pos, negsuc, negℤ, natAbs, _+ℤ_, _-ℤ_, _*ℤ_, +ℤ-idl}
 use lib.Signed.{ltZ}
-use Rattle.terms.specs.Expr.{Expr, Const, Bv, width}
-use Rattle.terms.specs.Value.{value, bit, holds}
+use Rattle.terms.specs.Expr.{Expr, Const, Bv}
 use Rattle.terms.specs.declared.BinOp.the-variants.{Add, Sub, Mul, Shl}
-use Rattle.neon.specs.Form.{most}
-use Rattle.neon.specs.Arm.{cS, cU, floor, lanes, doubled}
+use Rattle.neon.specs.Arm.{cS, cU, floor}
 use Rattle.trees.specs.Lower.{extend}
 use Rattle.trees.specs.Arith.{shiftBy, plusIf, saturatingLane, absoluteDifferenceLane, mixedSignAddLane, doublingProduct, doublingLongLane}
 use Rattle.trees.specs.Width.{sumOp}

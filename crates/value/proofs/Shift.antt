@@ -10,12 +10,12 @@ use lib.Pow.{pow-pos, pow-mono, pow-add}
 use lib.IntN.{ℤ, pos, negsuc, negℤ, _+ℤ_, _-ℤ_, _*ℤ_}
 use lib.Signed.{ltZ, shrZ}
 use Rattle.terms.specs.Expr.{Expr, Const, Bv, Compare, Ite}
-use Rattle.terms.specs.Value.{value, bit}
+use Rattle.terms.specs.Value.{value}
 use Rattle.terms.specs.declared.BinOp.the-variants.{Shl}
 use Rattle.terms.specs.declared.CmpOp.the-variants.{Eq}
 use Rattle.neon.specs.Form.{most}
 use Rattle.neon.specs.Arm.{wrap, reading, cS, cU, lane}
-use Rattle.trees.specs.Arith.{clamped, shiftBy, shiftRight, shiftBound, saturatingShiftLeft}
+use Rattle.trees.specs.Arith.{shiftBy, shiftRight, shiftBound, saturatingShiftLeft}
 use Rattle.value.proofs.Z.{up, dn, sum, less, times, ext, Floor, floored, ge-is}
 use Rattle.value.proofs.Wrap.{half, wrap-lt, over, under, wrap-is}
 use Rattle.value.proofs.Bv.{FitsS, FitsU, Fits, wrap-pos}

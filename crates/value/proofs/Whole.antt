@@ -1,14 +1,14 @@
 -- The value of the term of a whole result is the Arm result, at every operation, arrangement and immediate of its row. Assumes nothing.
 use mathlib.Core.Path.{_≡_, refl, ap, _∙_}
-use mathlib.Core.Bool.{Bool, true, false, cond}
+use mathlib.Core.Bool.{Bool, true, false}
 use Prim.Native.Nat.{ℕ, suc, _-_, _*_, _/_, _≤_, _<_}
 use native.Mathlib.Omega.{arith}
 use native.Mathlib.Nat.{div-one}
 use Rattle.terms.specs.Expr.{Expr, Concat, width}
 use Rattle.terms.specs.Value.{value}
-use Rattle.neon.specs.Op.{Op, Arrangement, B8, B16, H4, H8, S2, S4, D2, laneBits, full, bitsIf, view, SHL, SQSHLI, UQSHLI, SQSHLU, SSHR, USHR, SRSHR, URSHR, SSHL, USHL, SRSHL, URSHL, SQSHL, UQSHL, SQRSHL, UQRSHL, SLI, SRI, SQADD, UQADD, SQSUB, UQSUB, SHADD, UHADD, SRHADD, URHADD, SQXTN, UQXTN, SQXTUN, SHRN, RSHRN, SQSHRN, SQRSHRN, UQSHRN, UQRSHRN, SQSHRUN, SQRSHRUN, SQABS, SQNEG, SQDMULH, SQRDMULH, SQDMULL, SQDMLAL, SQDMLSL, SQDMULL2, SQDMLAL2, SQDMLSL2, SQDMULLE, SQDMLALE, SQDMLSLE, SQDMULL2E, SQDMLAL2E, SQDMLSL2E, SUQADD, USQADD, SABD, UABD, SABA, UABA, CNT, CLZ, CLS, RBIT, ADDHN, RADDHN, SUBHN, RSUBHN}
+use Rattle.neon.specs.Op.{Op, Arrangement, laneBits, full, bitsIf, view, SHL, SQSHLI, UQSHLI, SQSHLU, SSHR, USHR, SRSHR, URSHR, SSHL, USHL, SRSHL, URSHL, SQSHL, UQSHL, SQRSHL, UQRSHL, SLI, SRI, SQADD, UQADD, SQSUB, UQSUB, SHADD, UHADD, SRHADD, URHADD, SQXTN, UQXTN, SQXTUN, SHRN, RSHRN, SQSHRN, SQRSHRN, UQSHRN, UQRSHRN, SQSHRUN, SQRSHRUN, SQABS, SQNEG, SQDMULH, SQRDMULH, SQDMULL, SQDMLAL, SQDMLSL, SQDMULL2, SQDMLAL2, SQDMLSL2, SQDMULLE, SQDMLALE, SQDMLSLE, SQDMULL2E, SQDMLAL2E, SQDMLSL2E, SUQADD, USQADD, SABD, UABD, SABA, UABA, CNT, CLZ, CLS, RBIT, ADDHN, RADDHN, SUBHN, RSUBHN}
 use Rattle.neon.specs.Form.{Lanes, Same, Narrow, Long, form, least, most, sourceBits, madeBits, laneCount, firstLane, secondLane, byElement}
-use Rattle.neon.specs.Arm.{armLane, lane, lanes, armAt, placeBits, armResult}
+use Rattle.neon.specs.Arm.{lane, lanes, armAt, placeBits, armResult}
 use Rattle.neon.proofs.Lanes.{lanes-eq}
 use Rattle.neon.proofs.Geometry.{sized, source-some, filled, by-half}
 use Rattle.trees.specs.Simd.{extract, extractLane, concatLanes}

@@ -1,12 +1,12 @@
+use Rattle.lower_record.proofs.Recording.{recorded, read-flags, widen-flag, registers-in, nodes-in}
 use native.Mathlib.Omega.{arith}
 use mathlib.Core.Path.{_≡_, refl, _∙_}
 use Rattle.neon.specs.Op.{opAt, arrangementAt}
 use Rattle.neon.specs.Refusal.{formNumber}
-use Rattle.neon.proofs.Legal.{accepted, m-le}
+use Rattle.neon.proofs.Legal.{accepted}
 use Rattle.form.proofs.Parts.{coded}
 use Rattle.block_check.specs.Records.{instruction}
 use Rattle.block_check.proofs.Refusals.{form-legal}
-use Rattle.lower_record.proofs.Recording.{recorded, read-flags, widen-flag}
 use borrow.Author.Needs.{needs}
 use Rattle.lower_record.proofs.lower_record.Statement.{statement}
 use Rattle.lower_record.proofs.lower_record.Tie as tie
@@ -25,13 +25,15 @@ first-full-requires c κs = search needs
 get-requires : tie.Need-get-requires
 get-requires c κs =
     let st = c .before .before .before .before .before in
-    omega (arith, accepted (instruction (st .args .operation) (st .args .arrangement) (st .args .i) (st .args .d) (st .args .n) (st .args .m)) (st .pre .1 .1) .at-n)
+    let r = registers-in (instruction (st .args .operation) (st .args .arrangement) (st .args .i) (st .args .d) (st .args .n) (st .args .m)) (st .pre .1 .1) in
+    omega (arith, r .0, r .1, r .2)
 
 read-if-requires : tie.Need-read-if-requires
 read-if-requires c κs =
     let l-get = c in
     let st = l-get .before .before .before .before .before .before in
-    (record { words = omega (arith, st .pre .0 .words, st .pre .0 .numbers); numbers = omega (arith, st .pre .0 .words, st .pre .0 .numbers) }, omega (arith, (st .pre .1 .0 .below) (st .args .n) (omega (arith, accepted (instruction (st .args .operation) (st .args .arrangement) (st .args .i) (st .args .d) (st .args .n) (st .args .m)) (st .pre .1 .1) .at-n, m-le (opAt (st .args .operation)) (arrangementAt (st .args .arrangement)))), l-get .get .ensures))
+    let q = nodes-in (st .args .map) (st .pre .1 .0) (instruction (st .args .operation) (st .args .arrangement) (st .args .i) (st .args .d) (st .args .n) (st .args .m)) (st .pre .1 .1) in
+    (record { words = omega (arith, st .pre .0 .words, st .pre .0 .numbers); numbers = omega (arith, st .pre .0 .words, st .pre .0 .numbers) }, omega (arith, q .0, q .1, q .2, l-get .get .ensures))
 
 has-second-requires : tie.Need-has-second-requires
 has-second-requires c κs = search needs
@@ -42,14 +44,16 @@ second-full-requires c κs = search needs
 get-requires-2 : tie.Need-get-requires-2
 get-requires-2 c κs =
     let st = c .before .before .before .before .before .before .before .before .before .before .before .before in
-    omega (arith, accepted (instruction (st .args .operation) (st .args .arrangement) (st .args .i) (st .args .d) (st .args .n) (st .args .m)) (st .pre .1 .1) .at-m, m-le (opAt (st .args .operation)) (arrangementAt (st .args .arrangement)))
+    let r = registers-in (instruction (st .args .operation) (st .args .arrangement) (st .args .i) (st .args .d) (st .args .n) (st .args .m)) (st .pre .1 .1) in
+    omega (arith, r .0, r .1, r .2)
 
 read-if-requires-2 : tie.Need-read-if-requires-2
 read-if-requires-2 c κs =
     let l-get2 = c in
     let l-read-if = l-get2 .before .before .before .before .before .before in
     let st = l-read-if .before .before .before .before .before .before .before in
-    (record { words = omega (arith, st .pre .0 .words, st .pre .0 .numbers, l-read-if .read-if .ensures .more, l-read-if .read-if .ensures .most, l-read-if .read-if .ensures .long); numbers = omega (arith, st .pre .0 .words, st .pre .0 .numbers, l-read-if .read-if .ensures .more, l-read-if .read-if .ensures .most, l-read-if .read-if .ensures .long) }, omega (arith, (st .pre .1 .0 .below) (st .args .m) (omega (arith, accepted (instruction (st .args .operation) (st .args .arrangement) (st .args .i) (st .args .d) (st .args .n) (st .args .m)) (st .pre .1 .1) .at-m, m-le (opAt (st .args .operation)) (arrangementAt (st .args .arrangement)))), l-get2 .get2 .ensures, l-read-if .read-if .ensures .more, l-read-if .read-if .ensures .most, l-read-if .read-if .ensures .long))
+    let q = nodes-in (st .args .map) (st .pre .1 .0) (instruction (st .args .operation) (st .args .arrangement) (st .args .i) (st .args .d) (st .args .n) (st .args .m)) (st .pre .1 .1) in
+    (record { words = omega (arith, st .pre .0 .words, st .pre .0 .numbers, l-read-if .read-if .ensures .more, l-read-if .read-if .ensures .most, l-read-if .read-if .ensures .long); numbers = omega (arith, st .pre .0 .words, st .pre .0 .numbers, l-read-if .read-if .ensures .more, l-read-if .read-if .ensures .most, l-read-if .read-if .ensures .long) }, omega (arith, q .0, q .1, q .2, l-get2 .get2 .ensures, l-read-if .read-if .ensures .more, l-read-if .read-if .ensures .most, l-read-if .read-if .ensures .long))
 
 reads-d-requires : tie.Need-reads-d-requires
 reads-d-requires c κs = search needs
@@ -57,7 +61,8 @@ reads-d-requires c κs = search needs
 get-requires-3 : tie.Need-get-requires-3
 get-requires-3 c κs =
     let st = c .before .before .before .before .before .before .before .before .before .before .before .before .before .before .before .before .before .before in
-    omega (arith, accepted (instruction (st .args .operation) (st .args .arrangement) (st .args .i) (st .args .d) (st .args .n) (st .args .m)) (st .pre .1 .1) .at-d)
+    let r = registers-in (instruction (st .args .operation) (st .args .arrangement) (st .args .i) (st .args .d) (st .args .n) (st .args .m)) (st .pre .1 .1) in
+    omega (arith, r .0, r .1, r .2)
 
 read-if-requires-3 : tie.Need-read-if-requires-3
 read-if-requires-3 c κs =
@@ -65,7 +70,8 @@ read-if-requires-3 c κs =
     let l-read-if2 = l-get3 .before .before .before .before .before in
     let l-read-if = l-read-if2 .before .before .before .before .before .before .before in
     let st = l-read-if .before .before .before .before .before .before .before in
-    (record { words = omega (arith, st .pre .0 .words, st .pre .0 .numbers, l-read-if .read-if .ensures .more, l-read-if .read-if .ensures .most, l-read-if .read-if .ensures .long, l-read-if2 .read-if2 .ensures .more, l-read-if2 .read-if2 .ensures .most, l-read-if2 .read-if2 .ensures .long); numbers = omega (arith, st .pre .0 .words, st .pre .0 .numbers, l-read-if .read-if .ensures .more, l-read-if .read-if .ensures .most, l-read-if .read-if .ensures .long, l-read-if2 .read-if2 .ensures .more, l-read-if2 .read-if2 .ensures .most, l-read-if2 .read-if2 .ensures .long) }, omega (arith, (st .pre .1 .0 .below) (st .args .d) (omega (arith, accepted (instruction (st .args .operation) (st .args .arrangement) (st .args .i) (st .args .d) (st .args .n) (st .args .m)) (st .pre .1 .1) .at-d, m-le (opAt (st .args .operation)) (arrangementAt (st .args .arrangement)))), l-get3 .get3 .ensures, l-read-if .read-if .ensures .more, l-read-if .read-if .ensures .most, l-read-if .read-if .ensures .long, l-read-if2 .read-if2 .ensures .more, l-read-if2 .read-if2 .ensures .most, l-read-if2 .read-if2 .ensures .long))
+    let q = nodes-in (st .args .map) (st .pre .1 .0) (instruction (st .args .operation) (st .args .arrangement) (st .args .i) (st .args .d) (st .args .n) (st .args .m)) (st .pre .1 .1) in
+    (record { words = omega (arith, st .pre .0 .words, st .pre .0 .numbers, l-read-if .read-if .ensures .more, l-read-if .read-if .ensures .most, l-read-if .read-if .ensures .long, l-read-if2 .read-if2 .ensures .more, l-read-if2 .read-if2 .ensures .most, l-read-if2 .read-if2 .ensures .long); numbers = omega (arith, st .pre .0 .words, st .pre .0 .numbers, l-read-if .read-if .ensures .more, l-read-if .read-if .ensures .most, l-read-if .read-if .ensures .long, l-read-if2 .read-if2 .ensures .more, l-read-if2 .read-if2 .ensures .most, l-read-if2 .read-if2 .ensures .long) }, omega (arith, q .0, q .1, q .2, l-get3 .get3 .ensures, l-read-if .read-if .ensures .more, l-read-if .read-if .ensures .most, l-read-if .read-if .ensures .long, l-read-if2 .read-if2 .ensures .more, l-read-if2 .read-if2 .ensures .most, l-read-if2 .read-if2 .ensures .long))
 
 lower-form-requires : tie.Need-lower-form-requires
 lower-form-requires c κs =
@@ -93,7 +99,8 @@ widen-requires c κs =
 set-requires : tie.Need-set-requires
 set-requires c κs =
     let st = c .before .before .before .before .before .before .before .before .before .before .before .before .before .before .before .before .before .before .before .before .before .before .before .before .before .before .before .before .before .before in
-    omega (arith, accepted (instruction (st .args .operation) (st .args .arrangement) (st .args .i) (st .args .d) (st .args .n) (st .args .m)) (st .pre .1 .1) .at-d)
+    let r = registers-in (instruction (st .args .operation) (st .args .arrangement) (st .args .i) (st .args .d) (st .args .n) (st .args .m)) (st .pre .1 .1) in
+    omega (arith, r .0, r .1, r .2)
 
 same-length : tie.Need-same-length
 same-length c =
@@ -122,11 +129,12 @@ returns c =
     let l-is-full = l-first-full .before .before in
     let l-form-code = l-is-full .before in
     let st = l-form-code .before .before in
+    let r = registers-in (instruction (st .args .operation) (st .args .arrangement) (st .args .i) (st .args .d) (st .args .n) (st .args .m)) (st .pre .1 .1) in
     let z : formNumber (st .args .operation) (st .args .arrangement) (st .args .i) 0 ≡ 0 = form-legal (instruction (st .args .operation) (st .args .arrangement) (st .args .i) (st .args .d) (st .args .n) (st .args .m)) (st .pre .1 .1) in
     let k = coded (st .args .operation) (st .args .arrangement) (st .args .i) 0 z in
     let e = l-form-code .form-code .ensures ∙ k .1 in
     rw (l-set .set .ensures)
-    (recorded (st .args .map) (st .pre .1 .0) (instruction (st .args .operation) (st .args .arrangement) (st .args .i) (st .args .d) (st .args .n) (st .args .m)) (omega (arith, accepted (instruction (st .args .operation) (st .args .arrangement) (st .args .i) (st .args .d) (st .args .n) (st .args .m)) (st .pre .1 .1) .at-d)) (omega (arith, accepted (instruction (st .args .operation) (st .args .arrangement) (st .args .i) (st .args .d) (st .args .n) (st .args .m)) (st .pre .1 .1) .at-n)) (omega (arith, accepted (instruction (st .args .operation) (st .args .arrangement) (st .args .i) (st .args .d) (st .args .n) (st .args .m)) (st .pre .1 .1) .at-m, m-le (opAt (st .args .operation)) (arrangementAt (st .args .arrangement)))) (opAt (st .args .operation)) (arrangementAt (st .args .arrangement)) refl refl
+    (recorded (st .args .map) (st .pre .1 .0) (instruction (st .args .operation) (st .args .arrangement) (st .args .i) (st .args .d) (st .args .n) (st .args .m)) (r .0) (r .1) (r .2) (opAt (st .args .operation)) (arrangementAt (st .args .arrangement)) refl refl
     (l-get .get .ensures) (l-get2 .get2 .ensures) (l-get3 .get3 .ensures)
     (read-flags refl (l-first-full .first-full .ensures (opAt (st .args .operation)) (arrangementAt (st .args .arrangement)) (k .0) e) (l-read-if .read-if .ensures))
     (read-flags (l-has-second .has-second .ensures (opAt (st .args .operation)) (arrangementAt (st .args .arrangement)) (k .0) e) (l-second-full .second-full .ensures (opAt (st .args .operation)) (arrangementAt (st .args .arrangement)) (k .0) e) (l-read-if2 .read-if2 .ensures))

@@ -1,4 +1,4 @@
-use borrow.Author.Tests.{not-true}
+use borrow.Author.Tests.{not-true, not-false}
 use native.Mathlib.Omega.{arith}
 use mathlib.Core.Path.{refl}
 use Rattle.lower_record.proofs.Recording.{read-none, read-whole, read-half}
@@ -35,8 +35,9 @@ returns-3 : tie.Need-returns-3
 returns-3 c =
     let l-extract = c .before .before in
     let l-if2 = l-extract .before .before in
-    let st = l-if2 .before .before .before in
-    read-half (st .pre .0) (st .pre .1) (l-if2 .if2 .left) (l-extract .extract .ensures)
+    let l-if1 = l-if2 .before in
+    let st = l-if1 .before .before in
+    read-half (st .pre .0) (st .pre .1) (not-false (st .args .used) (l-if1 .if1 .left)) (l-if2 .if2 .left) (l-extract .extract .ensures)
 
 pub read-if-spec : {M : Type 1} → statement M
 read-if-spec =

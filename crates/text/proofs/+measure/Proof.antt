@@ -1,3 +1,4 @@
+-- `measure`: what is left of the ceiling after each of a node's parts. Assumes nothing.
 use native.Mathlib.Omega.{arith}
 use borrow.Author.Needs.{needs}
 use Rattle.text_parts.proofs.Operands.{from-three, from-eighteen, bin-a, bin-b, ite-a, ite-b, ite-c, extract-a, concat-a, concat-b, extend-a, register-small, hi-small, lo-small, width-small}
@@ -33,46 +34,16 @@ measure-below t = and 1 measure-kinds.ps (falls 1 measure-kinds.ps _<_ μ-measur
 
 -- what the functions that `measure` calls ask and ensure
 abbrev measure-claims : ℕ → measure-lts.Claims
-measure-claims t = (
-  kind-of-reads.Asked,
-  kind-of-reads.Learnt,
-  low-reads.Asked,
-  low-reads.Learnt,
-  decimal-length-reads.Asked,
-  decimal-length-reads.Learnt,
-  less-reads.Asked,
-  less-reads.Learnt,
-  width-of-reads.Asked,
-  width-of-reads.Learnt,
-  high-reads.Asked,
-  high-reads.Learnt,
-  less-hex-reads.Asked,
-  less-hex-reads.Learnt,
-  first-reads.Asked,
-  first-reads.Learnt,
-  infix-length-reads.Asked,
-  infix-length-reads.Learnt,
-  measure-below t,
-  measure.Post,
-  second-reads.Asked,
-  second-reads.Learnt,
-  third-reads.Asked,
-  third-reads.Learnt,
-)
+measure-claims t = (kind-of-reads.Asked, kind-of-reads.Learnt, low-reads.Asked, low-reads.Learnt, decimal-length-reads.Asked, decimal-length-reads.Learnt, less-reads.Asked, less-reads.Learnt, width-of-reads.Asked, width-of-reads.Learnt, high-reads.Asked, high-reads.Learnt, less-hex-reads.Asked, less-hex-reads.Learnt, first-reads.Asked, first-reads.Learnt, infix-length-reads.Asked, infix-length-reads.Learnt, measure-below t, measure.Post, second-reads.Asked, second-reads.Learnt, third-reads.Asked, third-reads.Learnt)
 
 measure-returns : (t : ℕ) → measure-lts.Need-returns (measure-claims t) (measure-at t) measure.Post
-measure-returns t c =
-    omega arith
+measure-returns t c = omega arith
 
 measure-kind-of-requires : (t : ℕ) → measure-lts.Need-kind-of-requires (measure-claims t) (measure-at t) measure.Post
-measure-kind-of-requires t c κs =
-    let st = c .before .before in
-    st .pre .1 .inside
+measure-kind-of-requires t c κs = c .before .before .pre .1 .inside
 
 measure-low-requires : (t : ℕ) → measure-lts.Need-low-requires (measure-claims t) (measure-at t) measure.Post
-measure-low-requires t c κs =
-    let st = c .before .before .before .before in
-    st .pre .1 .inside
+measure-low-requires t c κs = c .before .before .before .before .pre .1 .inside
 
 measure-decimal-length-requires : (t : ℕ) → measure-lts.Need-decimal-length-requires (measure-claims t) (measure-at t) measure.Post
 measure-decimal-length-requires t c κs =
@@ -83,13 +54,10 @@ measure-decimal-length-requires t c κs =
     register-small (st .args .p .now) (st .args .n .0) (st .pre .1) (l-kind-of .kind-of .result) (l-kind-of .kind-of .ensures) (l-low .low .result) (l-low .low .ensures) (l-if2 .if2 .taken)
 
 measure-add-less : (t : ℕ) → measure-lts.Need-add-less (measure-claims t) (measure-at t) measure.Post
-measure-add-less t c =
-    let l-decimal-length = c in
-    omega (arith, l-decimal-length .decimal-length .ensures .1)
+measure-add-less t c = omega (arith, c .decimal-length .ensures .1)
 
 measure-less-requires : (t : ℕ) → measure-lts.Need-less-requires (measure-claims t) (measure-at t) measure.Post
-measure-less-requires t c κs =
-    search needs
+measure-less-requires t c κs = search needs
 
 measure-returns-2 : (t : ℕ) → measure-lts.Need-returns-2 (measure-claims t) (measure-at t) measure.Post
 measure-returns-2 t c =
@@ -102,9 +70,7 @@ measure-returns-2 t c =
     omega (arith, size-var (st .args .p .now) (st .args .n .0) (st .pre .1) (l-kind-of .kind-of .result) (l-kind-of .kind-of .ensures) (l-low .low .result) (l-low .low .ensures) (l-if2 .if2 .taken), l-less .less .ensures, l-decimal-length .decimal-length .ensures .0)
 
 measure-width-of-requires : (t : ℕ) → measure-lts.Need-width-of-requires (measure-claims t) (measure-at t) measure.Post
-measure-width-of-requires t c κs =
-    let st = c .before .before .before .before .before in
-    st .pre .1 .inside
+measure-width-of-requires t c κs = c .before .before .before .before .before .pre .1 .inside
 
 measure-decimal-length-requires-2 : (t : ℕ) → measure-lts.Need-decimal-length-requires-2 (measure-claims t) (measure-at t) measure.Post
 measure-decimal-length-requires-2 t c κs =
@@ -114,27 +80,19 @@ measure-decimal-length-requires-2 t c κs =
     width-small (st .args .p .now) (st .args .n .0) (st .pre .1) (l-kind-of .kind-of .result) (l-kind-of .kind-of .ensures) (l-width-of .width-of .result) (l-width-of .width-of .ensures)
 
 measure-add-less-2 : (t : ℕ) → measure-lts.Need-add-less-2 (measure-claims t) (measure-at t) measure.Post
-measure-add-less-2 t c =
-    let l-decimal-length2 = c in
-    omega (arith, l-decimal-length2 .decimal-length2 .ensures .1)
+measure-add-less-2 t c = omega (arith, c .decimal-length2 .ensures .1)
 
 measure-less-requires-2 : (t : ℕ) → measure-lts.Need-less-requires-2 (measure-claims t) (measure-at t) measure.Post
-measure-less-requires-2 t c κs =
-    search needs
+measure-less-requires-2 t c κs = search needs
 
 measure-low-requires-2 : (t : ℕ) → measure-lts.Need-low-requires-2 (measure-claims t) (measure-at t) measure.Post
-measure-low-requires-2 t c κs =
-    let st = c .before .before .before .before .before .before .before .before in
-    st .pre .1 .inside
+measure-low-requires-2 t c κs = c .before .before .before .before .before .before .before .before .pre .1 .inside
 
 measure-high-requires : (t : ℕ) → measure-lts.Need-high-requires (measure-claims t) (measure-at t) measure.Post
-measure-high-requires t c κs =
-    let st = c .before .before .before .before .before .before .before .before .before in
-    st .pre .1 .inside
+measure-high-requires t c κs = c .before .before .before .before .before .before .before .before .before .pre .1 .inside
 
 measure-less-hex-requires : (t : ℕ) → measure-lts.Need-less-hex-requires (measure-claims t) (measure-at t) measure.Post
-measure-less-hex-requires t c κs =
-    search needs
+measure-less-hex-requires t c κs = search needs
 
 measure-returns-3 : (t : ℕ) → measure-lts.Need-returns-3 (measure-claims t) (measure-at t) measure.Post
 measure-returns-3 t c =
@@ -150,9 +108,7 @@ measure-returns-3 t c =
     omega (arith, size-const (st .args .p .now) (st .args .n .0) (st .pre .1) (l-kind-of .kind-of .result) (l-kind-of .kind-of .ensures) (l-low2 .low2 .result) (l-high .high .result) (l-width-of .width-of .result) (l-low2 .low2 .ensures) (l-high .high .ensures) (l-width-of .width-of .ensures) (l-if3 .if3 .taken), l-less2 .less2 .ensures, l-decimal-length2 .decimal-length2 .ensures .0, l-less-hex .less-hex .ensures)
 
 measure-first-requires : (t : ℕ) → measure-lts.Need-first-requires (measure-claims t) (measure-at t) measure.Post
-measure-first-requires t c κs =
-    let st = c .before .before .before .before .before in
-    st .pre .1 .inside
+measure-first-requires t c κs = c .before .before .before .before .before .pre .1 .inside
 
 measure-infix-length-requires : (t : ℕ) → measure-lts.Need-infix-length-requires (measure-claims t) (measure-at t) measure.Post
 measure-infix-length-requires t c κs =
@@ -164,13 +120,10 @@ measure-infix-length-requires t c κs =
     ((from-three (st .args .p .now) (st .args .n .0) (st .pre .1) (l-kind-of .kind-of .result) (l-kind-of .kind-of .ensures) (l-if2 .if2 .left) (l-if3 .if3 .left)), l-if4 .if4 .taken)
 
 measure-add-less-3 : (t : ℕ) → measure-lts.Need-add-less-3 (measure-claims t) (measure-at t) measure.Post
-measure-add-less-3 t c =
-    let l-infix-length = c in
-    omega (arith, l-infix-length .infix-length .ensures .1)
+measure-add-less-3 t c = omega (arith, c .infix-length .ensures .1)
 
 measure-less-requires-3 : (t : ℕ) → measure-lts.Need-less-requires-3 (measure-claims t) (measure-at t) measure.Post
-measure-less-requires-3 t c κs =
-    search needs
+measure-less-requires-3 t c κs = search needs
 
 measure-measure-requires : (t : ℕ) → measure-lts.Need-measure-requires (measure-claims t) (measure-at t) measure.Post
 measure-measure-requires t c κs =
@@ -183,9 +136,7 @@ measure-measure-requires t c κs =
     let d = bin-a (st .args .p .now) (st .args .n .0) (st .pre .1) (l-kind-of .kind-of .result) (l-kind-of .kind-of .ensures) (l-first .first .result .0) (l-first .first .ensures) (from-three (st .args .p .now) (st .args .n .0) (st .pre .1) (l-kind-of .kind-of .result) (l-kind-of .kind-of .ensures) (l-if2 .if2 .left) (l-if3 .if3 .left)) (l-if4 .if4 .taken) in (omega (arith, st .pre .0, d .before), d .ready)
 
 measure-second-requires : (t : ℕ) → measure-lts.Need-second-requires (measure-claims t) (measure-at t) measure.Post
-measure-second-requires t c κs =
-    let st = c .before .before .before .before .before .before .before .before .before .before in
-    st .pre .1 .inside
+measure-second-requires t c κs = c .before .before .before .before .before .before .before .before .before .before .pre .1 .inside
 
 measure-measure-requires-2 : (t : ℕ) → measure-lts.Need-measure-requires-2 (measure-claims t) (measure-at t) measure.Post
 measure-measure-requires-2 t c κs =
@@ -213,8 +164,7 @@ measure-returns-4 t c =
     omega (arith, size-bin (st .args .p .now) (st .args .n .0) (st .pre .1) (l-kind-of .kind-of .result) (l-kind-of .kind-of .ensures) (l-first .first .result .0) (l-second .second .result .0) (l-first .first .ensures) (l-second .second .ensures) (from-three (st .args .p .now) (st .args .n .0) (st .pre .1) (l-kind-of .kind-of .result) (l-kind-of .kind-of .ensures) (l-if2 .if2 .left) (l-if3 .if3 .left)) (l-if4 .if4 .taken), l-infix-length .infix-length .ensures .0, l-less3 .less3 .ensures, l-measure .measure .ensures, l-measure2 .measure2 .ensures)
 
 measure-less-requires-4 : (t : ℕ) → measure-lts.Need-less-requires-4 (measure-claims t) (measure-at t) measure.Post
-measure-less-requires-4 t c κs =
-    search needs
+measure-less-requires-4 t c κs = search needs
 
 measure-measure-requires-3 : (t : ℕ) → measure-lts.Need-measure-requires-3 (measure-claims t) (measure-at t) measure.Post
 measure-measure-requires-3 t c κs =
@@ -225,9 +175,7 @@ measure-measure-requires-3 t c κs =
     let d = ite-a (st .args .p .now) (st .args .n .0) (st .pre .1) (l-kind-of .kind-of .result) (l-kind-of .kind-of .ensures) (l-first .first .result .0) (l-first .first .ensures) (l-if5 .if5 .taken) in (omega (arith, st .pre .0, d .before), d .ready)
 
 measure-second-requires-2 : (t : ℕ) → measure-lts.Need-second-requires-2 (measure-claims t) (measure-at t) measure.Post
-measure-second-requires-2 t c κs =
-    let st = c .before .before .before .before .before .before .before .before .before .before in
-    st .pre .1 .inside
+measure-second-requires-2 t c κs = c .before .before .before .before .before .before .before .before .before .before .pre .1 .inside
 
 measure-measure-requires-4 : (t : ℕ) → measure-lts.Need-measure-requires-4 (measure-claims t) (measure-at t) measure.Post
 measure-measure-requires-4 t c κs =
@@ -238,9 +186,7 @@ measure-measure-requires-4 t c κs =
     let d = ite-b (st .args .p .now) (st .args .n .0) (st .pre .1) (l-kind-of .kind-of .result) (l-kind-of .kind-of .ensures) (l-second2 .second2 .result .0) (l-second2 .second2 .ensures) (l-if5 .if5 .taken) in (omega (arith, st .pre .0, d .before), d .ready)
 
 measure-third-requires : (t : ℕ) → measure-lts.Need-third-requires (measure-claims t) (measure-at t) measure.Post
-measure-third-requires t c κs =
-    let st = c .before .before .before .before .before .before .before .before .before .before .before .before in
-    st .pre .1 .inside
+measure-third-requires t c κs = c .before .before .before .before .before .before .before .before .before .before .before .before .pre .1 .inside
 
 measure-measure-requires-5 : (t : ℕ) → measure-lts.Need-measure-requires-5 (measure-claims t) (measure-at t) measure.Post
 measure-measure-requires-5 t c κs =
@@ -265,9 +211,7 @@ measure-returns-5 t c =
     omega (arith, size-ite (st .args .p .now) (st .args .n .0) (st .pre .1) (l-kind-of .kind-of .result) (l-kind-of .kind-of .ensures) (l-first .first .result .0) (l-second2 .second2 .result .0) (l-third .third .result .0) (l-first .first .ensures) (l-second2 .second2 .ensures) (l-third .third .ensures) (l-if5 .if5 .taken), l-less4 .less4 .ensures, l-measure3 .measure3 .ensures, l-measure4 .measure4 .ensures, l-measure5 .measure5 .ensures)
 
 measure-low-requires-3 : (t : ℕ) → measure-lts.Need-low-requires-3 (measure-claims t) (measure-at t) measure.Post
-measure-low-requires-3 t c κs =
-    let st = c .before .before .before .before .before .before .before .before .before in
-    st .pre .1 .inside
+measure-low-requires-3 t c κs = c .before .before .before .before .before .before .before .before .before .pre .1 .inside
 
 measure-decimal-length-requires-3 : (t : ℕ) → measure-lts.Need-decimal-length-requires-3 (measure-claims t) (measure-at t) measure.Post
 measure-decimal-length-requires-3 t c κs =
@@ -278,18 +222,13 @@ measure-decimal-length-requires-3 t c κs =
     hi-small (st .args .p .now) (st .args .n .0) (st .pre .1) (l-kind-of .kind-of .result) (l-kind-of .kind-of .ensures) (l-low3 .low3 .result) (l-low3 .low3 .ensures) (l-if6 .if6 .taken)
 
 measure-add-less-4 : (t : ℕ) → measure-lts.Need-add-less-4 (measure-claims t) (measure-at t) measure.Post
-measure-add-less-4 t c =
-    let l-decimal-length3 = c in
-    omega (arith, l-decimal-length3 .decimal-length3 .ensures .1)
+measure-add-less-4 t c = omega (arith, c .decimal-length3 .ensures .1)
 
 measure-less-requires-5 : (t : ℕ) → measure-lts.Need-less-requires-5 (measure-claims t) (measure-at t) measure.Post
-measure-less-requires-5 t c κs =
-    search needs
+measure-less-requires-5 t c κs = search needs
 
 measure-high-requires-2 : (t : ℕ) → measure-lts.Need-high-requires-2 (measure-claims t) (measure-at t) measure.Post
-measure-high-requires-2 t c κs =
-    let st = c .before .before .before .before .before .before .before .before .before .before .before .before in
-    st .pre .1 .inside
+measure-high-requires-2 t c κs = c .before .before .before .before .before .before .before .before .before .before .before .before .pre .1 .inside
 
 measure-decimal-length-requires-4 : (t : ℕ) → measure-lts.Need-decimal-length-requires-4 (measure-claims t) (measure-at t) measure.Post
 measure-decimal-length-requires-4 t c κs =
@@ -300,8 +239,7 @@ measure-decimal-length-requires-4 t c κs =
     lo-small (st .args .p .now) (st .args .n .0) (st .pre .1) (l-kind-of .kind-of .result) (l-kind-of .kind-of .ensures) (l-high2 .high2 .result) (l-high2 .high2 .ensures) (l-if6 .if6 .taken)
 
 measure-less-requires-6 : (t : ℕ) → measure-lts.Need-less-requires-6 (measure-claims t) (measure-at t) measure.Post
-measure-less-requires-6 t c κs =
-    search needs
+measure-less-requires-6 t c κs = search needs
 
 measure-measure-requires-6 : (t : ℕ) → measure-lts.Need-measure-requires-6 (measure-claims t) (measure-at t) measure.Post
 measure-measure-requires-6 t c κs =
@@ -327,8 +265,7 @@ measure-returns-6 t c =
     omega (arith, size-extract (st .args .p .now) (st .args .n .0) (st .pre .1) (l-kind-of .kind-of .result) (l-kind-of .kind-of .ensures) (l-first .first .result .0) (l-low3 .low3 .result) (l-high2 .high2 .result) (l-first .first .ensures) (l-low3 .low3 .ensures) (l-high2 .high2 .ensures) (l-if6 .if6 .taken), l-decimal-length3 .decimal-length3 .ensures .0, l-decimal-length4 .decimal-length4 .ensures .0, l-less5 .less5 .ensures, l-less6 .less6 .ensures, l-measure6 .measure6 .ensures)
 
 measure-less-requires-7 : (t : ℕ) → measure-lts.Need-less-requires-7 (measure-claims t) (measure-at t) measure.Post
-measure-less-requires-7 t c κs =
-    search needs
+measure-less-requires-7 t c κs = search needs
 
 measure-measure-requires-7 : (t : ℕ) → measure-lts.Need-measure-requires-7 (measure-claims t) (measure-at t) measure.Post
 measure-measure-requires-7 t c κs =
@@ -339,9 +276,7 @@ measure-measure-requires-7 t c κs =
     let d = concat-a (st .args .p .now) (st .args .n .0) (st .pre .1) (l-kind-of .kind-of .result) (l-kind-of .kind-of .ensures) (l-first .first .result .0) (l-first .first .ensures) (l-if7 .if7 .taken) in (omega (arith, st .pre .0, d .before), d .ready)
 
 measure-second-requires-3 : (t : ℕ) → measure-lts.Need-second-requires-3 (measure-claims t) (measure-at t) measure.Post
-measure-second-requires-3 t c κs =
-    let st = c .before .before .before .before .before .before .before .before .before .before .before .before in
-    st .pre .1 .inside
+measure-second-requires-3 t c κs = c .before .before .before .before .before .before .before .before .before .before .before .before .pre .1 .inside
 
 measure-measure-requires-8 : (t : ℕ) → measure-lts.Need-measure-requires-8 (measure-claims t) (measure-at t) measure.Post
 measure-measure-requires-8 t c κs =
@@ -364,9 +299,7 @@ measure-returns-7 t c =
     omega (arith, size-concat (st .args .p .now) (st .args .n .0) (st .pre .1) (l-kind-of .kind-of .result) (l-kind-of .kind-of .ensures) (l-first .first .result .0) (l-second3 .second3 .result .0) (l-first .first .ensures) (l-second3 .second3 .ensures) (l-if7 .if7 .taken), l-less7 .less7 .ensures, l-measure7 .measure7 .ensures, l-measure8 .measure8 .ensures)
 
 measure-width-of-requires-2 : (t : ℕ) → measure-lts.Need-width-of-requires-2 (measure-claims t) (measure-at t) measure.Post
-measure-width-of-requires-2 t c κs =
-    let st = c .before .before .before .before .before .before .before .before .before .before in
-    st .pre .1 .inside
+measure-width-of-requires-2 t c κs = c .before .before .before .before .before .before .before .before .before .before .pre .1 .inside
 
 measure-decimal-length-requires-5 : (t : ℕ) → measure-lts.Need-decimal-length-requires-5 (measure-claims t) (measure-at t) measure.Post
 measure-decimal-length-requires-5 t c κs =
@@ -376,13 +309,10 @@ measure-decimal-length-requires-5 t c κs =
     width-small (st .args .p .now) (st .args .n .0) (st .pre .1) (l-kind-of .kind-of .result) (l-kind-of .kind-of .ensures) (l-width-of2 .width-of2 .result) (l-width-of2 .width-of2 .ensures)
 
 measure-add-less-5 : (t : ℕ) → measure-lts.Need-add-less-5 (measure-claims t) (measure-at t) measure.Post
-measure-add-less-5 t c =
-    let l-decimal-length5 = c in
-    omega (arith, l-decimal-length5 .decimal-length5 .ensures .1)
+measure-add-less-5 t c = omega (arith, c .decimal-length5 .ensures .1)
 
 measure-less-requires-8 : (t : ℕ) → measure-lts.Need-less-requires-8 (measure-claims t) (measure-at t) measure.Post
-measure-less-requires-8 t c κs =
-    search needs
+measure-less-requires-8 t c κs = search needs
 
 measure-measure-requires-9 : (t : ℕ) → measure-lts.Need-measure-requires-9 (measure-claims t) (measure-at t) measure.Post
 measure-measure-requires-9 t c κs =

@@ -1,0 +1,55 @@
+-- Numbers in columns (document 01, "Text and program"): right-justified decimals in fields of 4 characters, and a line of six of them.
+use mathlib.Core.Bool.{Bool, true, false, cond, _&&_}
+use mathlib.Core.List.{List, [], _∷_, _++_}
+use Prim.Native.Nat.{ℕ, _+_, _-_, _*_, _%_}
+use lib.Dec.{leb, eqb}
+use lib.ListN.{length, getD, take, drop, replicate}
+use Rattle.terms.specs.Display.{decimal}
+use Rattle.neon.specs.declared.Instruction.{Instruction}
+
+-- x in 4 columns: its decimal, which has no leading zeros, and blanks to the left
+unfoldable pub columns : ℕ → List ℕ
+columns x = replicate (4 - length (decimal x)) 32 ++ decimal x
+
+-- a character above the last column, by the number whose last digit it is: a blank for 0
+abbrev pub characterOf : ℕ → ℕ
+characterOf above = cond (eqb above 0) 32 (48 + above % 10)
+
+-- the digit that a character shows; 0 for a blank, and for what is no digit
+abbrev pub shown : ℕ → ℕ
+shown b = cond (leb 48 b && leb b 57) (b - 48) 0
+
+-- the number that the 4 characters from `at` on show
+unfoldable pub fieldAt : List ℕ → ℕ → ℕ
+fieldAt line at =
+    1000 * shown (getD line at 0) + 100 * shown (getD line (at + 1) 0) + 10 * shown (getD line (at + 2) 0) + shown (getD line (at + 3) 0)
+
+abbrev pub same : List ℕ → List ℕ → Bool
+same [] [] = true
+same [] (y ∷ ys) = false
+same (x ∷ xs) [] = false
+same (x ∷ xs) (y ∷ ys) = eqb x y && same xs ys
+
+-- those characters are that number in columns
+unfoldable pub isField : List ℕ → ℕ → Bool
+isField line at = same (take 4 (drop at line)) (columns (fieldAt line at))
+
+-- 24 characters, six fields
+unfoldable pub inColumns : List ℕ → Bool
+inColumns line =
+    eqb (length line) 24
+    && (isField line 0 && (isField line 4 && (isField line 8 && (isField line 12 && (isField line 16 && isField line 20)))))
+
+abbrev pub fields : List ℕ → List ℕ
+fields line = fieldAt line 0 ∷ fieldAt line 4 ∷ fieldAt line 8 ∷ fieldAt line 12 ∷ fieldAt line 16 ∷ fieldAt line 20 ∷ []
+
+abbrev pub recordOf : List ℕ → Instruction
+recordOf line =
+    record {
+      operation = fieldAt line 0;
+      arrangement = fieldAt line 4;
+      i = fieldAt line 8;
+      d = fieldAt line 12;
+      n = fieldAt line 16;
+      m = fieldAt line 20;
+    }

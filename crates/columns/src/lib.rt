@@ -1,0 +1,124 @@
+// Numbers in columns: right-justified decimals in fields of 4 characters, read and written. The Rust has no counterpart.
+use text_parts::put;
+ghost use mathlib.Core.Path.{_≡_};
+ghost use Prim.Native.Nat.{_+_, _≤_, _<_};
+ghost use lib.ListN.{length};
+ghost use Rattle.text_parts.specs.Text.{Room, Wrote};
+ghost use Rattle.columns.specs.Columns.{columns, characterOf, shown, fieldAt, isField, inColumns, fields};
+
+// The digit that a character shows.
+fn digit(b: u8) -> u64
+    ensures { λ r. ⌜ (r ≡ shown b) × (r ≤ 9) ⌝ }
+{
+    if b < 48 {
+        return 0;
+    }
+    if 57 < b {
+        return 0;
+    }
+    (b - 48) as u64
+}
+
+// The number that a field shows.
+fn field(line: &[u8], at: usize) -> u64
+    requires { ⌜ at + 4 ≤ length (now line) ⌝ }
+    ensures { λ r. ⌜ (r ≡ fieldAt (now (line .entry)) at) × (r < 10000) ⌝ }
+{
+    let a = digit(line[at]);
+    let b = digit(line[at + 1]);
+    let c = digit(line[at + 2]);
+    let d = digit(line[at + 3]);
+    1000 * a + 100 * b + 10 * c + d
+}
+
+// The character above the last place, from the digits down to it: a blank where all of them are 0.
+fn character(above: u64) -> u8
+    ensures { λ r. ⌜ r ≡ characterOf above ⌝ }
+{
+    if above == 0 {
+        32
+    } else {
+        (48 + above % 10) as u8
+    }
+}
+
+// A number in columns.
+fn written(x: u64) -> [u8; 4]
+    requires { ⌜ x < 10000 ⌝ }
+    ensures { λ r. ⌜ r ≡ columns x ⌝ }
+{
+    [
+        character(x / 1000),
+        character(x / 100),
+        character(x / 10),
+        (48 + x % 10) as u8,
+    ]
+}
+
+// Whether the 4 characters are a number in columns.
+fn is_field(line: &[u8], at: usize) -> bool
+    requires { ⌜ at + 4 ≤ length (now line) ⌝ }
+    ensures { λ r. ⌜ r ≡ isField (now (line .entry)) at ⌝ }
+{
+    let w = written(field(line, at));
+    if line[at] != w[0] {
+        return false;
+    }
+    if line[at + 1] != w[1] {
+        return false;
+    }
+    if line[at + 2] != w[2] {
+        return false;
+    }
+    line[at + 3] == w[3]
+}
+
+// Whether a line is six fields.
+pub fn in_columns(line: &[u8]) -> bool
+    ensures { λ r. ⌜ r ≡ inColumns (now (line .entry)) ⌝ }
+{
+    if line.len() != 24 {
+        return false;
+    }
+    if !is_field(line, 0) {
+        return false;
+    }
+    if !is_field(line, 4) {
+        return false;
+    }
+    if !is_field(line, 8) {
+        return false;
+    }
+    if !is_field(line, 12) {
+        return false;
+    }
+    if !is_field(line, 16) {
+        return false;
+    }
+    is_field(line, 20)
+}
+
+// The six numbers of a line.
+pub fn fields_of(line: &[u8]) -> [u64; 6]
+    requires { ⌜ 24 ≤ length (now line) ⌝ }
+    ensures { λ r. ⌜ r ≡ fields (now (line .entry)) ⌝ }
+{
+    [
+        field(line, 0),
+        field(line, 4),
+        field(line, 8),
+        field(line, 12),
+        field(line, 16),
+        field(line, 20),
+    ]
+}
+
+// Writes a number in columns.
+pub fn put_columns(x: u64, buf: &mut [u8], at: usize) -> usize
+    requires { ⌜ x < 10000 ⌝ }
+    requires { ⌜ Room (now buf) at (columns x) ⌝ }
+    ensures { λ r. ⌜ Wrote (now (buf .entry)) at (columns x) r (now (buf .exit)) ⌝ }
+{
+    let w = written(x);
+    put(&w, buf, at)
+}

@@ -1,0 +1,4 @@
+pub mod Gathering
+pub mod Records
+pub mod Stores
+pub mod Texts

@@ -1,0 +1,42 @@
+-- An input's lines, and a line that comes in pieces.
+use mathlib.Core.Bool.{Bool, true, false, cond}
+use mathlib.Core.List.{List, [], _∷_, _++_}
+use mathlib.Core.Path.{_≡_}
+use Prim.Native.Nat.{ℕ, _+_, min, max}
+use lib.Dec.{eqb}
+use lib.ListN.{length, take}
+use Rattle.lines.specs.declared.Gathered.{Gathered}
+use Rattle.lines.specs.Line.{answer}
+
+-- what is written for an input, of which `line` came before: an answer for each newline, and for a last line that has none
+abbrev pub lastAnswer : (places : ℕ) → List ℕ → List ℕ
+lastAnswer places [] = []
+lastAnswer places (b ∷ line) = answer places (b ∷ line)
+
+unfoldable pub outputFrom : (places : ℕ) → (line input : List ℕ) → List ℕ
+outputFrom places line [] = lastAnswer places line
+outputFrom places line (b ∷ input) =
+    cond (eqb b 10) (answer places line ++ outputFrom places [] input) (outputFrom places (line ++ (b ∷ [])) input)
+
+abbrev pub output : (places : ℕ) → List ℕ → List ℕ
+output places input = outputFrom places [] input
+
+-- the bytes before the first newline, and whether there is one
+unfoldable pub upTo : List ℕ → List ℕ
+upTo [] = []
+upTo (b ∷ s) = cond (eqb b 10) [] (b ∷ upTo s)
+
+unfoldable pub ends : List ℕ → Bool
+ends [] = false
+ends (b ∷ s) = cond (eqb b 10) true (ends s)
+
+abbrev pub one : Bool → ℕ
+one true = 1
+one false = 0
+
+-- the bytes s, which stand at `from`, were taken up to their first newline, after the first len bytes of `held`: as many are held as have room
+pub record Gathers (held : List ℕ) (len : ℕ) (s : List ℕ) (from : ℕ) (r : Gathered) (after : List ℕ) : Type 0 where
+  pub bytes : take (r .len) after ≡ take (length held) (take len held ++ upTo s)
+  pub len-is : r .len ≡ max len (min (length held) (len + length (upTo s)))
+  pub ended-is : r .ended ≡ ends s
+  pub taken-is : r .taken ≡ from + length (upTo s) + one (ends s)

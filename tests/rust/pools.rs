@@ -1,0 +1,124 @@
+// Random pools, the calls of the archive that `rt staticlib text_c` writes, and the pool's rules once more.
+
+unsafe extern "C" {
+    fn neon_pool_check(pool: *const u64, words: usize, count: usize) -> bool;
+    fn neon_write_text(pool: *const u64, words: usize, count: usize, node: usize, buffer: *mut u8, bytes: usize, length: *mut usize) -> u64;
+    fn neon_text_length(pool: *const u64, words: usize, count: usize, node: usize, ceiling: u32, length: *mut usize) -> u64;
+}
+
+pub fn pool_check(pool: &[u64], count: usize) -> bool {
+    unsafe { neon_pool_check(pool.as_ptr(), pool.len(), count) }
+}
+
+pub fn write_text(pool: &[u64], count: usize, node: usize, buffer: &mut [u8]) -> (u64, usize) {
+    let mut length = 77;
+    let number = unsafe { neon_write_text(pool.as_ptr(), pool.len(), count, node, buffer.as_mut_ptr(), buffer.len(), &mut length) };
+    (number, length)
+}
+
+pub fn text_length(pool: &[u64], count: usize, node: usize, ceiling: u32) -> (u64, usize) {
+    let mut length = 77;
+    let number = unsafe { neon_text_length(pool.as_ptr(), pool.len(), count, node, ceiling, &mut length) };
+    (number, length)
+}
+
+pub struct Rng(pub u64);
+
+impl Rng {
+    pub fn next(&mut self) -> u64 {
+        self.0 ^= self.0 << 13;
+        self.0 ^= self.0 >> 7;
+        self.0 ^= self.0 << 17;
+        self.0
+    }
+
+    pub fn below(&mut self, n: u64) -> u64 {
+        self.next() % n
+    }
+
+    pub fn one_of(&mut self, list: &[usize]) -> usize {
+        list[self.below(list.len() as u64) as usize]
+    }
+}
+
+// A node: kind, width, operands A B C, words 2 and 3.
+#[derive(Clone, Copy)]
+pub struct Node {
+    pub kind: u64,
+    pub width: u64,
+    pub operands: [usize; 3],
+    pub data: [u64; 2],
+}
+
+impl Node {
+    pub fn words(&self) -> [u64; 4] {
+        let [a, b, c] = self.operands.map(|m| m as u64);
+        [self.kind | self.width << 16, a | b << 16 | c << 32, self.data[0], self.data[1]]
+    }
+}
+
+// One more node for a valid pool of these nodes, or none where the kind that came up has no operands there.
+pub fn grow(r: &mut Rng, nodes: &[Node]) -> Option<Node> {
+    let terms: Vec<usize> = (0..nodes.len()).filter(|&i| nodes[i].width != 0).collect();
+    let conditions: Vec<usize> = (0..nodes.len()).filter(|&i| nodes[i].width == 0).collect();
+    let kind = if terms.is_empty() { 1 + r.below(2) } else { 1 + r.below(19) };
+    let made = |width, operands, data| Some(Node { kind, width, operands, data });
+    match kind {
+        1 => return made(128, [0; 3], [r.below(32), 0]),
+        2 => {
+            let bits = 1 + r.below(129);
+            let mut v = (((r.next() as u128) << 64) | r.next() as u128) >> r.below(128);
+            if bits < 128 {
+                v &= (1 << bits) - 1;
+            }
+            return made(bits, [0; 3], [v as u64, (v >> 64) as u64]);
+        }
+        _ => {}
+    }
+    let a = r.one_of(&terms);
+    let w = nodes[a].width;
+    let same: Vec<usize> = terms.iter().copied().filter(|&i| nodes[i].width == w).collect();
+    let b = r.one_of(&same);
+    match kind {
+        3..=11 => made(w, [a, b, 0], [0; 2]),
+        12..=14 => made(0, [a, b, 0], [0; 2]),
+        15 if conditions.is_empty() => None,
+        15 => made(w, [r.one_of(&conditions), a, b], [0; 2]),
+        16 => {
+            let hi = r.below(w);
+            let lo = r.below(hi + 1);
+            made(hi - lo + 1, [a, 0, 0], [hi, lo])
+        }
+        17 => {
+            let c = r.one_of(&terms);
+            if w + nodes[c].width > 129 { None } else { made(w + nodes[c].width, [a, c, 0], [0; 2]) }
+        }
+        _ => made(w + r.below(130 - w), [a, 0, 0], [0; 2]),
+    }
+}
+
+// Document 01's rules, section Pool.
+fn keeps_rules(pool: &[u64], n: usize) -> bool {
+    let [w0, w1, x, y] = [0, 1, 2, 3].map(|j| pool[4 * n + j]);
+    let (kind, width) = (w0 & 0xffff, w0 >> 16);
+    let [a, b, c] = [w1 & 0xffff, w1 >> 16 & 0xffff, w1 >> 32];
+    let of = |m: u64| if m < n as u64 { Some(pool[4 * m as usize] >> 16) } else { None };
+    let term = |m: u64| of(m).is_some_and(|w| w != 0);
+    let wide = (1..=129).contains(&width);
+    let plain = x == 0 && y == 0;
+    match kind {
+        1 => width == 128 && w1 == 0 && x < 32 && y == 0,
+        2 => wide && w1 == 0 && (width >= 128 || ((y as u128) << 64 | x as u128) >> width == 0),
+        3..=11 => wide && plain && c == 0 && of(a) == Some(width) && of(b) == Some(width),
+        12..=14 => width == 0 && plain && c == 0 && term(a) && of(b) == of(a),
+        15 => wide && plain && of(a) == Some(0) && of(b) == Some(width) && of(c) == Some(width),
+        16 => b == 0 && c == 0 && y <= x && of(a).is_some_and(|w| x < w) && width == x - y + 1,
+        17 => wide && plain && c == 0 && term(a) && term(b) && of(a).unwrap() + of(b).unwrap() == width,
+        18 | 19 => wide && plain && b == 0 && c == 0 && term(a) && of(a).unwrap() <= width,
+        _ => false,
+    }
+}
+
+pub fn valid(pool: &[u64], count: usize) -> bool {
+    count <= (pool.len() / 4).min(65535) && (0..count).all(|n| keeps_rules(pool, n))
+}
