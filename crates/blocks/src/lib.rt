@@ -4,7 +4,6 @@
 use block_check::Refused;
 use neon::Instruction;
 use register_map::RegisterMap;
-ghost use mathlib.Core.Path.{_≡_};
 ghost use Prim.Native.Nat.{_*_};
 ghost use lib.ListN.{length};
 ghost use Rattle.neon.specs.Refusal.{reserve, Legal, AllLegal, blockRefusal};
