@@ -1,3 +1,4 @@
 pub mod Again
 pub mod Walking
 pub mod Listed
+pub mod Equal

@@ -29,12 +29,12 @@ none = instruction 0 0 0 0 0 0
 -- ---- the first that is refused
 
 module _ (p : ℕ) (cs : List Instruction) where
-  refuses : {r : Refused} (k : ℕ) (x : Refusal) → r .number ≡ x .number → r .position ≡ x .position → blockRefusal p cs ≡ x → Refuses r (blockRefusal p cs)
-  refuses k x a b e = (a ∙ sym (ap (λ (y : Refusal). y .number) e), b ∙ sym (ap (λ (y : Refusal). y .position) e))
+  refuses : {r : Refused} (x : Refusal) → r .number ≡ x .number → r .position ≡ x .position → blockRefusal p cs ≡ x → Refuses r (blockRefusal p cs)
+  refuses x a b e = (a ∙ sym (ap (λ (y : Refusal). y .number) e), b ∙ sym (ap (λ (y : Refusal). y .position) e))
 
   -- the block's size
   pub refused-size : (k : ℕ) → k ≡ sizeNumber p (length cs) → 0 < k → Refuses (record { number = k; position = 0 }) (blockRefusal p cs)
-  refused-size k e h = refuses k (refusal (sizeNumber p (length cs)) 0) e refl (by-size p cs (omega (arith, e, h)))
+  refused-size k e h = refuses (refusal (sizeNumber p (length cs)) 0) e refl (by-size p cs (omega (arith, e, h)))
 
   -- the records before the j-th are accepted
   abbrev pub Passed : ℕ → Type 0
@@ -52,12 +52,12 @@ module _ (p : ℕ) (cs : List Instruction) where
   pub refused-here : (j k : ℕ) → Passed j → j < length cs → k ≡ recordNumber (getD cs j none) → 0 < k → Refuses (record { number = k; position = j }) (blockRefusal p cs)
   unfolding recordsRefusal
   refused-here j k s l e h =
-      refuses k (refusal (recordNumber (getD cs j none)) j) e refl
+      refuses (refusal (recordNumber (getD cs j none)) j) e refl
       (sym s ∙ rw (drop-cons cs j none l, ne-eqb (recordNumber (getD cs j none)) 0 (λ z. omega (arith, e, h, z))))
 
   pub refused-none : (j : ℕ) → Passed j → length cs ≤ j → Refuses (record { number = 0; position = 0 }) (blockRefusal p cs)
   unfolding recordsRefusal
-  refused-none j s l = refuses 0 (refusal 0 0) refl refl (sym s ∙ ap (λ (l : List Instruction). recordsRefusal j l) (drop-of-length-le cs l))
+  refused-none j s l = refuses (refusal 0 0) refl refl (sym s ∙ ap (λ (l : List Instruction). recordsRefusal j l) (drop-of-length-le cs l))
 
 -- ---- a run of them
 

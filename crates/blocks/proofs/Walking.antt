@@ -10,7 +10,7 @@ use base.Fml.{Fml, fsep, ftrue}
 use prog.Wp.{Heap}
 use ghost.Atoms.{Atoms}
 use contract.Monad.{fact, factI, fact-use}
-use types.Kit.{Given, Item, Goal, Step, step, ‵, prop, _$_, !, fjoin}
+use types.Kit.{Given, Item, Goal, Step, step, ‵, prop, _$_, fjoin}
 use denote.Builtin.{u64}
 use denote.Laws.{Is}
 use denote.Plain.{uint-makes}

@@ -4,7 +4,6 @@
 use block_check::Refused;
 use neon::Instruction;
 use register_map::RegisterMap;
-ghost use mathlib.Core.Path.{_≡_};
 ghost use Prim.Native.Nat.{_*_};
 ghost use lib.ListN.{length};
 ghost use Rattle.neon.specs.Refusal.{reserve, Legal, AllLegal, blockRefusal};
@@ -25,17 +24,14 @@ fn block_refusal(words: usize, records: &[Instruction]) -> Refused
             position: 0,
         };
     }
-    let mut j = 0;
-    while j < records.len() {
-        let r = records[j];
+    let mut position = 0;
+    while position < records.len() {
+        let r = records[position];
         let number = block_check::record_number(r.operation, r.arrangement, r.i, r.d, r.n, r.m);
         if 0 < number {
-            return Refused {
-                number,
-                position: j,
-            };
+            return Refused { number, position };
         }
-        j += 1;
+        position += 1;
     }
     Refused {
         number: 0,

@@ -1,4 +1,3 @@
-use native.Mathlib.Omega.{arith}
 use Rattle.block_check.proofs.Refusals.{too-long, no-room, has-room}
 use borrow.Author.Needs.{needs}
 use Rattle.block_check.proofs.size_number.Statement.{statement}

@@ -252,65 +252,38 @@ module _ {M : Type 1} (𝓤 : URA M) (H : Heap 𝓤) (A : Atoms 𝓤) (W : Given
 
     -- the locals are freed, at each of the two returns
     leaves : (r : Refused) (ps : List ℕ) (h : RegisterMap) → Answered ps₀ ys ps (answer r h) → length ps ≡ m → Fits r
-        → Sq W (‵ Own ∷ ‵ (flft κ₂ q₂) ∷ ‵ (Pool ps m) ∷ ‵ (flft κ q) ∷ ‵ (Map h) ∷ ‵ (flft κ₃ q₃) ∷ ‵ (froom lent-map l₁₄ 0) ∷ ‵ (fdies lent-map l₁₄) ∷ ‵ (froom lent l₁₃ 0) ∷ ‵ (fdies lent l₁₃) ∷ ‵ (froom (tyRef erased mut word) l₁₂ 0) ∷ ‵ (fdies (tyRef erased mut word) l₁₂) ∷ ‵ (froom tyUnit l₁₁ 0) ∷ ‵ (fdies tyUnit l₁₁) ∷ ‵ (froom lent l₁₀ 0) ∷ ‵ (fdies lent l₁₀) ∷ ‵ (froom (tyRef erased mut word) l₉ 0) ∷ ‵ (fdies (tyRef erased mut word) l₉) ∷ ‵ (froom map-ty l₈ 0) ∷ ‵ (fdies map-ty l₈) ∷ ‵ (froom map-ty l₇ 0) ∷ ‵ (fdies map-ty l₇) ∷ ‵ (froom tyBool l₆ 0) ∷ ‵ (fdies tyBool l₆) ∷ ‵ (froom word l₅ 0) ∷ ‵ (fdies word l₅) ∷ ‵ (froom refused l₄ 0) ∷ ‵ (fdies refused l₄) ∷ ‵ (froom map-ref l₃ 0) ∷ ‵ (fdies map-ref l₃) ∷ ‵ (froom slice l₂ 0) ∷ ‵ (fdies slice l₂) ∷ ‵ (froom words l₁ 0) ∷ ‵ (fdies words l₁) ∷ ‵ (froom refused l₀ 0) ∷ ‵ (fdies refused l₀) ∷ []) (frees En (prop (Post (mach r))))
+        → Sq W (‵ Own ∷ ‵ (flft κ₂ q₂) ∷ ‵ (Pool ps m) ∷ ‵ (flft κ q) ∷ ‵ (Map h) ∷ ‵ (flft κ₃ q₃) ∷ ‵ (froom lent-map l₁₄ 0) ∷ ‵ (fdies lent-map l₁₄) ∷ ‵ (froom lent l₁₃ 0) ∷ ‵ (fdies lent l₁₃) ∷ ‵ (froom (tyRef erased mut word) l₁₂ 0) ∷ ‵ (fdies (tyRef erased mut word) l₁₂) ∷ ‵ (froom tyUnit l₁₁ 0) ∷ ‵ (fdies tyUnit l₁₁) ∷
+        ‵ (froom lent l₁₀ 0) ∷ ‵ (fdies lent l₁₀) ∷ ‵ (froom (tyRef erased mut word) l₉ 0) ∷ ‵ (fdies (tyRef erased mut word) l₉) ∷ ‵ (froom map-ty l₈ 0) ∷ ‵ (fdies map-ty l₈) ∷ ‵ (froom map-ty l₇ 0) ∷ ‵ (fdies map-ty l₇) ∷
+        ‵ (froom tyBool l₆ 0) ∷ ‵ (fdies tyBool l₆) ∷ ‵ (froom word l₅ 0) ∷ ‵ (fdies word l₅) ∷ ‵ (froom refused l₄ 0) ∷ ‵ (fdies refused l₄) ∷ ‵ (froom map-ref l₃ 0) ∷ ‵ (fdies map-ref l₃) ∷ ‵ (froom slice l₂ 0) ∷ ‵ (fdies slice l₂) ∷
+        ‵ (froom words l₁ 0) ∷ ‵ (fdies words l₁) ∷ ‵ (froom refused l₀ 0) ∷ ‵ (fdies refused l₀) ∷ []) (frees En (prop (Post (mach r))))
     leaves r ps h e l fits =
         move ! (34 ∷ 35 ∷ []) $ free1 ! $ move ! (32 ∷ 33 ∷ []) $ free1 ! $ move ! (30 ∷ 31 ∷ []) $ free1 ! $ move ! (28 ∷ 29 ∷ []) $ free1 ! $ move ! (26 ∷ 27 ∷ []) $ free1 ! $ move ! (24 ∷ 25 ∷ []) $ free1 ! $ move ! (22 ∷ 23 ∷ []) $ free1 ! $ move ! (20 ∷ 21 ∷ []) $ free1 ! $ move ! (18 ∷ 19 ∷ []) $ free1 ! $ move ! (16 ∷ 17 ∷ []) $ free1 ! $ move ! (14 ∷ 15 ∷ []) $ free1 ! $ move ! (12 ∷ 13 ∷ []) $ free1 ! $ move ! (10 ∷ 11 ∷ []) $ free1 ! $ move ! (8 ∷ 9 ∷ []) $ free1 ! $ move ! (6 ∷ 7 ∷ []) $ free1 ! $ free0 ! $ by ! (exits r ps h e l fits)
 
     -- the pool is started at ps and the map is h: the records run
     runs-on : (r : Refused) → Refuses r (blockRefusal (placesIn m) ys) → r .number ≤ 0 → Fits r → (ps : List ℕ) (h : RegisterMap) → length ps ≡ m → Started ps₀ ps 32 → h ≡ firstMap
-        → Sq W (‵ Own ∷ ‵ (flft κ₂ q₂) ∷ ‵ (Pool ps m) ∷ ‵ (flft κ q) ∷ ‵ (Map h) ∷ ‵ (flft κ₃ q₃) ∷ ‵ (froom lent-map l₁₄ 0) ∷ ‵ (fdies lent-map l₁₄) ∷ ‵ (froom lent l₁₃ 0) ∷ ‵ (fdies lent l₁₃) ∷ ‵ (froom (tyRef erased mut word) l₁₂ 0) ∷ ‵ (fdies (tyRef erased mut word) l₁₂) ∷ ‵ (froom tyUnit l₁₁ 0) ∷ ‵ (fdies tyUnit l₁₁) ∷ ‵ (froom lent l₁₀ 0) ∷ ‵ (fdies lent l₁₀) ∷ ‵ (froom (tyRef erased mut word) l₉ 0) ∷ ‵ (fdies (tyRef erased mut word) l₉) ∷ ‵ (froom map-ty l₈ 0) ∷ ‵ (fdies map-ty l₈) ∷ ‵ (froom map-ty l₇ 0) ∷ ‵ (fdies map-ty l₇) ∷ ‵ (froom tyBool l₆ 0) ∷ ‵ (fdies tyBool l₆) ∷ ‵ (froom word l₅ 0) ∷ ‵ (fdies word l₅) ∷ ‵ (fat fullShare refused l₄ 0 (mach r)) ∷ ‵ (fdies refused l₄) ∷ ‵ (fat fullShare map-ref l₃ 0 (vptr b₃ o₃)) ∷ ‵ (fdies map-ref l₃) ∷ ‵ (fat fullShare slice l₂ 0 (sliceVal (b₂, o₂) n)) ∷ ‵ (fdies slice l₂) ∷ ‵ (fat fullShare words l₁ 0 (sliceVal (b, o) m)) ∷ ‵ (fdies words l₁) ∷ ‵ (froom refused l₀ 0) ∷ ‵ (fdies refused l₀) ∷ []) (runs C Λ En code.Mir.t-9 (atRet En Post))
+        → Sq W (‵ Own ∷ ‵ (flft κ₂ q₂) ∷ ‵ (Pool ps m) ∷ ‵ (flft κ q) ∷ ‵ (Map h) ∷ ‵ (flft κ₃ q₃) ∷ ‵ (froom lent-map l₁₄ 0) ∷ ‵ (fdies lent-map l₁₄) ∷ ‵ (froom lent l₁₃ 0) ∷ ‵ (fdies lent l₁₃) ∷ ‵ (froom (tyRef erased mut word) l₁₂ 0) ∷ ‵ (fdies (tyRef erased mut word) l₁₂) ∷ ‵ (froom tyUnit l₁₁ 0) ∷ ‵ (fdies tyUnit l₁₁) ∷
+        ‵ (froom lent l₁₀ 0) ∷ ‵ (fdies lent l₁₀) ∷ ‵ (froom (tyRef erased mut word) l₉ 0) ∷ ‵ (fdies (tyRef erased mut word) l₉) ∷ ‵ (froom map-ty l₈ 0) ∷ ‵ (fdies map-ty l₈) ∷ ‵ (froom map-ty l₇ 0) ∷ ‵ (fdies map-ty l₇) ∷
+        ‵ (froom tyBool l₆ 0) ∷ ‵ (fdies tyBool l₆) ∷ ‵ (froom word l₅ 0) ∷ ‵ (fdies word l₅) ∷ ‵ (fat fullShare refused l₄ 0 (mach r)) ∷ ‵ (fdies refused l₄) ∷ ‵ (fat fullShare map-ref l₃ 0 (vptr b₃ o₃)) ∷ ‵ (fdies map-ref l₃) ∷
+        ‵ (fat fullShare slice l₂ 0 (sliceVal (b₂, o₂) n)) ∷ ‵ (fdies slice l₂) ∷ ‵ (fat fullShare words l₁ 0 (sliceVal (b, o) m)) ∷ ‵ (fdies words l₁) ∷ ‵ (froom refused l₀ 0) ∷ ‵ (fdies refused l₀) ∷ []) (runs C Λ En code.Mir.t-9 (atRet En Post))
     runs-on r e small fits ps h l s z =
         assigns ! (addr ! (from ! (fld ! refl (hop ! (look-in ! 32 (sub ! 0 refl (whole !))) (stop !))))) (from ! (stop !)) (init ! 10 refl (tt, tt)) $
         assigns ! (agg ! (and-then ! (load ! (from ! (stop !)) (look ! 10 refl)) (and-then ! (load ! (from ! (fld ! refl (stop !))) (look-in ! 32 (sub ! 1 refl (whole !)))) (no-more !)))) (from ! (stop !)) (init ! 8 refl (tt, (tt, (record { fits = room .0 }, tt)))) $
-        assigns ! (addr ! (from ! (hop ! (look ! 28 refl) (stop !)))) (from ! (stop !)) (init ! 6 refl (tt, tt)) $
-        rewrite ! 2 (λ (c : ℕ). ‵ (Pool ps c)) (sym l) refl $ rewrite ! 8 (λ (c : ℕ). ‵ (fat fullShare lent l₁₃ 0 (sliceVal (b, o) c))) (sym l) refl $
-        lft-new ! tt (λ ν. lft-new ! tt (λ μ.
-        move ! (4 ∷ 5 ∷ []) $
+        assigns ! (addr ! (from ! (hop ! (look ! 28 refl) (stop !)))) (from ! (stop !)) (init ! 6 refl (tt, tt)) $ rewrite ! 2 (λ (c : ℕ). ‵ (Pool ps c)) (sym l) refl $ rewrite ! 8 (λ (c : ℕ). ‵ (fat fullShare lent l₁₃ 0 (sliceVal (b, o) c))) (sym l) refl $
+        lft-new ! tt (λ ν. lft-new ! tt (λ μ. move ! (4 ∷ 5 ∷ []) $
         use2 W (later (some (λ (δ : GName). ‵ (MutSlice (named 0) (ν ∷ []) u64 .own (pool δ ps) (sliceVal (b, o) (length ps) ∷ [])) ⊛ ‵ (SliceLent u64 κ (ν ∷ []) q γ b o δ ps)))) (slice-lends u64 κ (ν ∷ []) q γ b o 𝓤 H A W (named 0) (named 0) ps) $ await ! tt $ pick ! (λ δ. split ! $
         move ! (6 ∷ 7 ∷ []) $
         use2 W (later (some (λ (ε : GName). ‵ (MutRef (named 2) (μ ∷ []) S .own (map ε h) (vptr b₃ o₃ ∷ [])) ⊛ ‵ (LentAgain S κ₃ (μ ∷ []) q₃ γ₃ b₃ o₃ ε h)))) (lends-again 𝓤 H A W S (named 2) κ₃ (μ ∷ []) q₃ γ₃ b₃ o₃ (named 2) h) $ await ! tt $ pick ! (λ ε. split ! $
-        move ! (6 ∷ []) $
-        use1 W (‵ Own ⊛ ‵ Own) (shr-slice-copy 𝓤 H A W (named 1) κ₂ R .twice records (sliceVal (b₂, o₂) n ∷ [])) $ split ! $
-        move ! (7 ∷ 8 ∷ 6 ∷ []) $
-        group ! 3 $
-        move ! (5 ∷ 1 ∷ 3 ∷ []) $
-        -- [lent pool; lent list; lent map; toks; list; kept map; kept pool; _14; _13; _12; _11; _10; _9; _8; _7; _6; _5; _4; _3; _2; _1; _0]
-        group ! 3 $
-        move ! (1 ∷ []) $
-        use2 W (raw (Run 𝓤 H A at-mem ran .pre (to-run ν μ δ ε ps h))) (goes-run ν μ δ ε ps h (run-ok ps₀ ys r e small s z)) $
+        move ! (6 ∷ []) $ use1 W (‵ Own ⊛ ‵ Own) (shr-slice-copy 𝓤 H A W (named 1) κ₂ R .twice records (sliceVal (b₂, o₂) n ∷ [])) $ split ! $ move ! (7 ∷ 8 ∷ 6 ∷ []) $ group ! 3 $ move ! (5 ∷ 1 ∷ 3 ∷ []) $
+        -- [the pool, lent; the list; the map, lent; toks; what the list owns; what is kept of the map; what is kept of the pool; the locals]
+        group ! 3 $ move ! (1 ∷ []) $ use2 W (raw (Run 𝓤 H A at-mem ran .pre (to-run ν μ δ ε ps h))) (goes-run ν μ δ ε ps h (run-ok ps₀ ys r e small s z)) $
         calls-at ! fm (Run 𝓤 H A at-mem ran) run-known (to-run ν μ δ ε ps h) (and-then ! (load ! (from ! (stop !)) (look ! 6 refl)) (and-then ! (load ! (from ! (stop !)) (look ! 28 refl)) (and-then ! (load ! (from ! (stop !)) (look ! 4 refl)) (no-more !)))) (λ v.
         use1 W (later (some (λ (i : Unit {0}). ((‵ (flft (ν ∷ []) fullShare) ⊛ ‵ (flft κ₂ q₂) ⊛ ‵ (flft (μ ∷ []) fullShare) ⊛ ‵ ftrue) ⊛ ‵ (unit .own i (v ∷ []))) ⊛ raw (ensured 𝓤 H A run-instructions.ended (run-instructions.clauses 𝓤 H A at-mem ran) (ν ∷ [], (κ₂, (μ ∷ [], tt))) (run-on ν μ δ ε ps h) tt i)))) (id⊢ 𝓤 _) $ await ! tt $ pick ! (λ i.
-        split ! $
-        move ! (1 ∷ []) $
+        split ! $ move ! (1 ∷ []) $
         use1 W (some (λ (zs : Lasts run-instructions.ended (ν ∷ [], (κ₂, (μ ∷ [], tt))) (run-on ν μ δ ε ps h)). ‵ (lasts run-instructions.ended (ν ∷ [], (κ₂, (μ ∷ [], tt))) (run-on ν μ δ ε ps h) zs) ⊛ raw (fact 𝓤 (Runs ps h (zs .0) (zs .1 .1 .0) ys)))) (id⊢ 𝓤 _) $ pick ! (λ zs.
-        split ! $
-        move ! (1 ∷ []) $
-        heard ! (Runs ps h (zs .0) (zs .1 .1 .0) ys) (λ d. fsplit ! $ fsplit ! $
-        move ! (1 ∷ []) $
-        feqL ! (λ k.
-        move ! (1 ∷ []) $
-        fsplit ! $ lose ! $ fsplit ! $
-        move ! (1 ∷ []) $
-        lose ! $
-        move ! (2 ∷ []) $
-        split ! $
-        split ! $
-        move ! (1 ∷ []) $
-        split ! $
-        move ! (1 ∷ []) $
-        split ! $
-        move ! (4 ∷ []) $
-        peeks ! unit (Is unit) (shows 𝓤 H A unit) i (v ∷ []) (λ is.
-        land ! (from ! (stop !)) (init ! 16 refl (nothing-lawful 𝓤 H A W .typed i _ is .0)) $
-        move ! (4 ∷ []) $
-        lft-end ! tt $
-        move ! (0 ∷ 9 ∷ 6 ∷ []) $
-        use3 W (later (‵ (Pool (zs .0) (length ps)) ⊛ ‵ (flft κ q))) (slice-back u64 κ (ν ∷ []) q γ b o 𝓤 H A W (named 0) (named 0) ps δ (zs .0) (rw l room) k) $ await ! tt $ split ! $
-        rewrite ! 0 (λ (c : ℕ). ‵ (Pool (zs .0) c)) l refl $
-        move ! (3 ∷ []) $
-        lft-end ! tt $
-        move ! (0 ∷ 8 ∷ 6 ∷ []) $
-        use3 W (later (‵ (Map (zs .1 .1 .0)) ⊛ ‵ (flft κ₃ q₃))) (comes-back 𝓤 H A W S (named 2) κ₃ (μ ∷ []) q₃ γ₃ b₃ o₃ ε h (zs .1 .1 .0)) $ await ! tt $ split ! $
+        split ! $ move ! (1 ∷ []) $ heard ! (Runs ps h (zs .0) (zs .1 .1 .0) ys) (λ d. fsplit ! $ fsplit ! $ move ! (1 ∷ []) $ feqL ! (λ k. move ! (1 ∷ []) $ fsplit ! $ lose ! $ fsplit ! $ move ! (1 ∷ []) $ lose ! $ move ! (2 ∷ []) $ split ! $ split ! $
+        move ! (1 ∷ []) $ split ! $ move ! (1 ∷ []) $ split ! $ move ! (4 ∷ []) $ peeks ! unit (Is unit) (shows 𝓤 H A unit) i (v ∷ []) (λ is. land ! (from ! (stop !)) (init ! 16 refl (nothing-lawful 𝓤 H A W .typed i _ is .0)) $ move ! (4 ∷ []) $ lft-end ! tt $
+        move ! (0 ∷ 9 ∷ 6 ∷ []) $ use3 W (later (‵ (Pool (zs .0) (length ps)) ⊛ ‵ (flft κ q))) (slice-back u64 κ (ν ∷ []) q γ b o 𝓤 H A W (named 0) (named 0) ps δ (zs .0) (rw l room) k) $ await ! tt $ split ! $ rewrite ! 0 (λ (c : ℕ). ‵ (Pool (zs .0) c)) l refl $
+        move ! (3 ∷ []) $ lft-end ! tt $ move ! (0 ∷ 8 ∷ 6 ∷ []) $ use3 W (later (‵ (Map (zs .1 .1 .0)) ⊛ ‵ (flft κ₃ q₃))) (comes-back 𝓤 H A W S (named 2) κ₃ (μ ∷ []) q₃ γ₃ b₃ o₃ ε h (zs .1 .1 .0)) $ await ! tt $ split ! $
         assigns ! (of-opd ! (load ! (from ! (stop !)) (look ! 28 refl))) (from ! (stop !)) (init ! 36 refl (tt, (record { fits = fits .0 }, (record { fits = fits .1 }, tt)))) $
         returns ! (look ! 36 refl) $ forget ! 8 refl $ forget ! 10 refl $ forget ! 12 refl $ forget ! 14 refl $ forget ! 28 refl $ forget ! 30 refl $ forget ! 32 refl $ forget ! 34 refl $ forget ! 36 refl $
         keep ! (7 ∷ 6 ∷ 2 ∷ 3 ∷ 0 ∷ 1 ∷ 8 ∷ 9 ∷ 10 ∷ 11 ∷ 12 ∷ 13 ∷ 14 ∷ 15 ∷ 16 ∷ 17 ∷ 18 ∷ 19 ∷ 20 ∷ 21 ∷ 22 ∷ 23 ∷ 24 ∷ 25 ∷ 26 ∷ 27 ∷ 28 ∷ 29 ∷ 30 ∷ 31 ∷ 32 ∷ 33 ∷ 34 ∷ 35 ∷ 36 ∷ 37 ∷ []) $
@@ -318,100 +291,51 @@ module _ {M : Type 1} (𝓤 : URA M) (H : Heap 𝓤) (A : Atoms 𝓤) (W : Given
 
     -- an accepted block
     accepts : (r : Refused) → Refuses r (blockRefusal (placesIn m) ys) → r .number ≤ 0 → Fits r
-        → Sq W (‵ Own ∷ ‵ (flft κ₂ q₂) ∷ ‵ (Pool ps₀ m) ∷ ‵ (flft κ q) ∷ ‵ (Map h₀) ∷ ‵ (flft κ₃ q₃) ∷ ‵ (froom lent-map l₁₄ 0) ∷ ‵ (fdies lent-map l₁₄) ∷ ‵ (froom lent l₁₃ 0) ∷ ‵ (fdies lent l₁₃) ∷ ‵ (froom (tyRef erased mut word) l₁₂ 0) ∷ ‵ (fdies (tyRef erased mut word) l₁₂) ∷ ‵ (froom tyUnit l₁₁ 0) ∷ ‵ (fdies tyUnit l₁₁) ∷ ‵ (froom lent l₁₀ 0) ∷ ‵ (fdies lent l₁₀) ∷ ‵ (froom (tyRef erased mut word) l₉ 0) ∷ ‵ (fdies (tyRef erased mut word) l₉) ∷ ‵ (froom map-ty l₈ 0) ∷ ‵ (fdies map-ty l₈) ∷ ‵ (froom map-ty l₇ 0) ∷ ‵ (fdies map-ty l₇) ∷ ‵ (froom tyBool l₆ 0) ∷ ‵ (fdies tyBool l₆) ∷ ‵ (froom word l₅ 0) ∷ ‵ (fdies word l₅) ∷ ‵ (fat fullShare refused l₄ 0 (mach r)) ∷ ‵ (fdies refused l₄) ∷ ‵ (fat fullShare map-ref l₃ 0 (vptr b₃ o₃)) ∷ ‵ (fdies map-ref l₃) ∷ ‵ (fat fullShare slice l₂ 0 (sliceVal (b₂, o₂) n)) ∷ ‵ (fdies slice l₂) ∷ ‵ (fat fullShare words l₁ 0 (sliceVal (b, o) m)) ∷ ‵ (fdies words l₁) ∷ ‵ (froom refused l₀ 0) ∷ ‵ (fdies refused l₀) ∷ []) (runs C Λ En code.Mir.t-5 (atRet En Post))
+        → Sq W (‵ Own ∷ ‵ (flft κ₂ q₂) ∷ ‵ (Pool ps₀ m) ∷ ‵ (flft κ q) ∷ ‵ (Map h₀) ∷ ‵ (flft κ₃ q₃) ∷ ‵ (froom lent-map l₁₄ 0) ∷ ‵ (fdies lent-map l₁₄) ∷ ‵ (froom lent l₁₃ 0) ∷ ‵ (fdies lent l₁₃) ∷ ‵ (froom (tyRef erased mut word) l₁₂ 0) ∷ ‵ (fdies (tyRef erased mut word) l₁₂) ∷ ‵ (froom tyUnit l₁₁ 0) ∷ ‵ (fdies tyUnit l₁₁) ∷
+        ‵ (froom lent l₁₀ 0) ∷ ‵ (fdies lent l₁₀) ∷ ‵ (froom (tyRef erased mut word) l₉ 0) ∷ ‵ (fdies (tyRef erased mut word) l₉) ∷ ‵ (froom map-ty l₈ 0) ∷ ‵ (fdies map-ty l₈) ∷ ‵ (froom map-ty l₇ 0) ∷ ‵ (fdies map-ty l₇) ∷
+        ‵ (froom tyBool l₆ 0) ∷ ‵ (fdies tyBool l₆) ∷ ‵ (froom word l₅ 0) ∷ ‵ (fdies word l₅) ∷ ‵ (fat fullShare refused l₄ 0 (mach r)) ∷ ‵ (fdies refused l₄) ∷ ‵ (fat fullShare map-ref l₃ 0 (vptr b₃ o₃)) ∷ ‵ (fdies map-ref l₃) ∷
+        ‵ (fat fullShare slice l₂ 0 (sliceVal (b₂, o₂) n)) ∷ ‵ (fdies slice l₂) ∷ ‵ (fat fullShare words l₁ 0 (sliceVal (b, o) m)) ∷ ‵ (fdies words l₁) ∷ ‵ (froom refused l₀ 0) ∷ ‵ (fdies refused l₀) ∷ []) (runs C Λ En code.Mir.t-5 (atRet En Post))
     accepts r e small fits =
         assigns ! (addr ! (from ! (fld ! refl (hop ! (look-in ! 32 (sub ! 0 refl (whole !))) (stop !))))) (from ! (stop !)) (init ! 16 refl (tt, tt)) $
         assigns ! (agg ! (and-then ! (load ! (from ! (stop !)) (look ! 16 refl)) (and-then ! (load ! (from ! (fld ! refl (stop !))) (look-in ! 32 (sub ! 1 refl (whole !)))) (no-more !)))) (from ! (stop !)) (init ! 14 refl (tt, (tt, (record { fits = room .0 }, tt)))) $
-        lft-new ! tt (λ ν.
-        move ! (3 ∷ 4 ∷ []) $
+        lft-new ! tt (λ ν. move ! (3 ∷ 4 ∷ []) $
         use2 W (later (some (λ (δ : GName). ‵ (MutSlice (named 0) (ν ∷ []) u64 .own (pool δ ps₀) (sliceVal (b, o) m ∷ [])) ⊛ ‵ (SliceLent u64 κ (ν ∷ []) q γ b o δ ps₀)))) (slice-lends u64 κ (ν ∷ []) q γ b o 𝓤 H A W (named 0) (named 0) ps₀) $ await ! tt $ pick ! (λ δ. split ! $
-        move ! (2 ∷ 0 ∷ []) $
-        use2 W (raw (Start 𝓤 H A at-mem ran .pre (to-start ν δ))) (goes-start ν δ (start-room ps₀ ys r e small)) $
+        move ! (2 ∷ 0 ∷ []) $ use2 W (raw (Start 𝓤 H A at-mem ran .pre (to-start ν δ))) (goes-start ν δ (start-room ps₀ ys r e small)) $
         calls-at ! fm (Start 𝓤 H A at-mem ran) start-known (to-start ν δ) (and-then ! (load ! (from ! (stop !)) (look ! 14 refl)) (no-more !)) (λ v.
         use1 W (later (some (λ (g : RegisterMap). ((‵ (flft (ν ∷ []) fullShare) ⊛ ‵ ftrue) ⊛ ‵ (S .own g (v ∷ []))) ⊛ raw (ensured 𝓤 H A start-pool.ended (start-pool.clauses 𝓤 H A at-mem ran) (ν ∷ [], tt) (pool δ ps₀, tt) tt g)))) (id⊢ 𝓤 _) $ await ! tt $ pick ! (λ g.
-        split ! $
-        move ! (1 ∷ []) $
-        use1 W (some (λ (zs : Lasts start-pool.ended (ν ∷ [], tt) (pool δ ps₀, tt)). ‵ (lasts start-pool.ended (ν ∷ [], tt) (pool δ ps₀, tt) zs) ⊛ raw (fact 𝓤 (Started ps₀ (zs .0) 32 × (g ≡ firstMap))))) (id⊢ 𝓤 _) $ pick ! (λ zs.
-        split ! $
-        move ! (1 ∷ []) $
-        heard ! (Started ps₀ (zs .0) 32 × (g ≡ firstMap)) (λ d. fsplit ! $ fsplit ! $
-        move ! (1 ∷ []) $
-        feqL ! (λ k.
-        move ! (1 ∷ []) $
-        lose ! $
-        move ! (1 ∷ []) $
-        split ! $
-        split ! $
-        move ! (2 ∷ []) $
-        peeks ! S (Is S) (shows 𝓤 H A S) g (v ∷ []) (λ is.
-        land ! (from ! (stop !)) (init ! 21 refl (LL.lawful T.the-type T′.the-laws 𝓤 H A W .typed g _ is .0)) $
-        move ! (1 ∷ []) $
-        lft-end ! tt $
-        move ! (0 ∷ 4 ∷ 3 ∷ []) $
-        use3 W (later (‵ (Pool (zs .0) m) ⊛ ‵ (flft κ q))) (slice-back u64 κ (ν ∷ []) q γ b o 𝓤 H A W (named 0) (named 0) ps₀ δ (zs .0) room k) $ await ! tt $ split ! $
-        move ! (6 ∷ []) $
-        fsplit3 ! $ lose ! $
-        move ! (0 ∷ 1 ∷ 8 ∷ []) $
+        split ! $ move ! (1 ∷ []) $ use1 W (some (λ (zs : Lasts start-pool.ended (ν ∷ [], tt) (pool δ ps₀, tt)). ‵ (lasts start-pool.ended (ν ∷ [], tt) (pool δ ps₀, tt) zs) ⊛ raw (fact 𝓤 (Started ps₀ (zs .0) 32 × (g ≡ firstMap))))) (id⊢ 𝓤 _) $ pick ! (λ zs. split ! $
+        move ! (1 ∷ []) $ heard ! (Started ps₀ (zs .0) 32 × (g ≡ firstMap)) (λ d. fsplit ! $ fsplit ! $ move ! (1 ∷ []) $ feqL ! (λ k. move ! (1 ∷ []) $ lose ! $ move ! (1 ∷ []) $ split ! $ split ! $ move ! (2 ∷ []) $ peeks ! S (Is S) (shows 𝓤 H A S) g (v ∷ []) (λ is.
+        land ! (from ! (stop !)) (init ! 21 refl (LL.lawful T.the-type T′.the-laws 𝓤 H A W .typed g _ is .0)) $ move ! (1 ∷ []) $ lft-end ! tt $ move ! (0 ∷ 4 ∷ 3 ∷ []) $
+        use3 W (later (‵ (Pool (zs .0) m) ⊛ ‵ (flft κ q))) (slice-back u64 κ (ν ∷ []) q γ b o 𝓤 H A W (named 0) (named 0) ps₀ δ (zs .0) room k) $ await ! tt $ split ! $ move ! (6 ∷ []) $ fsplit3 ! $ lose ! $ move ! (0 ∷ 1 ∷ 8 ∷ []) $
         opens ! tt S {h = h₀} b₃ o₃ (λ vs. spelt ! S (Is S) (shows 𝓤 H A S) (λ d. T′.lowered d ∷ []) (T′.lowers .val-is) fullShare h₀ vs b₃ o₃ $
-        assigns ! (of-opd ! (load ! (from ! (stop !)) (look ! 23 refl))) (from ! (hop ! (look ! 33 refl) (stop !))) (store-raw ! 0 refl (LL.lawful T.the-type T′.the-laws 𝓤 H A W .typed g _ is .0)) $
-        move ! (0 ∷ 7 ∷ 2 ∷ 3 ∷ 4 ∷ []) $
-        closes ! tt S g (v ∷ []) b₃ o₃ $
-        feqI ! (List Val) (vptr b₃ o₃ ∷ []) (vptr b₃ o₃ ∷ []) refl $ fjoin3 ! $
-        move ! (2 ∷ []) $
-        lose ! $
-        forget ! 15 refl $ forget ! 17 refl $ forget ! 19 refl $
-        keep ! (5 ∷ 6 ∷ 2 ∷ 3 ∷ 0 ∷ 1 ∷ 7 ∷ 8 ∷ 9 ∷ 10 ∷ 11 ∷ 12 ∷ 13 ∷ 14 ∷ 15 ∷ 16 ∷ 17 ∷ 18 ∷ 19 ∷ 20 ∷ 21 ∷ 22 ∷ 23 ∷ 24 ∷ 25 ∷ 26 ∷ 27 ∷ 28 ∷ 29 ∷ 30 ∷ 31 ∷ 32 ∷ 33 ∷ 34 ∷ 35 ∷ 36 ∷ []) $
-        runs-on r e small fits (zs .0) g k (d .0) (d .1))))))))))
+        assigns ! (of-opd ! (load ! (from ! (stop !)) (look ! 23 refl))) (from ! (hop ! (look ! 33 refl) (stop !))) (store-raw ! 0 refl (LL.lawful T.the-type T′.the-laws 𝓤 H A W .typed g _ is .0)) $ move ! (0 ∷ 7 ∷ 2 ∷ 3 ∷ 4 ∷ []) $ closes ! tt S g (v ∷ []) b₃ o₃ $
+        feqI ! (List Val) (vptr b₃ o₃ ∷ []) (vptr b₃ o₃ ∷ []) refl $ fjoin3 ! $ move ! (2 ∷ []) $ lose ! $ forget ! 15 refl $ forget ! 17 refl $ forget ! 19 refl $
+        keep ! (5 ∷ 6 ∷ 2 ∷ 3 ∷ 0 ∷ 1 ∷ 7 ∷ 8 ∷ 9 ∷ 10 ∷ 11 ∷ 12 ∷ 13 ∷ 14 ∷ 15 ∷ 16 ∷ 17 ∷ 18 ∷ 19 ∷ 20 ∷ 21 ∷ 22 ∷ 23 ∷ 24 ∷ 25 ∷ 26 ∷ 27 ∷ 28 ∷ 29 ∷ 30 ∷ 31 ∷ 32 ∷ 33 ∷ 34 ∷ 35 ∷ 36 ∷ []) $ runs-on r e small fits (zs .0) g k (d .0) (d .1))))))))))
 
     -- the body, once the parameters are in their places
-    begins : Sq W (‵ Own ∷ ‵ (flft κ₂ q₂) ∷ ‵ (Pool ps₀ m) ∷ ‵ (flft κ q) ∷ ‵ (Map h₀) ∷ ‵ (flft κ₃ q₃) ∷ ‵ (froom lent-map l₁₄ 0) ∷ ‵ (fdies lent-map l₁₄) ∷ ‵ (froom lent l₁₃ 0) ∷ ‵ (fdies lent l₁₃) ∷ ‵ (froom (tyRef erased mut word) l₁₂ 0) ∷ ‵ (fdies (tyRef erased mut word) l₁₂) ∷ ‵ (froom tyUnit l₁₁ 0) ∷ ‵ (fdies tyUnit l₁₁) ∷ ‵ (froom lent l₁₀ 0) ∷ ‵ (fdies lent l₁₀) ∷ ‵ (froom (tyRef erased mut word) l₉ 0) ∷ ‵ (fdies (tyRef erased mut word) l₉) ∷ ‵ (froom map-ty l₈ 0) ∷ ‵ (fdies map-ty l₈) ∷ ‵ (froom map-ty l₇ 0) ∷ ‵ (fdies map-ty l₇) ∷ ‵ (froom tyBool l₆ 0) ∷ ‵ (fdies tyBool l₆) ∷ ‵ (froom word l₅ 0) ∷ ‵ (fdies word l₅) ∷ ‵ (froom refused l₄ 0) ∷ ‵ (fdies refused l₄) ∷ ‵ (fat fullShare map-ref l₃ 0 (vptr b₃ o₃)) ∷ ‵ (fdies map-ref l₃) ∷ ‵ (fat fullShare slice l₂ 0 (sliceVal (b₂, o₂) n)) ∷ ‵ (fdies slice l₂) ∷ ‵ (fat fullShare words l₁ 0 (sliceVal (b, o) m)) ∷ ‵ (fdies words l₁) ∷ ‵ (froom refused l₀ 0) ∷ ‵ (fdies refused l₀) ∷ []) (runs C Λ En code.Mir.t-1 (atRet En Post))
+    begins : Sq W (‵ Own ∷ ‵ (flft κ₂ q₂) ∷ ‵ (Pool ps₀ m) ∷ ‵ (flft κ q) ∷ ‵ (Map h₀) ∷ ‵ (flft κ₃ q₃) ∷ ‵ (froom lent-map l₁₄ 0) ∷ ‵ (fdies lent-map l₁₄) ∷ ‵ (froom lent l₁₃ 0) ∷ ‵ (fdies lent l₁₃) ∷ ‵ (froom (tyRef erased mut word) l₁₂ 0) ∷ ‵ (fdies (tyRef erased mut word) l₁₂) ∷ ‵ (froom tyUnit l₁₁ 0) ∷ ‵ (fdies tyUnit l₁₁) ∷
+        ‵ (froom lent l₁₀ 0) ∷ ‵ (fdies lent l₁₀) ∷ ‵ (froom (tyRef erased mut word) l₉ 0) ∷ ‵ (fdies (tyRef erased mut word) l₉) ∷ ‵ (froom map-ty l₈ 0) ∷ ‵ (fdies map-ty l₈) ∷ ‵ (froom map-ty l₇ 0) ∷ ‵ (fdies map-ty l₇) ∷
+        ‵ (froom tyBool l₆ 0) ∷ ‵ (fdies tyBool l₆) ∷ ‵ (froom word l₅ 0) ∷ ‵ (fdies word l₅) ∷ ‵ (froom refused l₄ 0) ∷ ‵ (fdies refused l₄) ∷ ‵ (fat fullShare map-ref l₃ 0 (vptr b₃ o₃)) ∷ ‵ (fdies map-ref l₃) ∷
+        ‵ (fat fullShare slice l₂ 0 (sliceVal (b₂, o₂) n)) ∷ ‵ (fdies slice l₂) ∷ ‵ (fat fullShare words l₁ 0 (sliceVal (b, o) m)) ∷ ‵ (fdies words l₁) ∷ ‵ (froom refused l₀ 0) ∷ ‵ (fdies refused l₀) ∷ []) (runs C Λ En code.Mir.t-1 (atRet En Post))
     begins =
         assigns ! (of-opd ! (load ! (from ! (fld ! refl (stop !))) (look-in ! 32 (sub ! 1 refl (whole !))))) (from ! (stop !)) (init ! 24 refl (tt, record { fits = room .0 })) $
-        use1 W (‵ Own ⊛ ‵ Own) (shr-slice-copy 𝓤 H A W (named 1) κ₂ R .twice records (sliceVal (b₂, o₂) n ∷ [])) $ split ! $
-        move ! (2 ∷ 0 ∷ []) $
-        use2 W (raw (Refusing 𝓤 H A at-mem ran .pre to-refusing)) goes-refusing $
+        use1 W (‵ Own ⊛ ‵ Own) (shr-slice-copy 𝓤 H A W (named 1) κ₂ R .twice records (sliceVal (b₂, o₂) n ∷ [])) $ split ! $ move ! (2 ∷ 0 ∷ []) $ use2 W (raw (Refusing 𝓤 H A at-mem ran .pre to-refusing)) goes-refusing $
         calls-at ! fm (Refusing 𝓤 H A at-mem ran) refusing-known to-refusing (and-then ! (load ! (from ! (stop !)) (look ! 24 refl)) (and-then ! (load ! (from ! (stop !)) (look ! 30 refl)) (no-more !))) (λ v.
-        use1 W (later (some (λ (r : Refused). ((‵ (flft κ₂ q₂) ⊛ ‵ ftrue) ⊛ ‵ (Q .own r (v ∷ []))) ⊛ raw (ensured 𝓤 H A block-refusal.ended (block-refusal.clauses 𝓤 H A at-mem ran) (κ₂, tt) (m, (records, tt)) tt r)))) (id⊢ 𝓤 _) $ await ! tt $ pick ! (λ r.
-        split ! $
-        move ! (1 ∷ []) $
-        use1 W (raw (fact 𝓤 (Refuses r (blockRefusal (placesIn m) ys)))) (refusing-told r) $ heard ! (Refuses r (blockRefusal (placesIn m) ys)) (λ e.
-        split ! $
-        split ! $
-        move ! (2 ∷ []) $
-        peeks ! Q (Is Q) (shows 𝓤 H A Q) r (v ∷ []) (λ is.
-        land ! (from ! (stop !)) (init ! 28 refl (LL.lawful T₂.the-type T₂′.the-laws 𝓤 H A W .typed r _ is .0)) $ rewrite ! 28 (λ (z : Val). ‵ (fat fullShare refused l₄ 0 z)) (ap only (T₂′.lowers .val-is r (v ∷ []) is)) refl $ lose ! $
-        move ! (1 ∷ []) $
-        lose ! $
-        assigns ! (bin ! (lit ! tt) (load ! (from ! (fld ! refl (stop !))) (look-in ! 26 (sub ! 0 refl (whole !)))) tt) (from ! (stop !)) (init ! 22 refl (tt, tt)) $
-        first ! $ branches ! (load ! (from ! (stop !)) (look ! 22 refl))
-        (λ big.
-        use0 W (raw (NoMap 𝓤 H A at-mem ran .pre to-no-map)) goes-no-map $
-        calls-at ! fm (NoMap 𝓤 H A at-mem ran) no-map-known to-no-map (no-more !) (λ v₂.
-        use1 W (later (some (λ (g : RegisterMap). (‵ ftrue ⊛ ‵ (S .own g (v₂ ∷ []))) ⊛ raw (ensured 𝓤 H A no-map.ended (no-map.clauses 𝓤 H A at-mem ran) tt tt tt g)))) (id⊢ 𝓤 _) $ await ! tt $ pick ! (λ g.
-        split ! $
-        move ! (1 ∷ []) $
-        use1 W (raw (fact 𝓤 (g ≡ noMap))) (no-map-told g) $ heard ! (g ≡ noMap) (λ z.
-        split ! $ lose ! $
-        peeks ! S (Is S) (shows 𝓤 H A S) g (v₂ ∷ []) (λ is₂.
-        land ! (from ! (stop !)) (init ! 21 refl (LL.lawful T.the-type T′.the-laws 𝓤 H A W .typed g _ is₂ .0)) $
-        move ! (5 ∷ []) $
-        fsplit3 ! $ lose ! $
-        move ! (0 ∷ 1 ∷ 7 ∷ []) $
-        opens ! tt S {h = h₀} b₃ o₃ (λ vs. spelt ! S (Is S) (shows 𝓤 H A S) (λ d. T′.lowered d ∷ []) (T′.lowers .val-is) fullShare h₀ vs b₃ o₃ $
-        assigns ! (of-opd ! (load ! (from ! (stop !)) (look ! 24 refl))) (from ! (hop ! (look ! 32 refl) (stop !))) (store-raw ! 0 refl (LL.lawful T.the-type T′.the-laws 𝓤 H A W .typed g _ is₂ .0)) $
-        move ! (0 ∷ 5 ∷ 2 ∷ 3 ∷ 4 ∷ []) $
-        closes ! tt S g (v₂ ∷ []) b₃ o₃ $
-        feqI ! (List Val) (vptr b₃ o₃ ∷ []) (vptr b₃ o₃ ∷ []) refl $ fjoin3 ! $
-        move ! (2 ∷ []) $
-        lose ! $
+        use1 W (later (some (λ (r : Refused). ((‵ (flft κ₂ q₂) ⊛ ‵ ftrue) ⊛ ‵ (Q .own r (v ∷ []))) ⊛ raw (ensured 𝓤 H A block-refusal.ended (block-refusal.clauses 𝓤 H A at-mem ran) (κ₂, tt) (m, (records, tt)) tt r)))) (id⊢ 𝓤 _) $ await ! tt $ pick ! (λ r. split ! $
+        move ! (1 ∷ []) $ use1 W (raw (fact 𝓤 (Refuses r (blockRefusal (placesIn m) ys)))) (refusing-told r) $ heard ! (Refuses r (blockRefusal (placesIn m) ys)) (λ e. split ! $ split ! $ move ! (2 ∷ []) $ peeks ! Q (Is Q) (shows 𝓤 H A Q) r (v ∷ []) (λ is.
+        land ! (from ! (stop !)) (init ! 28 refl (LL.lawful T₂.the-type T₂′.the-laws 𝓤 H A W .typed r _ is .0)) $ rewrite ! 28 (λ (z : Val). ‵ (fat fullShare refused l₄ 0 z)) (ap only (T₂′.lowers .val-is r (v ∷ []) is)) refl $ lose ! $ move ! (1 ∷ []) $ lose ! $
+        assigns ! (bin ! (lit ! tt) (load ! (from ! (fld ! refl (stop !))) (look-in ! 26 (sub ! 0 refl (whole !)))) tt) (from ! (stop !)) (init ! 22 refl (tt, tt)) $ first ! $ branches ! (load ! (from ! (stop !)) (look ! 22 refl)) (λ big.
+        use0 W (raw (NoMap 𝓤 H A at-mem ran .pre to-no-map)) goes-no-map $ calls-at ! fm (NoMap 𝓤 H A at-mem ran) no-map-known to-no-map (no-more !) (λ v₂.
+        use1 W (later (some (λ (g : RegisterMap). (‵ ftrue ⊛ ‵ (S .own g (v₂ ∷ []))) ⊛ raw (ensured 𝓤 H A no-map.ended (no-map.clauses 𝓤 H A at-mem ran) tt tt tt g)))) (id⊢ 𝓤 _) $ await ! tt $ pick ! (λ g. split ! $ move ! (1 ∷ []) $
+        use1 W (raw (fact 𝓤 (g ≡ noMap))) (no-map-told g) $ heard ! (g ≡ noMap) (λ z. split ! $ lose ! $ peeks ! S (Is S) (shows 𝓤 H A S) g (v₂ ∷ []) (λ is₂. land ! (from ! (stop !)) (init ! 21 refl (LL.lawful T.the-type T′.the-laws 𝓤 H A W .typed g _ is₂ .0)) $
+        move ! (5 ∷ []) $ fsplit3 ! $ lose ! $ move ! (0 ∷ 1 ∷ 7 ∷ []) $ opens ! tt S {h = h₀} b₃ o₃ (λ vs. spelt ! S (Is S) (shows 𝓤 H A S) (λ d. T′.lowered d ∷ []) (T′.lowers .val-is) fullShare h₀ vs b₃ o₃ $
+        assigns ! (of-opd ! (load ! (from ! (stop !)) (look ! 24 refl))) (from ! (hop ! (look ! 32 refl) (stop !))) (store-raw ! 0 refl (LL.lawful T.the-type T′.the-laws 𝓤 H A W .typed g _ is₂ .0)) $ move ! (0 ∷ 5 ∷ 2 ∷ 3 ∷ 4 ∷ []) $ closes ! tt S g (v₂ ∷ []) b₃ o₃ $
+        feqI ! (List Val) (vptr b₃ o₃ ∷ []) (vptr b₃ o₃ ∷ []) refl $ fjoin3 ! $ move ! (2 ∷ []) $ lose ! $
         assigns ! (of-opd ! (load ! (from ! (stop !)) (look ! 26 refl))) (from ! (stop !)) (init ! 34 refl (tt, (record { fits = (fit r (v ∷ []) is) .0 }, (record { fits = (fit r (v ∷ []) is) .1 }, tt)))) $
         returns-within ! Post refl (look ! 34 refl) $ forget ! 20 refl $ forget ! 22 refl $ forget ! 24 refl $ forget ! 26 refl $ forget ! 28 refl $ forget ! 30 refl $ forget ! 32 refl $ forget ! 34 refl $
         keep ! (3 ∷ 2 ∷ 4 ∷ 5 ∷ 0 ∷ 1 ∷ 6 ∷ 7 ∷ 8 ∷ 9 ∷ 10 ∷ 11 ∷ 12 ∷ 13 ∷ 14 ∷ 15 ∷ 16 ∷ 17 ∷ 18 ∷ 19 ∷ 20 ∷ 21 ∷ 22 ∷ 23 ∷ 24 ∷ 25 ∷ 26 ∷ 27 ∷ 28 ∷ 29 ∷ 30 ∷ 31 ∷ 32 ∷ 33 ∷ 34 ∷ 35 ∷ []) $
-        leaves r ps₀ g (all-refused ps₀ ys r e g (ltb→lt 0 (r .number) big) z) refl (fit r (v ∷ []) is)))))))
-        (λ small. skips ! $ exec ! C Λ En code.Mir.t-5 (atRet En Post) $
-        forget ! 22 refl $ forget ! 24 refl $
-        keep ! (1 ∷ 0 ∷ 2 ∷ 3 ∷ 4 ∷ 5 ∷ 6 ∷ 7 ∷ 8 ∷ 9 ∷ 10 ∷ 11 ∷ 12 ∷ 13 ∷ 14 ∷ 15 ∷ 16 ∷ 17 ∷ 18 ∷ 19 ∷ 20 ∷ 21 ∷ 22 ∷ 23 ∷ 24 ∷ 25 ∷ 26 ∷ 27 ∷ 28 ∷ 29 ∷ 30 ∷ 31 ∷ 32 ∷ 33 ∷ 34 ∷ 35 ∷ []) $
-        accepts r e (nltb→le 0 (r .number) small) (fit r (v ∷ []) is))))))
+        leaves r ps₀ g (all-refused ps₀ ys r e g (ltb→lt 0 (r .number) big) z) refl (fit r (v ∷ []) is))))))) (λ small. skips ! $ exec ! C Λ En code.Mir.t-5 (atRet En Post) $ forget ! 22 refl $ forget ! 24 refl $
+        keep ! (1 ∷ 0 ∷ 2 ∷ 3 ∷ 4 ∷ 5 ∷ 6 ∷ 7 ∷ 8 ∷ 9 ∷ 10 ∷ 11 ∷ 12 ∷ 13 ∷ 14 ∷ 15 ∷ 16 ∷ 17 ∷ 18 ∷ 19 ∷ 20 ∷ 21 ∷ 22 ∷ 23 ∷ 24 ∷ 25 ∷ 26 ∷ 27 ∷ 28 ∷ 29 ∷ 30 ∷ 31 ∷ 32 ∷ 33 ∷ 34 ∷ 35 ∷ []) $ accepts r e (nltb→le 0 (r .number) small) (fit r (v ∷ []) is))))))
 
   walk : (𝓣 : Tables 𝓤 H) → FmC 𝓤 H (W .laws) (𝓣 .C) → Triple 𝓤 (𝓣 .C #blocks·block-refusal) (Refusing 𝓤 H A at-mem ran) → Triple 𝓤 (𝓣 .C #register-map·refused) (NoMap 𝓤 H A at-mem ran)
       → Triple 𝓤 (𝓣 .C #block·start-pool) (Start 𝓤 H A at-mem ran) → Triple 𝓤 (𝓣 .C #blocks·run-instructions) (Run 𝓤 H A at-mem ran)

@@ -192,7 +192,10 @@ module _ {M : Type 1} (𝓤 : URA M) (H : Heap 𝓤) (A : Atoms 𝓤) (W : Given
 
     -- [what the list owns; its token; what the pool owns; its token; what the map owns; its token; the locals]
     abbrev At : Upto → List (Item 𝓤)
-    At u = ‵ Own ∷ ‵ (flft κ₂ q₂) ∷ ‵ (Pool (u .1) m) ∷ ‵ (flft κ q) ∷ ‵ (Map (u .2)) ∷ ‵ (flft κ₃ q₃) ∷ ‵ (froom lent-map l₁₃ 0) ∷ ‵ (fdies lent-map l₁₃) ∷ ‵ (froom lent l₁₂ 0) ∷ ‵ (fdies lent l₁₂) ∷ ‵ (froom (tyRef erased mut word) l₁₁ 0) ∷ ‵ (fdies (tyRef erased mut word) l₁₁) ∷ ‵ (froom tyUnit l₁₀ 0) ∷ ‵ (fdies tyUnit l₁₀) ∷ ‵ (froom inst l₉ 0) ∷ ‵ (fdies inst l₉) ∷ ‵ (froom tyPtr l₈ 0) ∷ ‵ (fdies tyPtr l₈) ∷ ‵ (froom tyBool l₇ 0) ∷ ‵ (fdies tyBool l₇) ∷ ‵ (froom word l₆ 0) ∷ ‵ (fdies word l₆) ∷ ‵ (froom inst l₅ 0) ∷ ‵ (fdies inst l₅) ∷ ‵ (fat fullShare word l₄ 0 (vint w64 (u .0))) ∷ ‵ (fdies word l₄) ∷ ‵ (fat fullShare map-ref l₃ 0 (vptr b₃ o₃)) ∷ ‵ (fdies map-ref l₃) ∷ ‵ (fat fullShare slice l₂ 0 (sliceVal (b₂, o₂) n)) ∷ ‵ (fdies slice l₂) ∷ ‵ (fat fullShare words l₁ 0 (sliceVal (b, o) m)) ∷ ‵ (fdies words l₁) ∷ ‵ (froom tyUnit l₀ 0) ∷ ‵ (fdies tyUnit l₀) ∷ []
+    At u = ‵ Own ∷ ‵ (flft κ₂ q₂) ∷ ‵ (Pool (u .1) m) ∷ ‵ (flft κ q) ∷ ‵ (Map (u .2)) ∷ ‵ (flft κ₃ q₃) ∷ ‵ (froom lent-map l₁₃ 0) ∷ ‵ (fdies lent-map l₁₃) ∷ ‵ (froom lent l₁₂ 0) ∷ ‵ (fdies lent l₁₂) ∷ ‵ (froom (tyRef erased mut word) l₁₁ 0) ∷ ‵ (fdies (tyRef erased mut word) l₁₁) ∷ ‵ (froom tyUnit l₁₀ 0) ∷ ‵ (fdies tyUnit l₁₀) ∷
+        ‵ (froom inst l₉ 0) ∷ ‵ (fdies inst l₉) ∷ ‵ (froom tyPtr l₈ 0) ∷ ‵ (fdies tyPtr l₈) ∷ ‵ (froom tyBool l₇ 0) ∷ ‵ (fdies tyBool l₇) ∷ ‵ (froom word l₆ 0) ∷ ‵ (fdies word l₆) ∷ ‵ (froom inst l₅ 0) ∷ ‵ (fdies inst l₅) ∷
+        ‵ (fat fullShare word l₄ 0 (vint w64 (u .0))) ∷ ‵ (fdies word l₄) ∷ ‵ (fat fullShare map-ref l₃ 0 (vptr b₃ o₃)) ∷ ‵ (fdies map-ref l₃) ∷ ‵ (fat fullShare slice l₂ 0 (sliceVal (b₂, o₂) n)) ∷ ‵ (fdies slice l₂) ∷
+        ‵ (fat fullShare words l₁ 0 (sliceVal (b, o) m)) ∷ ‵ (fdies words l₁) ∷ ‵ (froom tyUnit l₀ 0) ∷ ‵ (fdies tyUnit l₀) ∷ []
 
     -- a turn ends nearer to n, or the loop is left and the rest of the body runs
     abbrev Turned : Upto → Out → SProp 𝓤
@@ -207,71 +210,40 @@ module _ {M : Type 1} (𝓤 : URA M) (H : Heap 𝓤) (A : Atoms 𝓤) (W : Given
         rewrite ! 18 (λ (t : Bool). ‵ (fat fullShare tyBool l₇ 0 (vbool t))) (lt-ltb (u .0) n less) refl $ stays ! (load ! (from ! (stop !)) (look ! 18 refl)) $
         assigns ! (bin ! (load ! (from ! (stop !)) (look ! 24 refl)) (lit ! tt) (record { fits = scaled })) (from ! (stop !)) (store ! 20 refl (tt, record { fits = scaled })) $
         assigns ! (bin ! (load ! (from ! (fld ! refl (stop !))) (look-in ! 28 (sub ! 0 refl (whole !)))) (load ! (from ! (stop !)) (look ! 20 refl)) tt) (from ! (stop !)) (init ! 16 refl (tt, tt)) $
-        rewrite ! 16 (λ (p : ℕ). ‵ (fat fullShare tyPtr l₈ 0 (vptr b₂ p))) (sym (place-is 48 o₂ (u .0))) refl $
-        use1 W (‵ Own ⊛ ‵ Own) (shr-slice-copy 𝓤 H A W (named 1) κ₂ R .twice records (sliceVal (b₂, o₂) n ∷ [])) $ split ! $ fsplit ! $ lose ! $ fsplit ! $ lose ! $
+        rewrite ! 16 (λ (p : ℕ). ‵ (fat fullShare tyPtr l₈ 0 (vptr b₂ p))) (sym (place-is 48 o₂ (u .0))) refl $ use1 W (‵ Own ⊛ ‵ Own) (shr-slice-copy 𝓤 H A W (named 1) κ₂ R .twice records (sliceVal (b₂, o₂) n ∷ [])) $ split ! $ fsplit ! $ lose ! $ fsplit ! $ lose ! $
         move ! (0 ∷ 2 ∷ []) $
         looks-slice ! tt R (Is R) (shows 𝓤 H A R) (λ d. T₁′.lowered d ∷ []) (T₁′.lowers .val-is) (LL.copy T₁.the-type T₁′.the-copy 𝓤 H A W) ys b₂ o₂ (λ q′. elem-out ! R (Is R) (shows 𝓤 H A R) (λ d. T₁′.lowered d ∷ []) (T₁′.lowers .val-is) q′ ys (u .0) none b₂ o₂ less (λ g.
-        -- [records[j]; own; others; obor; shr; list; pool; t1; map; t3; _13; _12; _11; _10; _9; _8; _7; _6; _5; _4; _3; _2; _1; _0]
+        -- [records[j]; what is owned; others; the open borrow; the fractured borrow; what the list owns; what the pool owns; the pool's token; what the map owns; the map's token; the locals]
         assigns ! (of-opd ! (load ! (from ! (hop ! (look ! 20 refl) (stop !))) (look-raw ! 0 refl))) (from ! (stop !)) (init ! 18 refl (LL.lawful T₁.the-type T₁′.the-laws 𝓤 H A W .typed elem _ g .0)) $
         assigns ! (of-opd ! (load ! (from ! (stop !)) (look ! 18 refl))) (from ! (stop !)) (init ! 26 refl (LL.lawful T₁.the-type T₁′.the-laws 𝓤 H A W .typed elem _ g .0)) $
-        elem-back ! R q′ ys (u .0) none (T₁′.lowered elem ∷ []) b₂ o₂ less $ shuts-slice ! tt R q′ ys b₂ o₂ $
-        move ! (1 ∷ []) $
-        lose ! $
+        elem-back ! R q′ ys (u .0) none (T₁′.lowered elem ∷ []) b₂ o₂ less $ shuts-slice ! tt R q′ ys b₂ o₂ $ move ! (1 ∷ []) $ lose ! $
         assigns ! (addr ! (from ! (fld ! refl (hop ! (look-in ! 30 (sub ! 0 refl (whole !))) (stop !))))) (from ! (stop !)) (init ! 10 refl (tt, tt)) $
         assigns ! (agg ! (and-then ! (load ! (from ! (stop !)) (look ! 10 refl)) (and-then ! (load ! (from ! (fld ! refl (stop !))) (look-in ! 30 (sub ! 1 refl (whole !)))) (no-more !)))) (from ! (stop !)) (init ! 8 refl (tt, (tt, (record { fits = room .0 }, tt)))) $
         assigns ! (addr ! (from ! (hop ! (look ! 26 refl) (stop !)))) (from ! (stop !)) (init ! 6 refl (tt, tt)) $
         -- the pool and the map are lent again, each for a lifetime of the call
-        rewrite ! 2 (λ (c : ℕ). ‵ (Pool (u .1) c)) (sym (u .4)) refl $ rewrite ! 8 (λ (c : ℕ). ‵ (fat fullShare lent l₁₂ 0 (sliceVal (b, o) c))) (sym (u .4)) refl $
-        lft-new ! tt (λ ν. lft-new ! tt (λ μ.
-        move ! (4 ∷ 5 ∷ []) $
+        rewrite ! 2 (λ (c : ℕ). ‵ (Pool (u .1) c)) (sym (u .4)) refl $ rewrite ! 8 (λ (c : ℕ). ‵ (fat fullShare lent l₁₂ 0 (sliceVal (b, o) c))) (sym (u .4)) refl $ lft-new ! tt (λ ν. lft-new ! tt (λ μ. move ! (4 ∷ 5 ∷ []) $
         use2 W (later (some (λ (δ : GName). ‵ (MutSlice (named 0) (ν ∷ []) u64 .own (pool δ (u .1)) (sliceVal (b, o) (length (u .1)) ∷ [])) ⊛ ‵ (SliceLent u64 κ (ν ∷ []) q γ b o δ (u .1))))) (slice-lends u64 κ (ν ∷ []) q γ b o 𝓤 H A W (named 0) (named 0) (u .1)) $ await ! tt $ pick ! (λ δ. split ! $
         move ! (6 ∷ 7 ∷ []) $
         use2 W (later (some (λ (ε : GName). ‵ (MutRef (named 1) (μ ∷ []) S .own (map ε (u .2)) (vptr b₃ o₃ ∷ [])) ⊛ ‵ (LentAgain S κ₃ (μ ∷ []) q₃ γ₃ b₃ o₃ ε (u .2))))) (lends-again 𝓤 H A W S (named 2) κ₃ (μ ∷ []) q₃ γ₃ b₃ o₃ (named 1) (u .2)) $ await ! tt $ pick ! (λ ε. split ! $
         move ! (5 ∷ 4 ∷ 2 ∷ 0 ∷ []) $
-        -- [tν; tμ; lent pool; lent map; kept map; kept pool; t2; list; _13; _12; _11; _10; _9; _8; _7; _6; _5; _4; _3; _2; _1; _0]
-        join ! $
-        move ! (1 ∷ 2 ∷ []) $
-        join ! $
-        move ! (1 ∷ []) $
-        use2 W (raw (Step 𝓤 H A at-mem ran .pre (to-step ν μ δ ε (u .1) (u .2) elem))) (goes-step ν μ δ ε (u .1) (u .2) elem (fit g) (ran-ok ps₀ h₀ ys (u .0) (ok .0) (ok .2) less (u .5))) $
+        -- [ν; μ; the pool, lent; the map, lent; what is kept of the map; what is kept of the pool; the list's token; what the list owns; the locals]
+        join ! $ move ! (1 ∷ 2 ∷ []) $ join ! $ move ! (1 ∷ []) $ use2 W (raw (Step 𝓤 H A at-mem ran .pre (to-step ν μ δ ε (u .1) (u .2) elem))) (goes-step ν μ δ ε (u .1) (u .2) elem (fit g) (ran-ok ps₀ h₀ ys (u .0) (ok .0) (ok .2) less (u .5))) $
         calls-at ! fm (Step 𝓤 H A at-mem ran) known (to-step ν μ δ ε (u .1) (u .2) elem) (and-then ! (load ! (from ! (stop !)) (look ! 7 refl)) (and-then ! (load ! (from ! (stop !)) (look ! 5 refl)) (and-then ! (load ! (from ! (fld ! refl (stop !))) (look-in ! 21 (sub ! 0 refl (whole !)))) (and-then ! (load ! (from ! (fld ! refl (stop !))) (look-in ! 21 (sub ! 1 refl (whole !)))) (and-then ! (load ! (from ! (fld ! refl (stop !))) (look-in ! 21 (sub ! 2 refl (whole !)))) (and-then ! (load ! (from ! (fld ! refl (stop !))) (look-in ! 21 (sub ! 3 refl (whole !)))) (and-then ! (load ! (from ! (fld ! refl (stop !))) (look-in ! 21 (sub ! 4 refl (whole !)))) (and-then ! (load ! (from ! (fld ! refl (stop !))) (look-in ! 21 (sub ! 5 refl (whole !)))) (no-more !))))))))) (λ v.
         use1 W (later (some (λ (r : Unit {0}). ((‵ (flft (ν ∷ []) fullShare) ⊛ ‵ (flft (μ ∷ []) fullShare) ⊛ ‵ ftrue) ⊛ ‵ (unit .own r (v ∷ []))) ⊛ raw (ensured 𝓤 H A lower-record-in.ended (lower-record-in.clauses 𝓤 H A at-mem ran) (ν ∷ [], (μ ∷ [], tt)) (passed-on ν μ δ ε (u .1) (u .2) elem) tt r)))) (id⊢ 𝓤 _) $ await ! tt $ pick ! (λ r.
-        split ! $
-        move ! (1 ∷ []) $
+        split ! $ move ! (1 ∷ []) $
         -- what `lower_record_in` ensures, at some last pool and map
         use1 W (some (λ (zs : Lasts lower-record-in.ended (ν ∷ [], (μ ∷ [], tt)) (passed-on ν μ δ ε (u .1) (u .2) elem)). ‵ (lasts lower-record-in.ended (ν ∷ [], (μ ∷ [], tt)) (passed-on ν μ δ ε (u .1) (u .2) elem) zs) ⊛ raw (fact 𝓤 (Steps (u .1) (u .2) (zs .0) (zs .1 .0) elem)))) (id⊢ 𝓤 _) $ pick ! (λ zs.
-        split ! $
-        move ! (1 ∷ []) $
-        heard ! (Steps (u .1) (u .2) (zs .0) (zs .1 .0) elem) (λ e. fsplit ! $ fsplit ! $
-        move ! (1 ∷ []) $
-        feqL ! (λ l.
-        move ! (1 ∷ []) $
-        fsplit ! $
-        move ! (1 ∷ []) $
-        lose ! $
-        move ! (2 ∷ []) $
-        split ! $
-        split ! $
-        move ! (1 ∷ []) $
-        split ! $
-        move ! (3 ∷ []) $
-        peeks ! unit (Is unit) (shows 𝓤 H A unit) r (v ∷ []) (λ is.
-        -- [own; tμ; true; tν; last map; last pool; kept map; kept pool; t2; list; _13; _12; _11; _10; _9; _8; _7; _6; _5; _4; _3; _2; _1; _0]
+        split ! $ move ! (1 ∷ []) $ heard ! (Steps (u .1) (u .2) (zs .0) (zs .1 .0) elem) (λ e. fsplit ! $ fsplit ! $ move ! (1 ∷ []) $ feqL ! (λ l. move ! (1 ∷ []) $ fsplit ! $ move ! (1 ∷ []) $ lose ! $ move ! (2 ∷ []) $ split ! $ split ! $ move ! (1 ∷ []) $
+        split ! $ move ! (3 ∷ []) $ peeks ! unit (Is unit) (shows 𝓤 H A unit) r (v ∷ []) (λ is.
+        -- [what is owned; μ; …; ν; the last map; the last pool; what is kept of the map; what is kept of the pool; the list's token; what the list owns; the locals]
         land ! (from ! (stop !)) (init ! 16 refl (nothing-lawful 𝓤 H A W .typed r _ is .0)) $
         -- the lifetimes are ended, and the pool and the map come back
-        move ! (3 ∷ []) $
-        lft-end ! tt $
-        move ! (0 ∷ 7 ∷ 5 ∷ []) $
-        use3 W (later (‵ (Pool (zs .0) (length (u .1))) ⊛ ‵ (flft κ q))) (slice-back u64 κ (ν ∷ []) q γ b o 𝓤 H A W (named 0) (named 0) (u .1) δ (zs .0) (rw (u .4) room) l) $ await ! tt $ split ! $
-        rewrite ! 0 (λ (c : ℕ). ‵ (Pool (zs .0) c)) (u .4) refl $
-        move ! (3 ∷ []) $
-        lft-end ! tt $
-        move ! (0 ∷ 6 ∷ 5 ∷ []) $
+        move ! (3 ∷ []) $ lft-end ! tt $ move ! (0 ∷ 7 ∷ 5 ∷ []) $ use3 W (later (‵ (Pool (zs .0) (length (u .1))) ⊛ ‵ (flft κ q))) (slice-back u64 κ (ν ∷ []) q γ b o 𝓤 H A W (named 0) (named 0) (u .1) δ (zs .0) (rw (u .4) room) l) $ await ! tt $ split ! $
+        rewrite ! 0 (λ (c : ℕ). ‵ (Pool (zs .0) c)) (u .4) refl $ move ! (3 ∷ []) $ lft-end ! tt $ move ! (0 ∷ 6 ∷ 5 ∷ []) $
         use3 W (later (‵ (Map (zs .1 .0)) ⊛ ‵ (flft κ₃ q₃))) (comes-back 𝓤 H A W S (named 2) κ₃ (μ ∷ []) q₃ γ₃ b₃ o₃ ε (u .2) (zs .1 .0)) $ await ! tt $ split ! $
         assigns-last ! (bin ! (load ! (from ! (stop !)) (look ! 26 refl)) (lit ! tt) (record { fits = next-fits })) (from ! (stop !)) (store ! 26 refl (tt, record { fits = next-fits })) $
         forget ! 8 refl $ forget ! 10 refl $ forget ! 12 refl $ forget ! 14 refl $ forget ! 16 refl $ forget ! 18 refl $ forget ! 20 refl $ forget ! 22 refl $ forget ! 24 refl $
-        keep ! (7 ∷ 6 ∷ 2 ∷ 3 ∷ 0 ∷ 1 ∷ 8 ∷ 9 ∷ 10 ∷ 11 ∷ 12 ∷ 13 ∷ 14 ∷ 15 ∷ 16 ∷ 17 ∷ 18 ∷ 19 ∷ 20 ∷ 21 ∷ 22 ∷ 23 ∷ 24 ∷ 25 ∷ 26 ∷ 27 ∷ 28 ∷ 29 ∷ 30 ∷ 31 ∷ 32 ∷ 33 ∷ 34 ∷ 35 ∷ []) $
-        again ! Nearer At u (next (zs .0) (zs .1 .0) e (l ∙ u .4)) nearer))))))))))))
+        keep ! (7 ∷ 6 ∷ 2 ∷ 3 ∷ 0 ∷ 1 ∷ 8 ∷ 9 ∷ 10 ∷ 11 ∷ 12 ∷ 13 ∷ 14 ∷ 15 ∷ 16 ∷ 17 ∷ 18 ∷ 19 ∷ 20 ∷ 21 ∷ 22 ∷ 23 ∷ 24 ∷ 25 ∷ 26 ∷ 27 ∷ 28 ∷ 29 ∷ 30 ∷ 31 ∷ 32 ∷ 33 ∷ 34 ∷ 35 ∷ []) $ again ! Nearer At u (next (zs .0) (zs .1 .0) e (l ∙ u .4)) nearer))))))))))))
       where
         elem : Instruction
         elem = getD ys (u .0) none
@@ -300,8 +272,7 @@ module _ {M : Type 1} (𝓤 : URA M) (H : Heap 𝓤) (A : Atoms 𝓤) (W : Given
         assigns ! (of-opd ! (load ! (from ! (fld ! refl (stop !))) (look-in ! 28 (sub ! 1 refl (whole !))))) (from ! (stop !)) (init ! 20 refl (tt, record { fits = room₂ .0 })) $
         assigns ! (bin ! (load ! (from ! (stop !)) (look ! 24 refl)) (load ! (from ! (stop !)) (look ! 20 refl)) tt) (from ! (stop !)) (init ! 18 refl (tt, tt)) $
         rewrite ! 18 (λ (t : Bool). ‵ (fat fullShare tyBool l₇ 0 (vbool t))) (le-ltb (u .0) n over) refl $ leaves-loop ! (load ! (from ! (stop !)) (look ! 18 refl)) $ exec ! C Λ En code.Mir.t-3 (atRet En Post) $
-        assigns ! (of-opd ! (unit-lit !)) (from ! (stop !)) (init ! 32 refl (tt, tt)) $
-        returns ! (look ! 32 refl) $ forget ! 18 refl $ forget ! 20 refl $ forget ! 24 refl $ forget ! 26 refl $ forget ! 28 refl $ forget ! 30 refl $ forget ! 32 refl $
+        assigns ! (of-opd ! (unit-lit !)) (from ! (stop !)) (init ! 32 refl (tt, tt)) $ returns ! (look ! 32 refl) $ forget ! 18 refl $ forget ! 20 refl $ forget ! 24 refl $ forget ! 26 refl $ forget ! 28 refl $ forget ! 30 refl $ forget ! 32 refl $
         move ! (32 ∷ 33 ∷ []) $ free1 ! $ move ! (30 ∷ 31 ∷ []) $ free1 ! $ move ! (28 ∷ 29 ∷ []) $ free1 ! $ move ! (26 ∷ 27 ∷ []) $ free1 ! $ move ! (24 ∷ 25 ∷ []) $ free1 ! $ move ! (22 ∷ 23 ∷ []) $ free1 ! $ move ! (20 ∷ 21 ∷ []) $ free1 ! $ move ! (18 ∷ 19 ∷ []) $ free1 ! $ move ! (16 ∷ 17 ∷ []) $ free1 ! $ move ! (14 ∷ 15 ∷ []) $ free1 ! $ move ! (12 ∷ 13 ∷ []) $ free1 ! $ move ! (10 ∷ 11 ∷ []) $ free1 ! $ move ! (8 ∷ 9 ∷ []) $ free1 ! $ move ! (6 ∷ 7 ∷ []) $ free1 ! $ free0 ! $
         by ! (exits (u .1) (u .2) (ran-all ps₀ h₀ ys (u .0) over (u .5)) (u .4))
 
@@ -313,10 +284,12 @@ module _ {M : Type 1} (𝓤 : URA M) (H : Heap 𝓤) (A : Atoms 𝓤) (W : Given
         go false e = ends u (ltb-false (u .0) n e)
 
     -- the body, once the parameters are in their places
-    begins : Sq W (‵ Own ∷ ‵ (flft κ₂ q₂) ∷ ‵ (Pool ps₀ m) ∷ ‵ (flft κ q) ∷ ‵ (Map h₀) ∷ ‵ (flft κ₃ q₃) ∷ ‵ (froom lent-map l₁₃ 0) ∷ ‵ (fdies lent-map l₁₃) ∷ ‵ (froom lent l₁₂ 0) ∷ ‵ (fdies lent l₁₂) ∷ ‵ (froom (tyRef erased mut word) l₁₁ 0) ∷ ‵ (fdies (tyRef erased mut word) l₁₁) ∷ ‵ (froom tyUnit l₁₀ 0) ∷ ‵ (fdies tyUnit l₁₀) ∷ ‵ (froom inst l₉ 0) ∷ ‵ (fdies inst l₉) ∷ ‵ (froom tyPtr l₈ 0) ∷ ‵ (fdies tyPtr l₈) ∷ ‵ (froom tyBool l₇ 0) ∷ ‵ (fdies tyBool l₇) ∷ ‵ (froom word l₆ 0) ∷ ‵ (fdies word l₆) ∷ ‵ (froom inst l₅ 0) ∷ ‵ (fdies inst l₅) ∷ ‵ (froom word l₄ 0) ∷ ‵ (fdies word l₄) ∷ ‵ (fat fullShare map-ref l₃ 0 (vptr b₃ o₃)) ∷ ‵ (fdies map-ref l₃) ∷ ‵ (fat fullShare slice l₂ 0 (sliceVal (b₂, o₂) n)) ∷ ‵ (fdies slice l₂) ∷ ‵ (fat fullShare words l₁ 0 (sliceVal (b, o) m)) ∷ ‵ (fdies words l₁) ∷ ‵ (froom tyUnit l₀ 0) ∷ ‵ (fdies tyUnit l₀) ∷ []) (runs C Λ En code.Mir.t-1 (atRet En Post))
+    begins : Sq W (‵ Own ∷ ‵ (flft κ₂ q₂) ∷ ‵ (Pool ps₀ m) ∷ ‵ (flft κ q) ∷ ‵ (Map h₀) ∷ ‵ (flft κ₃ q₃) ∷ ‵ (froom lent-map l₁₃ 0) ∷ ‵ (fdies lent-map l₁₃) ∷ ‵ (froom lent l₁₂ 0) ∷ ‵ (fdies lent l₁₂) ∷ ‵ (froom (tyRef erased mut word) l₁₁ 0) ∷ ‵ (fdies (tyRef erased mut word) l₁₁) ∷ ‵ (froom tyUnit l₁₀ 0) ∷ ‵ (fdies tyUnit l₁₀) ∷
+        ‵ (froom inst l₉ 0) ∷ ‵ (fdies inst l₉) ∷ ‵ (froom tyPtr l₈ 0) ∷ ‵ (fdies tyPtr l₈) ∷ ‵ (froom tyBool l₇ 0) ∷ ‵ (fdies tyBool l₇) ∷ ‵ (froom word l₆ 0) ∷ ‵ (fdies word l₆) ∷ ‵ (froom inst l₅ 0) ∷ ‵ (fdies inst l₅) ∷
+        ‵ (froom word l₄ 0) ∷ ‵ (fdies word l₄) ∷ ‵ (fat fullShare map-ref l₃ 0 (vptr b₃ o₃)) ∷ ‵ (fdies map-ref l₃) ∷ ‵ (fat fullShare slice l₂ 0 (sliceVal (b₂, o₂) n)) ∷ ‵ (fdies slice l₂) ∷
+        ‵ (fat fullShare words l₁ 0 (sliceVal (b, o) m)) ∷ ‵ (fdies words l₁) ∷ ‵ (froom tyUnit l₀ 0) ∷ ‵ (fdies tyUnit l₀) ∷ []) (runs C Λ En code.Mir.t-1 (atRet En Post))
     begins =
-        assigns ! (of-opd ! (lit ! tt)) (from ! (stop !)) (init ! 24 refl (tt, record { fits = lit< tt })) $
-        first ! $ blocks ! $ loops ! 𝓣 Nearer Nearer-wf At turns (0, ps₀, h₀, zero-le, refl, ran-none ps₀ h₀ ys (ok .1))
+        assigns ! (of-opd ! (lit ! tt)) (from ! (stop !)) (init ! 24 refl (tt, record { fits = lit< tt })) $ first ! $ blocks ! $ loops ! 𝓣 Nearer Nearer-wf At turns (0, ps₀, h₀, zero-le, refl, ran-none ps₀ h₀ ys (ok .1))
 
   walk : (𝓣 : Tables 𝓤 H) → FmC 𝓤 H (W .laws) (𝓣 .C) → Triple 𝓤 (𝓣 .C #blocks·lower-record-in) (Step 𝓤 H A at-mem ran) → Ok → ent 𝓤 (onEntry 𝓤 H A run-instructions.signature (κ, (κ₂, (κ₃, tt))) (q, (q₂, (q₃, tt))) x at)
       (WpFn 𝓤 H (𝓣 .C) (𝓣 .Λ) code.function args Post)
@@ -328,8 +301,7 @@ module _ {M : Type 1} (𝓤 : URA M) (H : Heap 𝓤) (A : Atoms 𝓤) (W : Given
       enter ! (𝓣 .C) (𝓣 .Λ) code.function args Post $
       alloc1 ! (λ l₀. alloc1 ! (λ l₁. alloc1 ! (λ l₂. alloc1 ! (λ l₃. alloc1 ! (λ l₄. alloc1 ! (λ l₅. alloc1 ! (λ l₆. alloc1 ! (λ l₇. alloc1 ! (λ l₈. alloc1 ! (λ l₉. alloc1 ! (λ l₁₀. alloc1 ! (λ l₁₁. alloc1 ! (λ l₁₂. alloc1 ! (λ l₁₃. alloc0 ! $ params1 ! $
       pass1 ! (init ! 24 refl (tt, (tt, (record { fits = room .0 }, tt)))) $ pass1 ! (init ! 22 refl (tt, (tt, (record { fits = room₂ .0 }, tt)))) $ pass1 ! (init ! 20 refl (tt, tt)) $ pass0 ! $
-      keep ! (28 ∷ 29 ∷ 30 ∷ 31 ∷ 32 ∷ 33 ∷ 0 ∷ 1 ∷ 2 ∷ 3 ∷ 4 ∷ 5 ∷ 6 ∷ 7 ∷ 8 ∷ 9 ∷ 10 ∷ 11 ∷ 12 ∷ 13 ∷ 14 ∷ 15 ∷ 16 ∷ 17 ∷ 18 ∷ 19 ∷ 20 ∷ 21 ∷ 22 ∷ 23 ∷ 24 ∷ 25 ∷ 26 ∷ 27 ∷ []) $
-      begins 𝓣 fm known ok l₀ l₁ l₂ l₃ l₄ l₅ l₆ l₇ l₈ l₉ l₁₀ l₁₁ l₁₂ l₁₃))))))))))))))
+      keep ! (28 ∷ 29 ∷ 30 ∷ 31 ∷ 32 ∷ 33 ∷ 0 ∷ 1 ∷ 2 ∷ 3 ∷ 4 ∷ 5 ∷ 6 ∷ 7 ∷ 8 ∷ 9 ∷ 10 ∷ 11 ∷ 12 ∷ 13 ∷ 14 ∷ 15 ∷ 16 ∷ 17 ∷ 18 ∷ 19 ∷ 20 ∷ 21 ∷ 22 ∷ 23 ∷ 24 ∷ 25 ∷ 26 ∷ 27 ∷ []) $ begins 𝓣 fm known ok l₀ l₁ l₂ l₃ l₄ l₅ l₆ l₇ l₈ l₉ l₁₀ l₁₁ l₁₂ l₁₃))))))))))))))
 
 module _ {M : Type 1} (𝓤 : URA M) (H : Heap 𝓤) (A : Atoms 𝓤) (W : Given 𝓤 H A) (at-mem : Memory → SProp 𝓤) (ran : Routine → Fun 𝓤) (𝓣 : Tables 𝓤 H) (known : Triple 𝓤 (𝓣 .C #blocks·lower-record-in) (Step 𝓤 H A at-mem ran)) where
   run-instructions-walks : Walks 𝓤 H A run-instructions.ended stayed (WpFn 𝓤 H (𝓣 .C) (𝓣 .Λ) code.function) (run-instructions.clauses 𝓤 H A at-mem ran)
