@@ -190,7 +190,7 @@ fn try_block(r: &mut Rng, lent: &mut Words, old: &[u64], seen: &mut Seen) {
         spoil(r, &mut records);
     }
     let (want, position) = block_number(old.len(), &records);
-    let entries = r.one_of(&[34, 35, 33, 0, 1]);
+    let entries = r.one_of(&[34, 34, 34, 35, 40, 33, 1, 0]);
     let tail = 0xdead_beef;
     let mut results = words(&vec![tail; entries]);
     let number = native::lower_block(lent, &records.concat(), &mut results);
