@@ -1,26 +1,4 @@
-// Random pools, the calls of the archive that `rt staticlib text_c` writes, and the pool's rules once more.
-
-unsafe extern "C" {
-    fn neon_pool_check(pool: *const u64, words: usize, count: usize) -> bool;
-    fn neon_write_text(pool: *const u64, words: usize, count: usize, node: usize, buffer: *mut u8, bytes: usize, length: *mut usize) -> u64;
-    fn neon_text_length(pool: *const u64, words: usize, count: usize, node: usize, ceiling: u32, length: *mut usize) -> u64;
-}
-
-pub fn pool_check(pool: &[u64], count: usize) -> bool {
-    unsafe { neon_pool_check(pool.as_ptr(), pool.len(), count) }
-}
-
-pub fn write_text(pool: &[u64], count: usize, node: usize, buffer: &mut [u8]) -> (u64, usize) {
-    let mut length = 77;
-    let number = unsafe { neon_write_text(pool.as_ptr(), pool.len(), count, node, buffer.as_mut_ptr(), buffer.len(), &mut length) };
-    (number, length)
-}
-
-pub fn text_length(pool: &[u64], count: usize, node: usize, ceiling: u32) -> (u64, usize) {
-    let mut length = 77;
-    let number = unsafe { neon_text_length(pool.as_ptr(), pool.len(), count, node, ceiling, &mut length) };
-    (number, length)
-}
+//! Random pools, and the rules of document 01 on a pool, written once more.
 
 pub struct Rng(pub u64);
 
@@ -36,13 +14,17 @@ impl Rng {
         self.next() % n
     }
 
-    pub fn one_of(&mut self, list: &[usize]) -> usize {
+    pub fn one_of<T: Copy>(&mut self, list: &[T]) -> T {
         list[self.below(list.len() as u64) as usize]
+    }
+
+    pub fn wide(&mut self) -> u128 {
+        u128::from(self.next()) << 64 | u128::from(self.next())
     }
 }
 
 // A node: kind, width, operands A B C, words 2 and 3.
-#[derive(Clone, Copy)]
+#[derive(Clone, Copy, Debug)]
 pub struct Node {
     pub kind: u64,
     pub width: u64,
@@ -54,6 +36,23 @@ impl Node {
     pub fn words(&self) -> [u64; 4] {
         let [a, b, c] = self.operands.map(|m| m as u64);
         [self.kind | self.width << 16, a | b << 16 | c << 32, self.data[0], self.data[1]]
+    }
+
+    /// Node n of a pool.
+    pub fn at(pool: &[u64], n: usize) -> Self {
+        let [w0, w1, x, y] = [0, 1, 2, 3].map(|j| pool[4 * n + j]);
+        Self { kind: w0 & 0xffff, width: w0 >> 16, operands: [0, 16, 32].map(|s| (w1 >> s & 0xffff) as usize), data: [x, y] }
+    }
+
+    /// The operands that its kind has.
+    pub fn used(&self) -> &[usize] {
+        let many = match self.kind {
+            1 | 2 => 0,
+            15 => 3,
+            16 | 18 | 19 => 1,
+            _ => 2,
+        };
+        &self.operands[..many]
     }
 }
 

@@ -90,12 +90,16 @@ struct Tens {
     ones: u64,
 }
 
-// By subtracting, with no division: positions and widths have three digits at most.
+// By subtracting, with no division: positions and widths have three digits at most. Fifties first, so that the turns are few.
 fn tens_of(x: u64) -> Tens
     ensures { λ r. ⌜ (10 * r .tens + r .ones ≡ x) × (r .ones < 10) ⌝ }
 {
     let mut tens = 0;
     let mut ones = x;
+    while 50 <= ones {
+        ones -= 50;
+        tens += 5;
+    }
     while 10 <= ones {
         ones -= 10;
         tens += 1;

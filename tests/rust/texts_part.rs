@@ -1,13 +1,10 @@
-// Random pools: the text of every node against `Display` of the Rust's own expr.rs, and damaged pools against the rules.
-#[allow(dead_code)]
-mod expr;
-mod pools;
-use expr::Expr;
-use pools::{Node, Rng, grow, pool_check, text_length, valid, write_text};
+//! Random pools: the text of every node against `Display` of the Rust's own expr.rs, and texts of great depth and length.
+use crate::expr::Expr;
+use crate::native::{OLD, bytes, pool_check, text_length, write_text};
+use crate::pools::{Node, Rng, grow};
 
-const OLD: u8 = 0xa5;
-
-fn tree(e: &[Expr], n: &Node) -> Expr {
+/// The Rust's expression of a node, over those of the nodes before it.
+pub fn tree(e: &[Expr], n: &Node) -> Expr {
     let [a, b, c] = n.operands.map(|m| e.get(m).cloned());
     let w = n.width as u16;
     let (a, b) = match n.kind {
@@ -38,16 +35,16 @@ fn tree(e: &[Expr], n: &Node) -> Expr {
 
 // A refusal: its number, length 0, and no byte written.
 fn refused(pool: &[u64], count: usize, node: usize, size: usize, number: u64) {
-    let mut buffer = vec![OLD; size];
+    let mut buffer = bytes(size);
     assert_eq!(write_text(pool, count, node, &mut buffer), (number, 0));
-    assert!(buffer.iter().all(|&x| x == OLD), "a refusal wrote");
+    assert!(buffer.items().iter().all(|&x| x == OLD), "a refusal wrote");
 }
 
 fn written(pool: &[u64], count: usize, node: usize, size: usize, want: &str) {
-    let mut buffer = vec![OLD; size];
+    let mut buffer = bytes(size);
     assert_eq!(write_text(pool, count, node, &mut buffer), (0, want.len()));
-    assert_eq!(&buffer[..want.len()], want.as_bytes());
-    assert!(buffer[want.len()..].iter().all(|&x| x == OLD), "a byte past the text changed");
+    assert_eq!(&buffer.items()[..want.len()], want.as_bytes());
+    assert!(buffer.items()[want.len()..].iter().all(|&x| x == OLD), "a byte past the text changed");
 }
 
 fn example() {
@@ -81,16 +78,14 @@ fn two_megabytes() {
     refused(&cuts, 65535, 65534, 100_000, 9);
     let start = std::time::Instant::now();
     refused(&sums, 65535, 65534, 100_000, 9);
-    println!("2^65,534 characters refused in {:.2} ms", start.elapsed().as_secs_f64() * 1000.0);
+    println!("texts: one of 2^65,534 characters and more is refused in {:.2} ms", start.elapsed().as_secs_f64() * 1000.0);
 }
 
-fn main() {
+pub fn main(pools: u64) {
     example();
     std::thread::Builder::new().stack_size(2 << 20).spawn(two_megabytes).unwrap().join().unwrap();
     let mut r = Rng(0x9e3779b97f4a7c15);
-    let (mut texts, mut short, mut bytes, mut longest, mut damaged, mut bad) = (0u64, 0u64, 0u64, 0, 0u64, 0u64);
-    let mut kinds = [0u64; 20];
-    let pools = 4000;
+    let (mut texts, mut longest) = (0u64, 0);
     for _ in 0..pools {
         let mut nodes: Vec<Node> = vec![];
         let mut e: Vec<Expr> = vec![];
@@ -99,16 +94,13 @@ fn main() {
             let Some(n) = grow(&mut r, &nodes) else { continue };
             let t = tree(&e, &n);
             if t.to_string().len() <= 20000 {
-                kinds[n.kind as usize] += 1;
                 nodes.push(n);
                 e.push(t);
             }
         }
         let mut pool: Vec<u64> = nodes.iter().flat_map(|n| n.words()).collect();
         // words past the count, which no one reads
-        for _ in 0..r.below(9) {
-            pool.push(r.next());
-        }
+        pool.extend((0..r.below(9)).map(|_| r.next()).collect::<Vec<_>>());
         assert!(pool_check(&pool, count));
         for (n, t) in e.iter().enumerate() {
             let want = t.to_string();
@@ -116,14 +108,11 @@ fn main() {
             written(&pool, count, n, len, &want);
             written(&pool, count, n, len + 9, &want);
             refused(&pool, count, n, len - 1, 9);
-            assert_eq!(text_length(&pool, count, n, 30000), (0, len));
-            assert_eq!(text_length(&pool, count, n, len as u32), (0, len));
-            assert_eq!(text_length(&pool, count, n, len as u32 - 1), (0, len));
-            assert_eq!(text_length(&pool, count, n, len as u32 / 2), (0, len / 2 + 1));
+            for ceiling in [30000, len, len - 1, len / 2] {
+                assert_eq!(text_length(&pool, count, n, ceiling as u32), (0, len.min(ceiling + 1)));
+            }
             longest = longest.max(len);
-            texts += 2;
-            short += 1;
-            bytes += 2 * len as u64;
+            texts += 1;
         }
         for node in [count, count + 1, 65535, usize::MAX] {
             refused(&pool, count, node, 40, 5);
@@ -131,29 +120,9 @@ fn main() {
         }
         refused(&pool, pool.len() / 4 + 1, 0, 40, 1);
         refused(&pool, usize::MAX, usize::MAX, 40, 1);
-        for _ in 0..40 {
-            let mut broken = pool.clone();
-            let at = r.below(4 * count as u64) as usize;
-            broken[at] = match r.below(5) {
-                0 => broken[at] ^ 1 << r.below(64),
-                1 => broken[at].wrapping_add(1),
-                2 => broken[at].wrapping_sub(1),
-                3 => r.below(70000),
-                _ => broken[r.below(4 * count as u64) as usize],
-            };
-            let ok = valid(&broken, count);
-            assert_eq!(pool_check(&broken, count), ok, "{broken:?}");
-            damaged += 1;
-            if !ok {
-                bad += 1;
-                refused(&broken, count, 0, 40, 1);
-                assert_eq!(text_length(&broken, count, 0, 40), (1, 0));
-            }
-        }
     }
     // more than 65,535 places: node 65,535 has none
     let many: Vec<u64> = (0..65540).flat_map(|_| [1 | 128 << 16, 0, 5, 0]).collect();
     assert!(pool_check(&many, 65535) && !pool_check(&many, 65536) && !pool_check(&many[..7], 2) && pool_check(&many[..7], 1));
-    println!("{pools} pools: {texts} texts equal, {short} one byte short, {bytes} bytes, longest {longest}; {damaged} damaged pools, {bad} of them bad");
-    println!("nodes by kind {:?}", &kinds[1..]);
+    println!("texts: {texts} texts of the nodes of {pools} random pools equal the Rust's, the longest of {longest} bytes");
 }

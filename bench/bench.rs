@@ -1,0 +1,198 @@
+//! Times the library's operations: `bench ROUNDS ORACLE PROGRAM`, the best of ROUNDS passes each, as `oracle-bench bench`
+//! takes it. Writes a line `name value` for each figure; bench/run makes the table.
+
+#[path = "../tests/rust/native.rs"]
+#[allow(dead_code)]
+mod native;
+#[path = "../tests/rust/pools.rs"]
+#[allow(dead_code)]
+mod pools;
+
+use std::hint::black_box;
+use std::io::Write;
+use std::process::{Command, Stdio};
+use std::time::Instant;
+
+use native::{bytes, lower_block, lower_instruction, pool_check, words, write_text};
+use pools::{Node, Rng, grow};
+
+type Record = [u64; 6];
+
+const NONE: usize = 65535;
+
+/// Nanoseconds of the best of `rounds` runs.
+fn best(rounds: u64, mut run: impl FnMut()) -> f64 {
+    let mut least = u128::MAX;
+    for _ in 0..rounds {
+        let start = Instant::now();
+        run();
+        least = least.min(start.elapsed().as_nanos());
+    }
+    least as f64
+}
+
+/// Every legal form, on registers 0, 1 and 2.
+fn forms(oracle: &str) -> (Vec<u8>, Vec<Record>) {
+    let list = Command::new(oracle).arg("forms").output().expect("the oracle").stdout;
+    let record = |line: &str| -> Record { std::array::from_fn(|k| line[4 * k..4 * k + 4].trim().parse().expect("a number")) };
+    let records = String::from_utf8(list.clone()).expect("text").lines().map(record).collect();
+    (list, records)
+}
+
+/// v0 to v31, the low halves of v0, v1 and v2, and 1,024 places.
+fn sources() -> Vec<u64> {
+    let mut nodes: Vec<Node> = (0..32).map(|r| Node { kind: 1, width: 128, operands: [0; 3], data: [r, 0] }).collect();
+    nodes.extend((0..3).map(|r| Node { kind: 16, width: 64, operands: [r, 0, 0], data: [63, 0] }));
+    let mut pool: Vec<u64> = nodes.iter().flat_map(Node::words).collect();
+    pool.resize(4 * (35 + 1024), 0);
+    pool
+}
+
+/// The arguments of a form on the sources: those that its code names.
+fn call(&[operation, arrangement, i, ..]: &Record) -> ([u64; 3], [usize; 3]) {
+    let code = native::form_code(operation, arrangement);
+    let node = |r: usize, wanted: bool, full: bool| if !wanted { NONE } else if full { r } else { 32 + r };
+    let full = [1, 3, 5, 6].contains(&arrangement);
+    let nodes = [node(0, code & 0x10 != 0, full), node(1, true, code & 0x20 != 0), node(2, code & 0x08 != 0, code & 0x40 != 0)];
+    ([operation, arrangement, i], nodes)
+}
+
+/// Mean time to lower a form by one instruction, the pool check of 35 nodes with it.
+fn build(rounds: u64, all: &[Record]) {
+    let cases: Vec<([u64; 3], [usize; 3])> = all.iter().map(call).collect();
+    let mut pool = words(&sources());
+    let (mut nodes, mut most) = (0, 0);
+    for &(case, sources) in &cases {
+        let (number, _, after) = lower_instruction(&mut pool, 35, case, sources);
+        assert_eq!(number, 0, "a legal form is done");
+        nodes += after - 35;
+        most = most.max(after - 35);
+    }
+    let time = best(rounds, || {
+        for &(case, sources) in &cases {
+            black_box(lower_instruction(&mut pool, 35, black_box(case), sources));
+        }
+    });
+    println!("forms {}\nnodes {nodes}\nmost {most}\nbuild {:.0}", all.len(), time / all.len() as f64);
+}
+
+/// Mean time of a byte of text, over the terms of all forms: the pool check and the length with it.
+fn text(rounds: u64, all: &[Record]) {
+    let terms: Vec<(Vec<u64>, usize, usize)> = all
+        .iter()
+        .map(|record| {
+            let mut pool = words(&vec![0; 4 * (32 + 1024)]);
+            let mut results = words(&[0; 34]);
+            assert_eq!(lower_block(&mut pool, record, &mut results), 0);
+            let count = results.items()[32] as usize;
+            (pool.items()[..4 * count].to_vec(), count, results.items()[0] as usize)
+        })
+        .collect();
+    let mut buffer = bytes(65536);
+    let mut written = 0;
+    let time = best(rounds, || {
+        written = 0;
+        for (pool, count, node) in &terms {
+            written += black_box(write_text(pool, *count, *node, &mut buffer)).1;
+        }
+    });
+    println!("bytes {written}\ntext {:.2}", time / written as f64);
+}
+
+/// A valid pool of 65,535 nodes of random kinds.
+fn random() -> Vec<u64> {
+    let mut r = Rng(0x9e37_79b9_7f4a_7c15);
+    let mut nodes: Vec<Node> = vec![];
+    while nodes.len() < 65535 {
+        // operands among the last nodes, so that a pool of this size is made quickly
+        let from = nodes.len().saturating_sub(200);
+        let Some(mut node) = grow(&mut r, &nodes[from..]) else { continue };
+        let used = node.used().len();
+        for m in &mut node.operands[..used] {
+            *m += from;
+        }
+        nodes.push(node);
+    }
+    nodes.iter().flat_map(Node::words).collect()
+}
+
+/// The terms of forms in a mixed order, one after the other in one pool, and registers after them.
+fn lowered(all: &[Record]) -> Vec<u64> {
+    let first = sources();
+    let mut pool = words(&[&first[..], &vec![0; 4 * 65535 - first.len()]].concat());
+    let mut count = 35;
+    let mut r = Rng(0x9e37_79b9_7f4a_7c15);
+    while count < 64511 {
+        let (case, nodes) = call(&r.one_of(all));
+        count = lower_instruction(&mut pool, count, case, nodes).2;
+    }
+    let mut all = pool.items()[..4 * count].to_vec();
+    while all.len() < 4 * 65000 {
+        all.extend_from_slice(&first[..4]);
+    }
+    all
+}
+
+fn check(rounds: u64, all: &[Record]) {
+    for (name, pool) in [("check", lowered(all)), ("random", random())] {
+        for count in [1000, 2000, 4000, 8000, 16000, 32000, 65000] {
+            let time = best(rounds, || assert!(black_box(pool_check(&pool, count))));
+            println!("{name}-{count} {:.2}", time / count as f64);
+        }
+    }
+}
+
+/// Blocks of k records, all forms in a mixed order and on all registers: the mean time of a record.
+fn blocks(rounds: u64, all: &[Record]) {
+    let mut r = Rng(0x2545_f491_4f6c_dd1d);
+    let mut mixed = all.to_vec();
+    for k in (1..mixed.len()).rev() {
+        mixed.swap(k, r.below(k as u64 + 1) as usize);
+    }
+    for record in &mut mixed {
+        record[3] = r.below(32);
+        record[4] = r.below(32);
+        if record[5] != 0 {
+            record[5] = r.below(32);
+        }
+    }
+    let mut pool = words(&vec![0; 4 * (32 + 1024 * 63)]);
+    let mut results = words(&[0; 34]);
+    for k in [1, 2, 4, 8, 16, 32, 63] {
+        let blocks: Vec<Vec<u64>> = mixed.chunks_exact(k).map(<[Record]>::concat).collect();
+        let time = best(rounds.div_ceil(4), || {
+            for block in &blocks {
+                assert_eq!(black_box(lower_block(&mut pool, block, &mut results)), 0);
+            }
+        });
+        println!("block-{k} {:.0}", time / (blocks.len() * k) as f64);
+    }
+}
+
+/// A whole run of a program that reads all forms.
+fn program(rounds: u64, command: &[&str], input: &[u8]) -> f64 {
+    best(rounds, || {
+        let mut child = Command::new(command[0]).args(&command[1..]).stdin(Stdio::piped()).stdout(Stdio::null()).spawn().expect("a program");
+        child.stdin.take().expect("its input").write_all(input).expect("all is read");
+        assert!(child.wait().expect("its end").success());
+    })
+}
+
+fn main() {
+    let arguments: Vec<String> = std::env::args().skip(1).collect();
+    let rounds: u64 = arguments[0].parse().expect("a number of rounds");
+    let (list, all) = forms(&arguments[1]);
+    build(rounds, &all);
+    text(rounds, &all);
+    check(rounds, &all);
+    blocks(rounds, &all);
+    if let Some(lanes) = arguments.get(2) {
+        // in turn, so that both meet the same machine
+        let (mut ours, mut rust) = (f64::MAX, f64::MAX);
+        for _ in 0..rounds.div_ceil(4) {
+            ours = ours.min(program(1, &[lanes], &list));
+            rust = rust.min(program(1, &[&arguments[1], "lines"], &list));
+        }
+        println!("program {:.0}\nprogram-rust {:.0}", ours / 1000.0, rust / 1000.0);
+    }
+}

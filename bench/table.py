@@ -1,0 +1,77 @@
+#!/usr/bin/env python3
+"""Writes docs/BENCHMARKS.md: bench/table.py ROUNDS OURS RUST KIT RUSTC, where OURS and RUST are what the two programs wrote."""
+import platform
+import re
+import sys
+
+rounds, ours_path, rust_path, kit, rustc = sys.argv[1:]
+ours = dict(line.split() for line in open(ours_path))
+told = open(rust_path).read()
+rust_build = float(re.search(r"^build (\d+) ns", told, re.M)[1])
+rust_text = float(re.search(r"([\d.]+) ns a byte", told)[1])
+rust_bytes = re.search(r"text (\d+) bytes", told)[1]
+assert rust_bytes == ours["bytes"], "both write the same text"
+
+
+def processor():
+    try:
+        return re.search(r"^model name\s*: (.*)$", open("/proc/cpuinfo").read(), re.M)[1]
+    except (OSError, TypeError):
+        return platform.machine()
+
+
+def row(name, unit, a, b, goal=None):
+    fast = b / a
+    met = "" if goal is None else f"{goal}, met" if fast >= goal else f"{goal}, missed"
+    print(f"| {name} | {a:,.6g} {unit} | {b:,.6g} {unit} | {fast:.1f} | {met} |")
+
+
+print(f"""# Benchmarks
+
+Written by `bench/run {rounds}`. Each time is that of the best of {rounds} passes, all in one run on one machine. The Rust's times are
+`oracle-bench`'s.
+
+- Kit: {kit}
+- Rust: {rustc}
+- Processor: {processor()}
+
+## Beside the Rust
+
+| What | Here | Rust | Times as fast | Goal |
+|---|---|---|---|---|""")
+row("Build a term, mean of all forms", "ns", float(ours["build"]), rust_build, 4)
+row("Text, a byte", "ns", float(ours["text"]), rust_text, 3)
+if "program" in ours:
+    row("Line program on all forms", "µs", float(ours["program"]), float(ours["program-rust"]), 2)
+row("Block of 63 records, a record", "ns", float(ours["block-63"]), rust_build)
+print(f"""
+There are {int(ours["forms"]):,} forms; their terms have {int(ours["nodes"]):,} new nodes, at most {ours["most"]} each, and {int(ours["bytes"]):,} bytes of text.
+Building is `neon_lower_instruction` on a pool of 35 nodes, the pool check with it; the Rust builds and drops its tree. Text is
+`neon_write_text`, the pool check and the length with it; the Rust writes to a string that has room. A record of a block is set
+beside the Rust's mean of building one tree.""")
+if "program" not in ours:
+    print("The line program is not here yet.")
+
+
+def growth(name):
+    return {int(k.split("-")[1]): float(v) for k, v in ours.items() if k.startswith(name + "-") and "rust" not in k}
+
+
+check, random, block = growth("check"), growth("random"), growth("block")
+print(f"""
+## Growth
+
+The pool check takes {check[65000]:.2f} ns a node on 65,000 nodes that instructions have added; the goal is 5, {"met" if check[65000] <= 5 else "missed"}.
+Where the kinds come in random order the processor cannot foresee which rule is next.
+
+| Nodes | Pool check, ns a node | Kinds in random order |
+|---|---|---|""")
+for count, time in check.items():
+    print(f"| {count:,} | {time:.2f} | {random[count]:.2f} |")
+print("""
+Blocks are cut from one mixed list of all forms.
+
+| Records in a block | ns a record |
+|---|---|""")
+for count, time in block.items():
+    print(f"| {count} | {time:.0f} |")

@@ -1,0 +1,53 @@
+//! The calls of libexports.a: include/neon_terms.h tells what they promise. Each is safe to call on any slices and numbers: a
+//! slice of Rust is aligned and not null, and one that is lent to be written overlaps no other.
+
+pub const RESERVE: usize = 1024;
+pub const RESULTS: usize = 34;
+pub const NO_NODE: usize = 65535;
+
+unsafe extern "C" {
+    safe fn neon_form_code(operation: u64, arrangement: u64) -> u64;
+    fn neon_pool_check(pool: *const u64, words: usize, count: usize) -> bool;
+    fn neon_lower_instruction(
+        pool: *mut u64, words: usize, count: usize, operation: u64, arrangement: u64, i: u64, d: usize, n: usize, m: usize,
+        node: *mut usize, after: *mut usize,
+    ) -> u64;
+    fn neon_lower_block(pool: *mut u64, words: usize, records: *const u64, numbers: usize, results: *mut u64, entries: usize) -> u64;
+    fn neon_write_text(pool: *const u64, words: usize, count: usize, node: usize, buffer: *mut u8, bytes: usize, length: *mut usize) -> u64;
+    fn neon_text_length(pool: *const u64, words: usize, count: usize, node: usize, ceiling: u32, length: *mut usize) -> u64;
+}
+
+pub fn form_code(operation: u64, arrangement: u64) -> u64 {
+    neon_form_code(operation, arrangement)
+}
+
+pub fn pool_check(pool: &[u64], count: usize) -> bool {
+    unsafe { neon_pool_check(pool.as_ptr(), pool.len(), count) }
+}
+
+/// Number, node and count.
+pub fn lower_instruction(pool: &mut [u64], count: usize, [operation, arrangement, i]: [u64; 3], [d, n, m]: [usize; 3]) -> (u64, usize, usize) {
+    let (mut node, mut after) = (0, 0);
+    let number = unsafe {
+        neon_lower_instruction(pool.as_mut_ptr(), pool.len(), count, operation, arrangement, i, d, n, m, &mut node, &mut after)
+    };
+    (number, node, after)
+}
+
+pub fn lower_block(pool: &mut [u64], records: &[u64], results: &mut [u64]) -> u64 {
+    unsafe { neon_lower_block(pool.as_mut_ptr(), pool.len(), records.as_ptr(), records.len(), results.as_mut_ptr(), results.len()) }
+}
+
+/// Number and length.
+pub fn write_text(pool: &[u64], count: usize, node: usize, buffer: &mut [u8]) -> (u64, usize) {
+    let mut length = 0;
+    let number = unsafe { neon_write_text(pool.as_ptr(), pool.len(), count, node, buffer.as_mut_ptr(), buffer.len(), &mut length) };
+    (number, length)
+}
+
+/// Number and length.
+pub fn text_length(pool: &[u64], count: usize, node: usize, ceiling: u32) -> (u64, usize) {
+    let mut length = 0;
+    let number = unsafe { neon_text_length(pool.as_ptr(), pool.len(), count, node, ceiling, &mut length) };
+    (number, length)
+}

@@ -1,0 +1,115 @@
+// The public operations for C and Rust to link, by `rt staticlib exports`; include/neon_terms.h declares them. A slice is a
+// pointer and a length. No call requires anything of its numbers: what it cannot do it refuses by number.
+use register_map::RegisterMap;
+ghost use mathlib.Core.Path.{_≡_};
+ghost use Prim.Native.Nat.{_≤_};
+ghost use lib.ListN.{length};
+ghost use Rattle.neon.specs.Form.{formCodeAt};
+ghost use Rattle.pool.specs.Rules.{poolOk};
+ghost use Rattle.text.specs.Answer.{Answered as TextAnswered, Measured};
+ghost use Rattle.instruction.specs.Lowering.{Answers};
+ghost use Rattle.block_check.specs.Records.{recordsOf};
+ghost use Rattle.exports.specs.Results.{Told, put};
+
+// The words that `neon_lower_block` gives back: 32 nodes, the count and the position.
+const RESULTS: usize = 34;
+
+// No number of document 01: fewer than 34 words are lent for the results.
+const SHORT_RESULTS: u64 = 11;
+
+// The form code of crate `neon`: what an operation reads at an arrangement, and 0 where there is no such form.
+#[no_mangle]
+pub extern "C" fn neon_form_code(operation: u64, arrangement: u64) -> u64
+    ensures { λ r. ⌜ r ≡ formCodeAt operation arrangement ⌝ }
+{
+    neon::form_code(operation, arrangement)
+}
+
+#[no_mangle]
+pub extern "C" fn neon_pool_check(pool: &[u64], count: usize) -> bool
+    ensures { λ r. ⌜ r ≡ poolOk (now (pool .entry)) count ⌝ }
+{
+    pool_check::pool_check(pool, count)
+}
+
+// Returns the number; the node and the count after it go to `node` and `after`.
+#[no_mangle]
+pub extern "C" fn neon_lower_instruction(
+    pool: &mut [u64],
+    count: usize,
+    operation: u64,
+    arrangement: u64,
+    i: u64,
+    d: usize,
+    n: usize,
+    m: usize,
+    node: &mut usize,
+    after: &mut usize,
+) -> u64
+    ensures { λ r. ⌜ Answers (now (pool .entry)) count (now (pool .exit)) (record { number = r; node = now (node .exit); count = now (after .exit) }) operation arrangement i d n m ⌝ }
+{
+    let lowered = instruction::lower_instruction(pool, count, operation, arrangement, i, d, n, m);
+    *node = lowered.node;
+    *after = lowered.count;
+    lowered.number
+}
+
+// Writes the nodes of the 32 registers, the count and the position.
+fn put_results(results: &mut [u64], map: RegisterMap, position: usize)
+    requires { ⌜ 34 ≤ length (now results) ⌝ }
+    ensures { λ _. ⌜ now (results .exit) ≡ put (now (results .entry)) map position ⌝ }
+{
+    let mut r: usize = 0;
+    while r < 32 {
+        let node = map.get(r as u64);
+        results[r] = node.0 as u64;
+        r += 1;
+    }
+    results[32] = map.count as u64;
+    results[33] = position as u64;
+}
+
+// Returns the number; the map, the count and the position go to `results`. Where that is too short, nothing is lowered.
+#[no_mangle]
+pub extern "C" fn neon_lower_block(pool: &mut [u64], records: &[u64], results: &mut [u64]) -> u64
+    ensures { λ r. ⌜ Told (now (pool .entry)) (recordsOf (now (records .entry))) (now (results .entry)) (now (pool .exit)) (now (results .exit)) r ⌝ }
+{
+    if results.len() < RESULTS {
+        return SHORT_RESULTS;
+    }
+    let answer = block::lower_block(pool, records);
+    let map = answer.map;
+    put_results(results, map, answer.position);
+    answer.number
+}
+
+// Returns the number; the length goes to `length`.
+#[no_mangle]
+pub extern "C" fn neon_write_text(
+    pool: &[u64],
+    count: usize,
+    node: usize,
+    buffer: &mut [u8],
+    length: &mut usize,
+) -> u64
+    ensures { λ r. ⌜ TextAnswered (now (pool .entry)) count node (now (buffer .entry)) r (now (length .exit)) (now (buffer .exit)) ⌝ }
+{
+    let w = text::write_text(pool, count, node, buffer);
+    *length = w.length;
+    w.number
+}
+
+#[no_mangle]
+pub extern "C" fn neon_text_length(
+    pool: &[u64],
+    count: usize,
+    node: usize,
+    ceiling: u32,
+    length: &mut usize,
+) -> u64
+    ensures { λ r. ⌜ Measured (now (pool .entry)) count node ceiling r (now (length .exit)) ⌝ }
+{
+    let w = text::text_length(pool, count, node, ceiling);
+    *length = w.length;
+    w.number
+}

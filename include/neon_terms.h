@@ -1,0 +1,96 @@
+/* NEON instructions as SMT-LIB bit-vector terms: the functions of target/staticlib/libexports.a, which `rt staticlib exports`
+ * writes, for x86-64.
+ *
+ * Memory. Nothing is allocated and nothing is kept: a function reads and writes what is lent to it, during the call alone. A
+ * slice is a pointer and a number of entries. The pointer has to be aligned and good for that many entries, and not null, also
+ * where the number is 0. What is lent by a pointer without const must not overlap anything else that is lent. These are the
+ * only duties of a caller: whatever the words and the numbers are, a function answers, and a refusal writes to neither pool
+ * nor buffer.
+ *
+ * Pool. Four words a node; places = words / 4, or 65,535 if that is less; nodes 0 to count - 1 are in use.
+ *   word 0   kind + 65,536 * width; the width is 1 to 129 bits, or 0 for a condition
+ *   word 1   A + 2^16 * B + 2^32 * C: the numbers of the operands, smaller than the node's own
+ *   word 2   Var: the register; Const: the low word; Extract: hi
+ *   word 3   Const: the high word; Extract: lo
+ * Parts that a kind does not use are 0. A pool whose nodes keep these rules and those of the kinds passes neon_pool_check.
+ */
+#ifndef NEON_TERMS_H
+#define NEON_TERMS_H
+
+#include <stdbool.h>
+#include <stddef.h>
+#include <stdint.h>
+
+#ifdef __cplusplus
+extern "C" {
+#endif
+
+/* The numbers. The first in order wins: one instruction 1 to 6; text 1, 5, 9; block 11, 8, 6, then record by record 2, 3, 4, 7. */
+enum neon_number {
+    NEON_DONE = 0,
+    NEON_BAD_POOL = 1,          /* count above places, or a node breaks a rule */
+    NEON_NO_SUCH_OPERATION = 2, /* not 1 to 67 */
+    NEON_NO_SUCH_FORM = 3,      /* no such arrangement, or the operation has none such */
+    NEON_IMMEDIATE = 4,         /* i is not one of the form's */
+    NEON_SOURCE = 5,            /* a wanted node is not below the count or has another width; an unwanted one is not NEON_NO_NODE */
+    NEON_NO_ROOM = 6,           /* fewer than 1,024 free places; block of k: fewer than 32 + 1,024 * k places */
+    NEON_REGISTER = 7,          /* above 31, or m not 0 with no second source */
+    NEON_LONG_BLOCK = 8,        /* more than 63 records */
+    NEON_SHORT_BUFFER = 9,      /* the text is longer than the buffer */
+    NEON_LINE = 10,             /* of the line program alone */
+    NEON_SHORT_RESULTS = 11     /* fewer than NEON_RESULTS words for the results of a block */
+};
+
+enum neon_kind {
+    NEON_VAR = 1, NEON_CONST, NEON_ADD, NEON_SUB, NEON_MUL, NEON_AND, NEON_OR, NEON_XOR, NEON_SHL, NEON_LSHR, NEON_ASHR,
+    NEON_EQ, NEON_ULT, NEON_SLT, NEON_ITE, NEON_EXTRACT, NEON_CONCAT, NEON_ZERO_EXTEND, NEON_SIGN_EXTEND
+};
+
+enum neon_arrangement { NEON_8B, NEON_16B, NEON_4H, NEON_8H, NEON_2S, NEON_4S, NEON_2D };
+
+#define NEON_NO_NODE 65535
+#define NEON_RESERVE 1024      /* free places that one instruction needs */
+#define NEON_MOST_RECORDS 63
+#define NEON_RECORD 6          /* words of a record: operation, arrangement, i, d, n, m */
+#define NEON_RESULTS 34        /* words of a block's results: 32 nodes, the count, the position */
+
+/* Words of a pool that takes a block of k records. */
+#define NEON_BLOCK_WORDS(k) (4 * (32 + (size_t)NEON_RESERVE * (k)))
+
+/* What a form is: 0 where an operation (1 to 67) has no such arrangement (0 to 6). Else bits 0 to 2 tell of the immediate
+ * (1: i is 0; 2: 0 to n - 1; 3: 1 to n, n being the lane's bits; 4: the number of an element), and 0x08 of a second source,
+ * 0x10 of a destination that is read, 0x20 and 0x40 of a first and a second source of 128 bits, else 64. */
+uint64_t neon_form_code(uint64_t operation, uint64_t arrangement);
+
+/* Whether the pool has `count` places and each node below `count` keeps the rules. */
+bool neon_pool_check(const uint64_t *pool, size_t words, size_t count);
+
+/* Lowers one instruction on the nodes d (old destination), n and m (sources); NEON_NO_NODE for one that the form does not read.
+ * Done: *node is the term, of 64 or 128 bits, and *after the new count; at most 1,024 nodes are added after the old ones, each
+ * reached from *node, and no other word changes. Refused: *node is NEON_NO_NODE, *after is count. */
+uint64_t neon_lower_instruction(uint64_t *pool, size_t words, size_t count, uint64_t operation, uint64_t arrangement, uint64_t i,
+                                size_t d, size_t n, size_t m, size_t *node, size_t *after);
+
+/* Lowers a block into a new pool, whatever words it held: nodes 0 to 31 become v0 to v31. `numbers` counts words, six a record;
+ * words after the last whole record are not read. `results`, of `entries` words, gets
+ *   0 to 31   the node of each register's term, of 128 bits; NEON_NO_NODE where the block is refused
+ *   32        the count; 0 where it is refused
+ *   33        the position of the first bad record, counted from 0, with 2, 3, 4 and 7; else 0
+ * and its later words stay. Fewer than 34 entries get NEON_SHORT_RESULTS, and nothing is written. No word of the pool past the
+ * count changes. */
+uint64_t neon_lower_block(uint64_t *pool, size_t words, const uint64_t *records, size_t numbers, uint64_t *results, size_t entries);
+
+/* Writes the text of a node to the front of `buffer`, with no zero byte after it; later bytes stay. *length is that of the text,
+ * 0 where it is refused. */
+uint64_t neon_write_text(const uint64_t *pool, size_t words, size_t count, size_t node, uint8_t *buffer, size_t bytes,
+                         size_t *length);
+
+/* *length is that of the text of a node, or ceiling + 1 where the text is longer; 0 where it is refused. Its time grows with the
+ * ceiling. */
+uint64_t neon_text_length(const uint64_t *pool, size_t words, size_t count, size_t node, uint32_t ceiling, size_t *length);
+
+#ifdef __cplusplus
+}
+#endif
+
+#endif

@@ -1,0 +1,106 @@
+//! The calls of the archive that `rt staticlib exports` writes. A lent slice stands between guards.
+
+unsafe extern "C" {
+    fn neon_form_code(operation: u64, arrangement: u64) -> u64;
+    fn neon_pool_check(pool: *const u64, words: usize, count: usize) -> bool;
+    fn neon_lower_instruction(
+        pool: *mut u64, words: usize, count: usize, operation: u64, arrangement: u64, i: u64, d: usize, n: usize, m: usize,
+        node: *mut usize, after: *mut usize,
+    ) -> u64;
+    fn neon_lower_block(pool: *mut u64, words: usize, records: *const u64, numbers: usize, results: *mut u64, entries: usize) -> u64;
+    fn neon_write_text(pool: *const u64, words: usize, count: usize, node: usize, buffer: *mut u8, bytes: usize, length: *mut usize) -> u64;
+    fn neon_text_length(pool: *const u64, words: usize, count: usize, node: usize, ceiling: u32, length: *mut usize) -> u64;
+}
+
+const GUARDS: usize = 8;
+
+/// A slice with guards before and after it.
+pub struct Lent<T> {
+    all: Vec<T>,
+    guard: T,
+}
+
+impl<T: Copy + PartialEq> Lent<T> {
+    pub fn new(items: &[T], guard: T) -> Self {
+        let mut lent = Self { all: vec![guard; GUARDS], guard };
+        lent.set(items);
+        lent
+    }
+
+    pub fn set(&mut self, items: &[T]) {
+        self.all.truncate(GUARDS);
+        self.all.extend_from_slice(items);
+        self.all.resize(items.len() + 2 * GUARDS, self.guard);
+    }
+
+    pub fn items(&self) -> &[T] {
+        &self.all[GUARDS..self.all.len() - GUARDS]
+    }
+
+    fn lend(&mut self) -> (*mut T, usize) {
+        let bytes = self.all.len() - 2 * GUARDS;
+        (self.all[GUARDS..].as_mut_ptr(), bytes)
+    }
+
+    /// Panics where a guard has changed.
+    fn look(&self) {
+        let end = self.all.len() - GUARDS;
+        let whole = self.all[..GUARDS].iter().chain(&self.all[end..]).all(|x| *x == self.guard);
+        assert!(whole, "a word or byte outside a lent slice changed");
+    }
+}
+
+pub type Words = Lent<u64>;
+
+pub fn words(items: &[u64]) -> Words {
+    Lent::new(items, 0x5aa5_0ff0_5aa5_f00f)
+}
+
+pub fn bytes(size: usize) -> Lent<u8> {
+    Lent::new(&vec![OLD; size], 0x3c)
+}
+
+/// What a text buffer holds before a call.
+pub const OLD: u8 = 0xa5;
+
+pub fn form_code(operation: u64, arrangement: u64) -> u64 {
+    unsafe { neon_form_code(operation, arrangement) }
+}
+
+pub fn pool_check(pool: &[u64], count: usize) -> bool {
+    unsafe { neon_pool_check(pool.as_ptr(), pool.len(), count) }
+}
+
+/// Number, node and count. `case` is operation, arrangement and i; `nodes` d, n and m.
+pub fn lower_instruction(pool: &mut Words, count: usize, case: [u64; 3], nodes: [usize; 3]) -> (u64, usize, usize) {
+    let (at, length) = pool.lend();
+    let [operation, arrangement, i] = case;
+    let [d, n, m] = nodes;
+    let (mut node, mut after) = (77, 77);
+    let number = unsafe { neon_lower_instruction(at, length, count, operation, arrangement, i, d, n, m, &mut node, &mut after) };
+    pool.look();
+    (number, node, after)
+}
+
+pub fn lower_block(pool: &mut Words, records: &[u64], results: &mut Words) -> u64 {
+    let (at, length) = pool.lend();
+    let (to, entries) = results.lend();
+    let number = unsafe { neon_lower_block(at, length, records.as_ptr(), records.len(), to, entries) };
+    pool.look();
+    results.look();
+    number
+}
+
+pub fn write_text(pool: &[u64], count: usize, node: usize, buffer: &mut Lent<u8>) -> (u64, usize) {
+    let (at, size) = buffer.lend();
+    let mut length = 77;
+    let number = unsafe { neon_write_text(pool.as_ptr(), pool.len(), count, node, at, size, &mut length) };
+    buffer.look();
+    (number, length)
+}
+
+pub fn text_length(pool: &[u64], count: usize, node: usize, ceiling: u32) -> (u64, usize) {
+    let mut length = 77;
+    let number = unsafe { neon_text_length(pool.as_ptr(), pool.len(), count, node, ceiling, &mut length) };
+    (number, length)
+}
