@@ -58,7 +58,6 @@ use Rattle.block.specs.Block.{Runs}
 use Rattle.neon.proofs.Instruction as T₁
 use Rattle.neon.proofs.Instruction.Laws as T₁′
 use Rattle.register_map.proofs.RegisterMap as T
-use Rattle.register_map.proofs.RegisterMap.Laws as T′
 use Rattle.blocks.proofs.Again.{LentAgain as SliceLent, lends-again as slice-lends, comes-back as slice-back}
 use Rattle.blocks.proofs.Listed.{none, Ran, ran-none, ran-more, ran-all, ran-ok}
 use Rattle.blocks.proofs.Walking.{needs3, says3, Fits, six}
