@@ -7,7 +7,7 @@ use native.Mathlib.Numerals.{add-one}
 use native.Mathlib.Omega.{arith}
 use lib.Dec.{eqb}
 use lib.ListN.{length, take, drop, getD, set, length-set, length-take}
-use lib.Seq.{drop-cons, take-suc-set, take-all, take-append-seam}
+use lib.Seq.{getD-set-other, drop-cons, take-suc-set, take-all, take-append-seam}
 use borrow.Author.Tests.{eq-eqb, ne-eqb}
 use Rattle.lines.specs.declared.Gathered.{Gathered}
 use Rattle.lines.specs.Pieces.{upTo, ends, one, Gathers}
@@ -23,9 +23,10 @@ pub record Same (held₀ : List ℕ) (len : ℕ) (s₀ : List ℕ) (from : ℕ) 
   pub count : max n (min (length held₀) (n + length (upTo s))) ≡ max len (min (length held₀) (len + length (upTo s₀)))
   pub ended : ends s ≡ ends s₀
   pub place : i + length (upTo s) ≡ from + length (upTo s₀)
+  pub past : (j : ℕ) → n ≤ j → getD held j 0 ≡ getD held₀ j 0
 
 pub same-start : (held : List ℕ) (len : ℕ) (s : List ℕ) (from : ℕ) → Same held len s from held len s from
-same-start held len s from = record { long = refl; bytes = refl; count = refl; ended = refl; place = refl }
+same-start held len s from = record { long = refl; bytes = refl; count = refl; ended = refl; place = refl; past = λ j l. refl }
 
 -- a newline, and any other byte
 up-newline : (b : ℕ) (s : List ℕ) → b ≡ 10 → upTo (b ∷ s) ≡ []
@@ -57,6 +58,8 @@ module _ (held₀ : List ℕ) (len : ℕ) (s₀ : List ℕ) (from : ℕ) {held :
         bytes =
             ap (λ (k : ℕ). take k held) e ∙ sym whole ∙ sym (ap (take (length held₀)) (ap (λ (t : List ℕ). take n held ++ t) u ∙ append-nil (take n held)))
             ∙ h .bytes;
+        long = h .long;
+        past = λ j m. h .past j (omega (arith, m, e));
         len-is = omega (arith, h .count, z, e);
         ended-is = f ∙ h .ended;
         taken-is = omega (arith, g, h .place, z, ap one (h .ended));
@@ -86,6 +89,7 @@ module _ (held₀ : List ℕ) (len : ℕ) (s₀ : List ℕ) (from : ℕ) {held :
       in
       record {
         long = length-set held n b ∙ h .long;
+        past = λ j m. getD-set-other held n j b 0 (λ q. omega (arith, q, m)) ∙ h .past j (omega (arith, m));
         bytes = ap (take (length held₀)) t ∙ h .bytes;
         count = omega (arith, h .count, h .long, z);
         ended = sym (ends-other b s f) ∙ h .ended;
@@ -102,6 +106,7 @@ module _ (held₀ : List ℕ) (len : ℕ) (s₀ : List ℕ) (from : ℕ) {held :
       in
       record {
         long = h .long;
+        past = h .past;
         bytes = all (upTo s) ∙ sym (all (upTo (b ∷ s))) ∙ h .bytes;
         count = omega (arith, h .count, h .long, z);
         ended = sym (ends-other b s f) ∙ h .ended;
