@@ -132,3 +132,9 @@ wrote-tens x t o r {l} {m} {i} {j} e h g u q =
     let p : t ≡ x / 10 = omega arith in
     let d : o ≡ x % 10 = omega arith in
     wrote-more 10 x r (omega arith) g (subst (λ (z : ℕ). Wrote l i (digits 10 z) j m) p u) (q ∙ ap digit d)
+
+-- two digits
+pub wrote-two : (l : List ℕ) (i x t o p r : ℕ) → 10 * t + o ≡ x → o < 10 → 10 ≤ x → t < 10 → p ≡ digit t → r ≡ digit o
+    → Wrote l i (digits 10 x) (i + 2) (set (set l i p) (i + 1) r)
+wrote-two l i x t o p r e h g k a b =
+    subst (λ (j : ℕ). Wrote l i (digits 10 x) j (set (set l i p) (i + 1) r)) (omega arith) (wrote-tens x t o r e h g (wrote-one 10 l i t p k a) b)

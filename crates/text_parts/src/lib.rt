@@ -90,16 +90,12 @@ struct Tens {
     ones: u64,
 }
 
-// By subtracting, with no division: positions and widths have three digits at most. Fifties first, so that the turns are few.
+// By subtracting, with no division: positions and widths have three digits at most.
 fn tens_of(x: u64) -> Tens
     ensures { λ r. ⌜ (10 * r .tens + r .ones ≡ x) × (r .ones < 10) ⌝ }
 {
     let mut tens = 0;
     let mut ones = x;
-    while 50 <= ones {
-        ones -= 50;
-        tens += 5;
-    }
     while 10 <= ones {
         ones -= 10;
         tens += 1;
@@ -118,7 +114,7 @@ pub fn decimal_length(x: u64) -> usize
     if x < 100 { 2 } else { 3 }
 }
 
-// Decimal digits.
+// Decimal digits. Two are written without a call: most numbers have no more.
 fn put_decimal(x: u64, buf: &mut [u8], at: usize) -> usize
     requires { ⌜ Room (now buf) at (decimal x) ⌝ }
     ensures { λ r. ⌜ Wrote (now (buf .entry)) at (decimal x) r (now (buf .exit)) ⌝ }
@@ -128,6 +124,11 @@ fn put_decimal(x: u64, buf: &mut [u8], at: usize) -> usize
         return at + 1;
     }
     let t = tens_of(x);
+    if t.tens < 10 {
+        buf[at] = digit_of(t.tens);
+        buf[at + 1] = digit_of(t.ones);
+        return at + 2;
+    }
     let i = put_decimal(t.tens, buf, at);
     buf[i] = digit_of(t.ones);
     i + 1
