@@ -64,6 +64,7 @@ fn main() {
         "values" => values_part::main(&arguments[1], &arguments[2]),
         "texts" => eight_megabytes(texts_part::main, number(1)),
         "damage" => eight_megabytes(damage_part::main, number(1)),
+        "stored" => damage_part::stored(number(1)),
         "lines" => lines_part::main(&arguments[1], number(2)),
         "solver" => solver_part::main(&arguments[1], number(2)),
         _ => panic!("no such part"),

@@ -239,3 +239,18 @@ pub fn main(count: u64) {
     println!("damage: {count} pools ({}), {} of them bad: yes or no as the judge says", ways.join(", "), seen.bad);
     println!("damage: answers by number, all as the judge's: one instruction {:?}, text {:?}, block {:?}", seen.instruction, seen.text, seen.block);
 }
+
+/// Writes a sample for tests/stored/pools: to standard output the cases, to standard error what the judge answers.
+pub fn stored(count: u64) {
+    let mut r = Rng(0x2545_f491_4f6c_dd1d);
+    for _ in 0..count {
+        let Base { mut words, mut count } = base(&mut r);
+        words.truncate(4 * count + r.below(6) as usize);
+        damage(&mut r, &mut words, &mut count);
+        let (case, nodes) = arguments(&mut r, &words, count);
+        let head: Vec<String> = case.iter().copied().chain(nodes.map(|n| n as u64)).map(|x| x.to_string()).collect();
+        let body: Vec<String> = words.iter().map(|w| format!("{w:x}")).collect();
+        println!("{} {count} {} {}", words.len(), head.join(" "), body.join(" "));
+        eprintln!("{} {}", u8::from(valid(&words, count)), instruction_number(&words, count, case, nodes));
+    }
+}
