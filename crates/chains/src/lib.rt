@@ -222,7 +222,7 @@ fn one_less(x: usize) -> usize {
 // One line for each buffer: the shape of the chain, its kind, the node, the buffer's bytes, the number, the length, and a
 // sum over the whole buffer. A node's text goes into buffers of 0 and 1 byte, of just enough, of one less, of 65,536 and of all there is.
 pub fn buffers(pool: &[u64], node: usize, buffer: &mut [u8], shape: u64, kind: u64) {
-    let exact = text::text_length(pool, NODES, node, 1048576).length;
+    let exact = text_length::text_length(pool, NODES, node, 1048576).length;
     sized(pool, node, buffer, 0, shape, kind);
     sized(pool, node, buffer, 1, shape, kind);
     sized(pool, node, buffer, exact, shape, kind);

@@ -8,7 +8,7 @@ use lib.Dec.{ltb}
 use lib.ListN.{length, replicate}
 use borrow.Author.Tests.{lt-ltb, eq-eqb, ne-eqb, ltb-true, ltb-false}
 use Rattle.terms.specs.Display.{digit, decimal}
-use Rattle.text_parts.proofs.Laws.{digits-one, digits-more}
+use Rattle.digits.proofs.Laws.{digits-one, digits-more}
 use Rattle.columns.specs.Columns.{columns, characterOf}
 
 -- a decimal digit's character

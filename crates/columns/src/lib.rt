@@ -1,9 +1,9 @@
 // Numbers in columns: right-justified decimals in fields of 4 characters, read and written. The Rust has no counterpart.
-use text_parts::put;
+use digits::put;
 ghost use mathlib.Core.Path.{_≡_};
 ghost use Prim.Native.Nat.{_+_, _≤_, _<_};
 ghost use lib.ListN.{length};
-ghost use Rattle.text_parts.specs.Text.{Room, Wrote};
+ghost use Rattle.digits.specs.Writing.{Room, Wrote};
 ghost use Rattle.columns.specs.Columns.{columns, characterOf, shown, fieldAt, isField, inColumns, fields};
 
 // The digit that a character shows.

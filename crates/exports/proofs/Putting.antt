@@ -8,7 +8,7 @@ use lib.ListN.{length, set, drop, length-append}
 use lib.Seq.{sets, sets-eq}
 use Rattle.register_map.specs.declared.RegisterMap.{RegisterMap}
 use Rattle.register_map.specs.Map.{nodeOf}
-use Rattle.text_parts.proofs.Laws.{sets-append}
+use Rattle.digits.proofs.Laws.{sets-append}
 use Rattle.exports.specs.Results.{nodesOf, put}
 
 nodes-length : (m : RegisterMap) (r k : ℕ) → length (nodesOf m r k) ≡ k

@@ -6,7 +6,8 @@ ghost use Prim.Native.Nat.{_≤_};
 ghost use lib.ListN.{length};
 ghost use Rattle.neon.specs.Form.{formCodeAt};
 ghost use Rattle.pool.specs.Rules.{poolOk};
-ghost use Rattle.text.specs.Answer.{Answered as TextAnswered, Measured};
+ghost use Rattle.text.specs.Answer.{Answered as TextAnswered};
+ghost use Rattle.text_length.specs.Answer.{Measured};
 ghost use Rattle.instruction.specs.Lowering.{Answers};
 ghost use Rattle.block_check.specs.Records.{recordsOf};
 ghost use Rattle.exports.specs.Results.{Told, put};
@@ -109,7 +110,7 @@ pub extern "C" fn neon_text_length(
 ) -> u64
     ensures { λ r. ⌜ Measured (now (pool .entry)) count node ceiling r (now (length .exit)) ⌝ }
 {
-    let w = text::text_length(pool, count, node, ceiling);
+    let w = text_length::text_length(pool, count, node, ceiling);
     *length = w.length;
     w.number
 }

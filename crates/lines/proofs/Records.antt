@@ -16,8 +16,9 @@ use Rattle.neon.specs.Form.{hasForm, least, most}
 use Rattle.neon.specs.Refusal.{Refusal, refusal, reserve, registersOk, recordNumber, recordsRefusal, blockRefusal}
 use Rattle.neon.proofs.Legal.{accepted}
 use Rattle.pool.specs.Node.{places}
-use Rattle.text_parts.specs.Text.{text, Wrote}
-use Rattle.text_parts.proofs.Laws.{wrote-none, wrote-as}
+use Rattle.digits.specs.Writing.{Wrote}
+use Rattle.text_parts.specs.Text.{text}
+use Rattle.digits.proofs.Laws.{wrote-none, wrote-as}
 use Rattle.block_check.specs.Records.{recordsFrom, recordsOf}
 use Rattle.block_check.proofs.Refusals.{block-legal}
 use Rattle.register_map.specs.Map.{nodeOf}

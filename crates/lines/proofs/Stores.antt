@@ -5,8 +5,8 @@ use Prim.Native.Nat.{ℕ, suc, _+_, _≤_, _<_}
 use native.Mathlib.Omega.{arith}
 use lib.ListN.{length, take, drop, set, length-drop, take-append-drop}
 use lib.Seq.{sets, sets-eq, set-comm, drop-append-le, drop-drop, length-take-le}
-use Rattle.text_parts.specs.Text.{Wrote}
-use Rattle.text_parts.proofs.Laws.{wrote-then}
+use Rattle.digits.specs.Writing.{Wrote}
+use Rattle.digits.proofs.Laws.{wrote-then}
 
 set-sets : (l : List ℕ) (i j x : ℕ) (b : List ℕ) → i < j → set (sets l j b) i x ≡ sets (set l i x) j b
 set-sets l i j x [] h = refl

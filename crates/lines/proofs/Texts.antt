@@ -10,10 +10,11 @@ use lib.Seq.{sets, length-take-le}
 use borrow.Author.Tests.{leb-true}
 use Rattle.facts.specs.Refuse.{unless}
 use Rattle.pool.specs.Rules.{poolOk}
-use Rattle.text_parts.specs.Text.{text, Wrote}
-use Rattle.text_parts.proofs.Laws.{wrote-then}
+use Rattle.digits.specs.Writing.{Wrote}
+use Rattle.text_parts.specs.Text.{text}
+use Rattle.digits.proofs.Laws.{wrote-then}
 use Rattle.text.specs.Answer.{textNumber, Answered}
-use Rattle.text.proofs.Answers.{good-node}
+use Rattle.text_length.proofs.Answers.{good-node}
 use Rattle.columns.specs.Columns.{columns}
 use Rattle.columns.proofs.Characters.{columns-are}
 use Rattle.lines.specs.Line.{textRoom, roomNumber, written, TextPut}

@@ -3,9 +3,9 @@
 use columns::fields_of;
 use columns::in_columns;
 use columns::put_columns;
-use text::Written;
+use digits::put;
 use text::write_text;
-use text_parts::put;
+use text_length::Written;
 ghost use mathlib.Core.Bool.{true};
 ghost use mathlib.Core.List.{[], _∷_, _++_};
 ghost use mathlib.Core.Path.{_≡_};
@@ -14,7 +14,8 @@ ghost use lib.ListN.{length, drop};
 ghost use Rattle.pool.specs.Node.{places};
 ghost use Rattle.pool.specs.Rules.{poolOk};
 ghost use Rattle.columns.specs.Columns.{columns};
-ghost use Rattle.text_parts.specs.Text.{text, Wrote};
+ghost use Rattle.digits.specs.Writing.{Wrote};
+ghost use Rattle.text_parts.specs.Text.{text};
 ghost use Rattle.lines.specs.Line.{textRoom, answerRoom, roomNumber, written, answerIn, PoolAfter, TextPut};
 ghost use Rattle.lines.specs.Pieces.{Gathers};
 

@@ -1,3 +1,1 @@
-pub mod Inserting
 pub mod Summing
-pub mod Multiplying

@@ -4,8 +4,8 @@ use mathlib.Core.Path.{_≡_}
 use Prim.Native.Nat.{ℕ, _+_, _*_, _/_, _≤_}
 use Rattle.trees.specs.declared.NeonOp.{NeonOp}
 use Rattle.trees.specs.declared.NeonOp.the-variants.{Shift, ShiftInsert, MixedSignAdd, DoublingLong, Saturating, BitwiseUnary, AbsoluteDifference, HighNarrow}
-use Rattle.lower_shift.specs.Amounts.{isRegister, AmountIn}
-use Rattle.lower_accumulate.specs.Elements.{accumulates, factorBits, secondFactorBits}
+use Rattle.lower_shift_lane.specs.Amounts.{isRegister, AmountIn}
+use Rattle.lower_doubling.specs.Elements.{accumulates, factorBits, secondFactorBits}
 use Rattle.lower_saturating_lane.specs.Kinds.{usesSecond, sourceBits, KindIn}
 
 -- the most nodes that a form adds

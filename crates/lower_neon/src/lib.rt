@@ -47,7 +47,7 @@ pub fn neon_value(
             n,
             lanes,
         ),
-        NeonOp::ShiftInsert { left, shift } => lower_accumulate::insert::shift_insert_lanes(
+        NeonOp::ShiftInsert { left, shift } => lower_insert::shift_insert_lanes(
             pool,
             count,
             left,
@@ -71,7 +71,7 @@ pub fn neon_value(
             combine,
             upper,
             by_element,
-        } => lower_accumulate::doubling::doubling_long_lanes(
+        } => lower_doubling::doubling_long_lanes(
             pool,
             count,
             combine,

@@ -15,7 +15,7 @@ use Rattle.trees.specs.Simd.{extractLane}
 use Rattle.trees.specs.Arith.{shiftLane}
 use Rattle.lower.specs.Builds.{BuildsIf, Lowers, read, readIf, unread, MadeLane}
 use Rattle.lower.proofs.Lanes.{lane-fits}
-use Rattle.lower_shift.specs.Amounts.{isRegister}
+use Rattle.lower_shift_lane.specs.Amounts.{isRegister}
 use Rattle.lower_shift.specs.Lanes.{shiftAt}
 
 pub at-register : {w0 w1 w2 w3 : List ℕ} {k : ℕ} {r1 r2 r3 : Built} {first second : Node} {n lanes j : ℕ} (kind : ShiftKind) (signed : Bool)

@@ -1,124 +1,17 @@
-// The Rust's neon/lower/arith.rs: shift_lane and shift_lanes, the shifts of lanes that keep their width.
+// The Rust's neon/lower/arith.rs: shift_lanes, the shifts lane by lane.
+use lower_shift_lane::shift_lane;
 use neon::Lane;
-use pool::Bit;
 use pool::Built;
 use pool::Node;
-use terms::BinOp;
-use terms::CmpOp;
 use trees::ShiftKind;
 ghost use mathlib.Core.Path.{_≡_};
-ghost use mathlib.Core.List.{[], _∷_};
+ghost use mathlib.Core.List.{[]};
 ghost use Prim.Native.Nat.{_*_, _≤_, _<_};
 ghost use Rattle.pool.specs.Growth.{Room};
-ghost use Rattle.trees.specs.Arith.{signedAmount, shiftLane, shiftLanes};
-ghost use Rattle.lower.specs.Builds.{Builds1, Builds2, BuildsIf, Lowers, read, readIf, unread, Below};
-ghost use Rattle.lower_shift.specs.Amounts.{isRegister, AmountIn};
+ghost use Rattle.trees.specs.Arith.{shiftLanes};
+ghost use Rattle.lower.specs.Builds.{Lowers, read, readIf, unread, Below};
+ghost use Rattle.lower_shift_lane.specs.Amounts.{isRegister, AmountIn};
 ghost use Rattle.lower_shift.specs.Lanes.{shiftAt};
-
-pub mod left;
-pub mod right;
-
-// The signed low byte of a register shift's amount.
-fn signed_amount(pool: &mut [u64], count: usize, raw: Node, lane_bits: u64) -> Built
-    requires { ⌜ Room (now pool) count 2 ⌝ }
-    requires { ⌜ (raw .0 < count) × (8 ≤ «lane_bits») × («lane_bits» ≤ 64) ⌝ }
-    ensures { λ r. ⌜ Builds1 (now (pool .entry)) count (now (pool .exit)) r 2 raw «lane_bits» «lane_bits» (λ a. signedAmount a «lane_bits») (raw .0 ∷ []) ⌝ }
-{
-    if 8 < lane_bits {
-        let byte = pool::extract(pool, count, raw, Bit(7), Bit(0));
-        return pool::sign_ext(pool, byte.count, byte.node, lane_bits);
-    }
-    Built { node: raw, count }
-}
-
-// A shift by a signed amount: to the right where it is negative.
-fn shift_register(
-    pool: &mut [u64],
-    count: usize,
-    rounding: bool,
-    saturate: bool,
-    signed: bool,
-    value: Node,
-    raw: Node,
-    lane_bits: u64,
-) -> Built
-    requires { ⌜ Room (now pool) count 23 ⌝ }
-    requires { ⌜ (value .0 < count) × (raw .0 < count) × (8 ≤ «lane_bits») × («lane_bits» ≤ 64) ⌝ }
-    ensures { λ r. ⌜ Builds2 (now (pool .entry)) count (now (pool .exit)) r 23 value «lane_bits» raw «lane_bits» «lane_bits»
-        (λ v a. shiftLane (ShiftKind.Register rounding saturate) signed v a «lane_bits») (value .0 ∷ raw .0 ∷ []) ⌝ }
-{
-    let amount = signed_amount(pool, count, raw, lane_bits);
-    let left = left::left_by(
-        pool,
-        amount.count,
-        saturate,
-        value,
-        amount.node,
-        lane_bits,
-        signed,
-    );
-    let zero = pool::konst(pool, left.count, 0, 0, lane_bits);
-    let negated = pool::bv(pool, zero.count, BinOp::Sub, zero.node, amount.node);
-    let right = right::shift_right(
-        pool,
-        negated.count,
-        value,
-        negated.node,
-        lane_bits,
-        signed,
-        rounding,
-        Lane::REGISTER_SHIFT_MAX,
-    );
-    let negative = pool::compare(pool, right.count, CmpOp::Slt, amount.node, zero.node);
-    pool::ite(pool, negative.count, negative.node, right.node, left.node)
-}
-
-// One destination lane. `amount` is read by the register forms alone.
-pub fn shift_lane(
-    pool: &mut [u64],
-    count: usize,
-    kind: ShiftKind,
-    signed: bool,
-    value: Node,
-    amount: Node,
-    lane_bits: u64,
-) -> Built
-    requires { ⌜ Room (now pool) count 23 ⌝ }
-    requires { ⌜ (value .0 < count) × (amount .0 < count) × (8 ≤ «lane_bits») × («lane_bits» ≤ 64) × AmountIn kind «lane_bits» ⌝ }
-    ensures { λ r. ⌜ BuildsIf (now (pool .entry)) count (now (pool .exit)) r 23 value «lane_bits» (isRegister kind) amount «lane_bits» «lane_bits»
-        (λ v a. shiftLane kind signed v a «lane_bits») ⌝ }
-{
-    match kind {
-        ShiftKind::LeftImmediate { shift, saturate } => {
-            left::left_immediate(pool, count, saturate, value, shift, lane_bits, signed)
-        }
-        ShiftKind::RightImmediate { shift, rounding } => {
-            let by = pool::konst(pool, count, shift, 0, lane_bits);
-            right::shift_right(
-                pool,
-                by.count,
-                value,
-                by.node,
-                lane_bits,
-                signed,
-                rounding,
-                shift,
-            )
-        }
-        ShiftKind::Register { rounding, saturate } => {
-            shift_register(
-                pool,
-                count,
-                rounding,
-                saturate,
-                signed,
-                value,
-                amount,
-                lane_bits,
-            )
-        }
-    }
-}
 
 fn is_register(kind: ShiftKind) -> bool
     ensures { λ r. ⌜ r ≡ isRegister kind ⌝ }

@@ -1,11 +1,11 @@
 -- What the 67 operations compute, on integers: document 01's table ("Forms"), after the Arm Architecture Reference Manual.
-use mathlib.Core.Bool.{Bool, true, false, cond}
+use mathlib.Core.Bool.{Bool, cond, _&&_}
 use Prim.Native.Nat.{ℕ, zero, suc, _+_, _-_, _*_, _/_, _%_, _^_}
 use lib.Dec.{ltb, eqb}
 use lib.IntN.{ℤ, pos, negsuc, negℤ, natAbs, _+ℤ_, _-ℤ_, _*ℤ_}
 use lib.Signed.{ltZ, shrZ}
 use Rattle.neon.specs.Op.{Op, Arrangement, laneBits, full, SHL, SQSHLI, UQSHLI, SQSHLU, SSHR, USHR, SRSHR, URSHR, SSHL, USHL, SRSHL, URSHL, SQSHL, UQSHL, SQRSHL, UQRSHL, SLI, SRI, SQADD, UQADD, SQSUB, UQSUB, SHADD, UHADD, SRHADD, URHADD, SQXTN, UQXTN, SQXTUN, SHRN, RSHRN, SQSHRN, SQRSHRN, UQSHRN, UQRSHRN, SQSHRUN, SQRSHRUN, SQABS, SQNEG, SQDMULH, SQRDMULH, SQDMULL, SQDMLAL, SQDMLSL, SQDMULL2, SQDMLAL2, SQDMLSL2, SQDMULLE, SQDMLALE, SQDMLSLE, SQDMULL2E, SQDMLAL2E, SQDMLSL2E, SUQADD, USQADD, SABD, UABD, SABA, UABA, CNT, CLZ, CLS, RBIT, ADDHN, RADDHN, SUBHN, RSUBHN}
-use Rattle.neon.specs.Form.{Lanes, Same, Narrow, Long, form, sourceBits, laneCount, firstLane, secondLane, byElement}
+use Rattle.neon.specs.Form.{Lanes, form, isNarrow, sourceBits, laneCount, firstLane, secondLane, byElement}
 
 -- z mod 2 ^ n
 unfoldable pub wrap : ℕ → ℤ → ℕ
@@ -18,11 +18,6 @@ U a = pos a
 
 unfoldable pub S : ℕ → ℕ → ℤ
 S n a = cond (ltb a (2 ^ (n - 1))) (pos a) (pos a -ℤ pos (2 ^ n))
-
--- the two, by a flag: true is signed
-abbrev pub reading : Bool → ℕ → ℕ → ℤ
-reading true n a = S n a
-reading false n a = U a
 
 -- z brought into the range from lo to hi
 unfoldable pub clampZ : ℤ → ℤ → ℤ → ℤ
@@ -165,10 +160,7 @@ armAt o v i d a b j =
 
 -- a narrowing "2" form has the new 64 bits above the low 64 of d
 abbrev pub placeBits : Lanes → Bool → ℕ → ℕ → ℕ
-placeBits Same v new d = new
-placeBits Narrow true new d = new * 2 ^ 64 + d % 2 ^ 64
-placeBits Narrow false new d = new
-placeBits (Long u) v new d = new
+placeBits l v new d = cond (isNarrow l && v) (new * 2 ^ 64 + d % 2 ^ 64) new
 
 -- the result of an instruction on the registers d, a, b, as they are read
 unfoldable pub armResult : Op → Arrangement → (i d a b : ℕ) → ℕ

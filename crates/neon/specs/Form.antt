@@ -195,9 +195,7 @@ sourceBits (Long u) n = n / 2
 
 -- the bits that are made: 64 where the lanes narrow, else the view
 abbrev pub madeBits : Lanes → Bool → ℕ
-madeBits Same v = bitsIf v
-madeBits Narrow v = 64
-madeBits (Long u) v = bitsIf v
+madeBits l v = cond (isNarrow l) 64 (bitsIf v)
 
 abbrev pub laneCount : Op → Arrangement → ℕ
 laneCount o v = madeBits (form o .lanes) (full v) / laneBits v

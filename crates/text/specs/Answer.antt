@@ -1,25 +1,16 @@
 -- What asking for a node's text answers (document 01, "The numbers"): 1, 5, 9, the first in order.
 use mathlib.Core.List.{List, _++_}
 use mathlib.Core.Path.{_≡_}
-use Prim.Native.Nat.{ℕ, zero, suc, _+_, min}
-use lib.Dec.{ltb, leb}
+use Prim.Native.Nat.{ℕ, zero, suc}
+use lib.Dec.{leb}
 use lib.ListN.{length, drop}
 use Rattle.facts.specs.Refuse.{unless}
-use Rattle.pool.specs.Rules.{poolOk}
 use Rattle.text_parts.specs.Text.{text}
-
--- 1 for a bad pool, 5 for a node not below the count; else what follows
-abbrev pub nodeNumber : List ℕ → (count n rest : ℕ) → ℕ
-nodeNumber ws count n rest = unless (poolOk ws count) 1 (unless (ltb n count) 5 rest)
+use Rattle.text_length.specs.Answer.{nodeNumber, lengthBy}
 
 -- 9 for a text longer than the buffer
 abbrev pub textNumber : List ℕ → (count n room : ℕ) → ℕ
 textNumber ws count n room = nodeNumber ws count n (unless (leb (length (text ws n)) room) 9 0)
-
--- a length that comes back, by the number: 0 with a refusal
-abbrev pub lengthBy : (number length : ℕ) → ℕ
-lengthBy zero l = l
-lengthBy (suc k) l = 0
 
 -- the buffer, by the number: the text and the old bytes after it; a refusal writes nothing
 abbrev pub bufferBy : (number : ℕ) (s old : List ℕ) → List ℕ
@@ -31,8 +22,3 @@ pub record Answered (ws : List ℕ) (count n : ℕ) (old : List ℕ) (number len
   pub number-is : number ≡ textNumber ws count n (length old)
   pub length-is : len ≡ lengthBy (textNumber ws count n (length old)) (length (text ws n))
   pub buffer-is : new ≡ bufferBy (textNumber ws count n (length old)) (text ws n) old
-
--- its length was asked for, up to a ceiling: one more than the ceiling stands for all that is longer
-pub record Measured (ws : List ℕ) (count n ceiling : ℕ) (number len : ℕ) : Type 0 where
-  pub number-is : number ≡ nodeNumber ws count n 0
-  pub length-is : len ≡ lengthBy (nodeNumber ws count n 0) (min (length (text ws n)) (ceiling + 1))

@@ -1,4 +1,4 @@
--- How long the texts between operands and the decimal numbers are. Assumes nothing.
+-- How long the texts between operands are. Assumes nothing.
 use mathlib.Core.Path.{_≡_, refl, ap, _∙_}
 use Prim.Native.Nat.{ℕ, _+_, _/_, _≤_, _<_}
 use native.Mathlib.Omega.{arith}
@@ -7,7 +7,7 @@ use Rattle.terms.specs.Display.{decimal}
 use Rattle.pool.specs.Node.{Kind, kinds}
 use Rattle.pool_check.proofs.Tables.{within}
 use Rattle.text_parts.specs.Text.{infixOf, infixText}
-use Rattle.text_parts.proofs.Laws.{digits-one, length-more}
+use Rattle.digits.proofs.Laws.{digits-one, length-more}
 
 -- the kinds 3 to 8, 9, 10 and 11, 12 to 14
 abbrev Long : ℕ → Kind → Type 0
@@ -28,15 +28,3 @@ infix-shr k h l = within (Long 5) 10 2 (refl, (refl, tt)) k h (omega arith)
 pub infix-compare : (k : ℕ) → 12 ≤ k → k < 15 → length (infixText k) ≡ 4
 unfolding infixText kinds
 infix-compare k h l = within (Long 4) 12 3 (refl, (refl, (refl, tt))) k h (omega arith)
-
-pub decimal-one : (x : ℕ) → x < 10 → length (decimal x) ≡ 1
-unfolding decimal
-decimal-one x h = ap length (digits-one 10 x h)
-
-pub decimal-two : (x : ℕ) → 10 ≤ x → x < 100 → length (decimal x) ≡ 2
-unfolding decimal
-decimal-two x h l = length-more 10 x (omega arith) h ∙ ap (λ (n : ℕ). n + 1) (decimal-one (x / 10) (omega arith))
-
-pub decimal-three : (x : ℕ) → 100 ≤ x → x < 1000 → length (decimal x) ≡ 3
-unfolding decimal
-decimal-three x h l = length-more 10 x (omega arith) (omega arith) ∙ ap (λ (n : ℕ). n + 1) (decimal-two (x / 10) (omega arith) (omega arith))

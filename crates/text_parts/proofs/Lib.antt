@@ -1,4 +1,3 @@
-pub mod Laws
 pub mod Lengths
 pub mod Kept
 pub mod Operands

@@ -1,9 +1,7 @@
--- The text of a node, and what writing asks of a buffer and leaves in it.
+-- The text of a node, and its parts.
 use mathlib.Core.List.{List, [], _++_}
-use mathlib.Core.Path.{_≡_}
-use Prim.Native.Nat.{ℕ, _+_, _*_, _≤_, _<_}
+use Prim.Native.Nat.{ℕ, _+_, _*_, _<_}
 use lib.ListN.{length, getD}
-use lib.Seq.{sets}
 use Rattle.terms.specs.Display.{bytes, operator, comparison, decimal, display}
 use Rattle.pool.specs.Node.{Kind, bad, var, const, bv, compare, ite, extract, concat, zext, sext, kindAt, kindOf, aOf, bOf, cOf}
 use Rattle.pool.specs.Rules.{Valid}
@@ -69,12 +67,3 @@ widthText w = bytes ", " ++ (decimal w ++ bytes ")")
 pub record Ready (ws : List ℕ) (n : ℕ) : Type 0 where
   pub inside : 4 * n + 3 < length ws
   pub valid : Valid ws (n + 1)
-
--- the buffer l has room for the text s at i
-pub record Room (l : List ℕ) (i : ℕ) (s : List ℕ) : Type 0 where
-  pub room : i + length s ≤ length l
-
--- the text s was written into the buffer `before` at `at`: what the buffer then holds, and the place after it
-pub record Wrote (before : List ℕ) (at : ℕ) (s : List ℕ) (next : ℕ) (after : List ℕ) : Type 0 where
-  pub next-is : next ≡ at + length s
-  pub after-is : after ≡ sets before at s

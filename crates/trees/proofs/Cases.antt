@@ -1,13 +1,71 @@
--- The worked cases, by computation. Assumes nothing.
-use mathlib.Core.Path.{_≡_, refl}
-use mathlib.Core.Bool.{true}
-use Rattle.terms.specs.Expr.{Var, Extract, width}
+-- Worked cases: document 01's set P, and a case for each trap and fault that set P lets pass; all by computation. Assumes nothing.
+use mathlib.Core.Bool.{Bool, true, false, _&&_}
+use mathlib.Core.List.{List, [], _∷_}
+use Prim.Native.Nat.{ℕ}
+use lib.Dec.{eqb}
+use Rattle.terms.specs.Expr.{Const, Var, Extract, width}
 use Rattle.terms.specs.Value.{value, msb, bvneg, bvnot, bvadd, bvsub, bvmul, bvshl, bvlshr, bvashr, bvslt, bvsext}
+use Rattle.neon.specs.Op.{Op, SQADD, SQSUB, UQSUB, SQSHLI, SQSHL, SSHL, SRSHL, SRI, SQDMULH, SQRDMULH, UQXTN, CLS, SQABS, SHADD, SQDMLAL, USQADD, SUQADD, SQRSHRN, UQRSHRN, SQSHLU, RADDHN, RSUBHN}
+use Rattle.neon.specs.Form.{form, sourceBits}
 use Rattle.neon.specs.Arm.{armLane, wrap, S, clampZ, cS, cU, ones, equalRun, lanes}
+use Rattle.trees.specs.Neon.{neonOp, valueOf}
+use mathlib.Core.Path.{_≡_, refl}
 use Rattle.trees.specs.Simd.{extract, extractCollapsing, extractLane, concatLanes}
 use Rattle.trees.specs.Arith.{clamp, saturatingLane, shiftRight, saturatingShiftLeft, shiftLane, leadingZeros, bitwiseUnaryLane, shiftInsertLane, mixedSignAddLane, doublingProduct, doublingLongLane, shiftLanes, shiftInsertLanes, mixedSignAddLanes, doublingLongLanes, saturatingLanes, bitwiseUnaryLanes}
 use Rattle.trees.specs.Width.{highNarrowLane, highNarrowLanes}
-use Rattle.trees.specs.Cases.{setP, faults, gives, every}
+
+-- an operation, the bits n of a lane, the immediate i, the old lane d, the source lanes a and b, and the lane of the result
+pub data Case : Type 0 where
+  case : Op → (n i d a b result : ℕ) → Case
+
+abbrev pub setP : List Case
+setP =
+    case SQADD 8 0 0 0x7f 0x01 0x7f
+    ∷ case SQSUB 8 0 0 0x80 0x01 0x80
+    ∷ case UQSUB 8 0 0 3 5 0
+    ∷ case SQSHLI 8 7 0 0xff 0 0x80
+    ∷ case SQSHLI 8 7 0 0x01 0 0x7f
+    ∷ case SQSHL 8 0 0 0xff 7 0x80
+    ∷ case SQSHL 8 0 0 0x01 7 0x7f
+    ∷ case SSHL 8 0 0 0x80 0x80 0xff
+    ∷ case SRSHL 8 0 0 0x7f 0x80 0
+    ∷ case SRI 8 8 0x3c 0x55 0 0x3c
+    ∷ case SQDMULH 16 0 0 0x8000 0x8000 0x7fff
+    ∷ case SQRDMULH 32 0 0 0x8000_0000 0x8000_0000 0x7fff_ffff
+    ∷ case UQXTN 16 0 0 65600 0 65535
+    ∷ case CLS 8 0 0 0x80 0 0
+    ∷ case SQABS 8 0 0 0x80 0 0x7f
+    ∷ case SHADD 8 0 0 0xff 0x00 0xff
+    ∷ case SQDMLAL 32 0 0x8000_0000 0x8000 0x8000 0xffff_ffff
+    ∷ case USQADD 8 0 3 0xfb 0 0
+    ∷ []
+
+-- SRSHL at n + 1 bits; SUQADD and USQADD at n + 1 bits; a rounding narrow at 2n bits; SQSHLU without its extra bit; SQDMLAL without
+-- its second clamp; RADDHN and RSUBHN without their half
+abbrev pub faults : List Case
+faults =
+    case SRSHL 8 0 0 0x80 0x80 0
+    ∷ case SRSHL 8 0 0 0x00 0xf7 0
+    ∷ case SUQADD 8 0 0x7f 0xff 0 0x7f
+    ∷ case USQADD 8 0 0xff 0x7f 0 0xff
+    ∷ case SQRSHRN 8 4 0 0x7fff 0 0x7f
+    ∷ case UQRSHRN 8 8 0 0xffff 0 0xff
+    ∷ case SQSHLU 8 0 0 0x01 0 0x01
+    ∷ case SQDMLAL 32 0 0x7fff_ffff 0x4000 0x4000 0x7fff_ffff
+    ∷ case RADDHN 8 0 0 0x0080 0x0000 0x01
+    ∷ case RADDHN 8 0 0 0x007f 0x0000 0x00
+    ∷ case RSUBHN 8 0 0 0x0100 0x0080 0x01
+    ∷ []
+
+-- the result is the Arm value, and the value of the Rust's term of one lane
+pub gives : Case → Bool
+gives (case o n i d a b result) =
+    let m = sourceBits (form o .lanes) n in
+    eqb (armLane o n i d a b) result && eqb (value (λ x. 0) (valueOf (neonOp o i false) n 1 i (Const d n) (Const a m) (Const b m))) result
+
+abbrev pub every : (Case → Bool) → List Case → Bool
+every f [] = true
+every f (c ∷ cs) = f c && every f cs
 
 pub set-P : every gives setP ≡ true
 unfolding gives armLane wrap S clampZ cS cU ones equalRun lanes value width msb bvneg bvnot bvadd bvsub bvmul bvshl bvlshr bvashr bvslt bvsext extractCollapsing extractLane concatLanes clamp saturatingLane shiftRight saturatingShiftLeft shiftLane leadingZeros bitwiseUnaryLane shiftInsertLane mixedSignAddLane doublingProduct doublingLongLane shiftLanes shiftInsertLanes mixedSignAddLanes doublingLongLanes saturatingLanes bitwiseUnaryLanes highNarrowLane highNarrowLanes

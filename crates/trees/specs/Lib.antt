@@ -4,4 +4,3 @@ pub mod Arith
 pub mod Width
 pub mod Neon
 pub mod Block
-pub mod Cases

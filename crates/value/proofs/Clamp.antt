@@ -10,7 +10,7 @@ use lib.Pow.{pow-pos, pow-mono}
 use lib.IntN.{ℤ, pos, negsuc, negℤ, _-ℤ_}
 use lib.Signed.{ltZ, shrZ}
 use Rattle.terms.specs.Expr.{Expr}
-use Rattle.neon.specs.Arm.{wrap, S, reading, clampZ, cS, cU}
+use Rattle.neon.specs.Arm.{wrap, U, S, clampZ, cS, cU}
 use Rattle.trees.specs.Arith.{clamp}
 use Rattle.trees.specs.declared.SaturateTo.the-variants.{Signed, Unsigned, SignedToUnsigned}
 use Rattle.value.proofs.Z.{up, dn, less, neg-up, neg-dn, ge-is, lt-is, lt-no, ext}
@@ -36,6 +36,11 @@ pub S-wrap : (n a : ℕ) → a < 2 ^ n → wrap n (S n a) ≡ a
 S-wrap n a h =
     S-case n a (λ z. wrap n z ≡ a) (λ l. wrap-pos n a h)
     (λ l. sym (wrap-is n (pos a -ℤ pos (2 ^ n)) a 0 1 h (omega (arith, less (pos a) (pos (2 ^ n))))))
+
+-- a lane as it is read, by a flag: true is signed
+abbrev pub reading : Bool → ℕ → ℕ → ℤ
+reading true n a = S n a
+reading false n a = U a
 
 pub reading-fits : (s : Bool) (n a : ℕ) → 0 < n → a < 2 ^ n → Fits s n (reading s n a)
 reading-fits true n a hn h = S-fits n a hn h

@@ -14,13 +14,13 @@ use Rattle.terms.specs.Value.{value}
 use Rattle.terms.specs.declared.BinOp.the-variants.{Shl}
 use Rattle.terms.specs.declared.CmpOp.the-variants.{Eq}
 use Rattle.neon.specs.Form.{most}
-use Rattle.neon.specs.Arm.{wrap, reading, cS, cU, lane}
+use Rattle.neon.specs.Arm.{wrap, cS, cU, lane}
 use Rattle.trees.specs.Arith.{shiftBy, shiftRight, shiftBound, saturatingShiftLeft}
 use Rattle.value.proofs.Z.{up, dn, sum, less, times, ext, Floor, floored, ge-is}
 use Rattle.value.proofs.Wrap.{half, wrap-lt, over, under, wrap-is}
 use Rattle.value.proofs.Bv.{FitsS, FitsU, Fits, wrap-pos}
 use Rattle.value.proofs.Is.{Is, By, by-is, is-eq, is-const, is-negative, is-add, is-sub, is-shl, is-zext, is-extend, is-shift, is-cut, is-then, is-else, is-ite, says-slt, says-eq}
-use Rattle.value.proofs.Clamp.{reading-fits, reading-wrap, reading-is, same, near, clampTo, clamp-in, low-S, high-S, high-U, floor-fits, congruent, multiple-le}
+use Rattle.value.proofs.Clamp.{reading, reading-fits, reading-wrap, reading-is, same, near, clampTo, clamp-in, low-S, high-S, high-U, floor-fits, congruent, multiple-le}
 
 -- ---- to the right, with rounding: the sum is exact one bit above the lane and the amount
 module _ (n k most : ℕ) (hn : 0 < n) (hk : 0 < k) (hm : k ≤ most) where

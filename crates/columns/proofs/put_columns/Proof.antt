@@ -1,5 +1,5 @@
 use mathlib.Core.Path.{sym}
-use Rattle.text_parts.proofs.Laws.{room-as, wrote-as}
+use Rattle.digits.proofs.Laws.{room-as, wrote-as}
 use borrow.Author.Needs.{needs}
 use Rattle.columns.proofs.put_columns.Statement.{statement}
 use Rattle.columns.proofs.put_columns.Tie as tie

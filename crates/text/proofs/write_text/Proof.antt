@@ -4,7 +4,8 @@ use borrow.Author.Tests.{not-true, not-false}
 use Prim.Native.Nat.{_≤_}
 use lib.ListN.{length}
 use Rattle.text_parts.specs.Text.{text}
-use Rattle.text.proofs.Answers.{ready, bad-pool, bad-node, short, fits, refused, written}
+use Rattle.text_length.proofs.Answers.{ready, bad-pool, bad-node}
+use Rattle.text.proofs.Answers.{short, fits, refused, written}
 use borrow.Author.Needs.{needs}
 use Rattle.text.proofs.write_text.Statement.{statement}
 use Rattle.text.proofs.write_text.Tie as tie

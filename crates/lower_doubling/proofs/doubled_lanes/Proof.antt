@@ -1,0 +1,97 @@
+use native.Mathlib.Omega.{arith}
+use Prim.Native.Nat.{_*_, _-_, _≤_}
+use mathlib.Core.Path.{_≡_}
+use Rattle.lower.proofs.Lanes.{LanesKept, lanes-first, lanes-more, lanes-all, lane-fits}
+use native.Mathlib.Nat.{lt-of-lt-of-le}
+use Prim.Native.Nat.{_/_}
+use Rattle.lower.specs.Builds.{read, readIf}
+use Rattle.lower_doubling.specs.Elements.{accumulates, elementSource, elementNodes, factorBits}
+use Rattle.lower_doubling.specs.Lanes.{doublingAt}
+use Rattle.lower_doubling.proofs.doubled_lanes.Statement.{statement}
+use Rattle.lower_doubling.proofs.doubled_lanes.Tie as tie
+
+abbrev Inv-loop : tie.InvT-loop
+Inv-loop pool₀ count combine upper first second d lane-bits lanes acc₀ i₀ pool acc i =
+    (1 ≤ i) × (i ≤ lanes) × LanesKept count 26 lane-bits (readIf (accumulates combine) d (lane-bits * lanes)) (read first (factorBits upper lane-bits lanes)) (elementSource second (lane-bits / 2) (factorBits upper lane-bits lanes)) (doublingAt combine second upper lane-bits lanes) (elementNodes second) pool₀ acc₀ pool acc i
+
+abbrev μ-loop : tie.MeasureT-loop
+μ-loop pool₀ count combine upper first second d lane-bits lanes acc₀ i₀ pool acc i = lanes - i
+
+doubling-at-requires : tie.Need-doubling-at-requires Inv-loop μ-loop
+doubling-at-requires c κs =
+    let st = c .before .before in
+    (omega (arith, st .pre), ((omega (arith, st .pre), omega (arith, st .pre), λ u. lt-of-lt-of-le (st .pre .1 .0 .2 u) (omega (arith, st .pre))), omega (arith, st .pre)))
+
+loop-holds : tie.Need-loop-holds Inv-loop μ-loop
+loop-holds c =
+    let st = c .before .before .before .before .before in
+    (omega arith, omega (arith, st .pre), λ old d. d)
+
+doubling-at-requires-2 : tie.Need-doubling-at-requires-2 Inv-loop μ-loop
+doubling-at-requires-2 c κs =
+    let l-loop-test = c .before in
+    let l-loop = l-loop-test .before in
+    let l-doubling-at = l-loop .before .before .before in
+    let st = l-doubling-at .before .before .before in
+    (omega (arith, st .pre, (l-loop .loop .inv .2 _ (lanes-first (doublingAt (st .args .combine) (st .args .second) (st .args .upper) (st .args .lane-bits) (st .args .lanes)) {m = 26} (omega arith) (l-doubling-at .doubling-at .ensures))) .sized, l-loop-test .loop-test .taken), ((omega (arith, st .pre, (l-loop .loop .inv .2 _ (lanes-first (doublingAt (st .args .combine) (st .args .second) (st .args .upper) (st .args .lane-bits) (st .args .lanes)) {m = 26} (omega arith) (l-doubling-at .doubling-at .ensures))) .sized, l-loop-test .loop-test .taken), omega (arith, st .pre, (l-loop .loop .inv .2 _ (lanes-first (doublingAt (st .args .combine) (st .args .second) (st .args .upper) (st .args .lane-bits) (st .args .lanes)) {m = 26} (omega arith) (l-doubling-at .doubling-at .ensures))) .sized, l-loop-test .loop-test .taken), λ u. lt-of-lt-of-le (st .pre .1 .0 .2 u) (omega (arith, st .pre, (l-loop .loop .inv .2 _ (lanes-first (doublingAt (st .args .combine) (st .args .second) (st .args .upper) (st .args .lane-bits) (st .args .lanes)) {m = 26} (omega arith) (l-doubling-at .doubling-at .ensures))) .sized, l-loop-test .loop-test .taken))), omega (arith, st .pre, (l-loop .loop .inv .2 _ (lanes-first (doublingAt (st .args .combine) (st .args .second) (st .args .upper) (st .args .lane-bits) (st .args .lanes)) {m = 26} (omega arith) (l-doubling-at .doubling-at .ensures))) .sized, l-loop-test .loop-test .taken)))
+
+concat-requires : tie.Need-concat-requires Inv-loop μ-loop
+concat-requires c κs =
+    let l-doubling-at2 = c .before .before .before in
+    let l-loop-test = l-doubling-at2 .before .before in
+    let l-loop = l-loop-test .before in
+    let l-doubling-at = l-loop .before .before .before in
+    let st = l-doubling-at .before .before .before in
+    omega (arith, st .pre, (l-loop .loop .inv .2 _ (lanes-first (doublingAt (st .args .combine) (st .args .second) (st .args .upper) (st .args .lane-bits) (st .args .lanes)) {m = 26} (omega arith) (l-doubling-at .doubling-at .ensures))) .sized, l-doubling-at2 .doubling-at2 .ensures .sized, l-loop-test .loop-test .taken)
+
+add-i : tie.Need-add-i Inv-loop μ-loop
+add-i c =
+    let l-loop-test = c .before .before .before .before .before .before .before .before in
+    let st = l-loop-test .before .before .before .before .before .before .before in
+    omega (arith, l-loop-test .loop-test .taken, st .fits .lanes)
+
+loop-less : tie.Need-loop-less Inv-loop μ-loop
+loop-less c =
+    let l-loop-test = c .before .before .before .before .before .before .before .before in
+    omega (arith, l-loop-test .loop-test .taken)
+
+loop-again : tie.Need-loop-again Inv-loop μ-loop
+loop-again c =
+    let l-concat = c .before .before in
+    let l-doubling-at2 = l-concat .before .before .before .before in
+    let l-loop-test = l-doubling-at2 .before .before in
+    let l-loop = l-loop-test .before in
+    let st = l-loop .before .before .before .before .before .before in
+    (omega arith, omega (arith, l-loop-test .loop-test .taken), λ old d. lanes-more (doublingAt (st .args .combine) (st .args .second) (st .args .upper) (st .args .lane-bits) (st .args .lanes)) (omega (arith, st .pre)) (l-loop .loop .inv .0) (omega (arith, st .pre, lane-fits (st .args .lane-bits) (l-loop .loop .i) (st .args .lanes) {w = 128} (l-loop-test .loop-test .taken) (omega (arith, st .pre)))) (omega arith) (l-loop .loop .inv .2 old d) (l-doubling-at2 .doubling-at2 .ensures) (l-concat .concat .ensures))
+
+same-length : tie.Need-same-length Inv-loop μ-loop
+same-length c =
+    let l-loop = c .before in
+    let l-doubling-at = l-loop .before .before .before in
+    let st = l-doubling-at .before .before .before in
+    omega (arith, (l-loop .loop .inv .2 _ (lanes-first (doublingAt (st .args .combine) (st .args .second) (st .args .upper) (st .args .lane-bits) (st .args .lanes)) {m = 26} (omega arith) (l-doubling-at .doubling-at .ensures))) .sized)
+
+returns : tie.Need-returns Inv-loop μ-loop
+returns c =
+    let l-loop-test = c in
+    let l-loop = l-loop-test .before in
+    let l-doubling-at = l-loop .before .before .before in
+    let st = l-doubling-at .before .before .before in
+    let e : l-loop .loop .i ≡ st .args .lanes = omega (arith, l-loop .loop .inv .1, l-loop-test .loop-test .left) in
+    lanes-all (doublingAt (st .args .combine) (st .args .second) (st .args .upper) (st .args .lane-bits) (st .args .lanes)) 26 (st .args .lane-bits) e (l-loop .loop .inv .2 _ (lanes-first (doublingAt (st .args .combine) (st .args .second) (st .args .upper) (st .args .lane-bits) (st .args .lanes)) {m = 26} (omega arith) (l-doubling-at .doubling-at .ensures)))
+
+pub doubled-lanes-spec : {M : Type 1} → statement M
+doubled-lanes-spec =
+    tie.close
+    (tie.spec
+    Inv-loop
+    μ-loop
+    doubling-at-requires
+    loop-holds
+    doubling-at-requires-2
+    concat-requires
+    add-i
+    loop-less
+    loop-again
+    same-length
+    returns)

@@ -1,0 +1,95 @@
+use native.Mathlib.Omega.{arith}
+use Prim.Native.Nat.{_*_, _-_, _≤_}
+use mathlib.Core.Path.{_≡_}
+use mathlib.Core.List.{[], _∷_}
+use Rattle.lower.proofs.Lanes.{LanesKept, lanes-first, lanes-more, lanes-all, lane-fits}
+use Rattle.lower.specs.Builds.{read}
+use Rattle.lower_insert.specs.Lanes.{insertAt}
+use Rattle.lower_insert.proofs.insert_lanes.Statement.{statement}
+use Rattle.lower_insert.proofs.insert_lanes.Tie as tie
+
+abbrev Inv-loop : tie.InvT-loop
+Inv-loop pool₀ count left kept amount first d lane-bits lanes acc₀ i₀ pool acc i =
+    (1 ≤ i) × (i ≤ lanes) × LanesKept count 7 lane-bits (read d (lane-bits * lanes)) (read first (lane-bits * lanes)) (read amount lane-bits) (insertAt left kept lane-bits) (amount .0 ∷ []) pool₀ acc₀ pool acc i
+
+abbrev μ-loop : tie.MeasureT-loop
+μ-loop pool₀ count left kept amount first d lane-bits lanes acc₀ i₀ pool acc i = lanes - i
+
+insert-at-requires : tie.Need-insert-at-requires Inv-loop μ-loop
+insert-at-requires c κs =
+    let st = c .before .before in
+    omega (arith, st .pre)
+
+loop-holds : tie.Need-loop-holds Inv-loop μ-loop
+loop-holds c =
+    let st = c .before .before .before .before .before in
+    (omega arith, omega (arith, st .pre), λ old d. d)
+
+insert-at-requires-2 : tie.Need-insert-at-requires-2 Inv-loop μ-loop
+insert-at-requires-2 c κs =
+    let l-loop-test = c .before in
+    let l-loop = l-loop-test .before in
+    let l-insert-at = l-loop .before .before .before in
+    let st = l-insert-at .before .before .before in
+    omega (arith, st .pre, (l-loop .loop .inv .2 _ (lanes-first (insertAt (st .args .left) (st .args .kept) (st .args .lane-bits)) {m = 7} (omega arith) (l-insert-at .insert-at .ensures))) .sized, l-loop-test .loop-test .taken)
+
+concat-requires : tie.Need-concat-requires Inv-loop μ-loop
+concat-requires c κs =
+    let l-insert-at2 = c .before .before .before in
+    let l-loop-test = l-insert-at2 .before .before in
+    let l-loop = l-loop-test .before in
+    let l-insert-at = l-loop .before .before .before in
+    let st = l-insert-at .before .before .before in
+    omega (arith, st .pre, (l-loop .loop .inv .2 _ (lanes-first (insertAt (st .args .left) (st .args .kept) (st .args .lane-bits)) {m = 7} (omega arith) (l-insert-at .insert-at .ensures))) .sized, l-insert-at2 .insert-at2 .ensures .sized, l-loop-test .loop-test .taken)
+
+add-i : tie.Need-add-i Inv-loop μ-loop
+add-i c =
+    let l-loop-test = c .before .before .before .before .before .before .before .before in
+    let st = l-loop-test .before .before .before .before .before .before .before in
+    omega (arith, l-loop-test .loop-test .taken, st .fits .lanes)
+
+loop-less : tie.Need-loop-less Inv-loop μ-loop
+loop-less c =
+    let l-loop-test = c .before .before .before .before .before .before .before .before in
+    omega (arith, l-loop-test .loop-test .taken)
+
+loop-again : tie.Need-loop-again Inv-loop μ-loop
+loop-again c =
+    let l-concat = c .before .before in
+    let l-insert-at2 = l-concat .before .before .before .before in
+    let l-loop-test = l-insert-at2 .before .before in
+    let l-loop = l-loop-test .before in
+    let st = l-loop .before .before .before .before .before .before in
+    (omega arith, omega (arith, l-loop-test .loop-test .taken), λ old d. lanes-more (insertAt (st .args .left) (st .args .kept) (st .args .lane-bits)) (omega (arith, st .pre)) (l-loop .loop .inv .0) (omega (arith, st .pre, lane-fits (st .args .lane-bits) (l-loop .loop .i) (st .args .lanes) {w = 128} (l-loop-test .loop-test .taken) (omega (arith, st .pre)))) (omega arith) (l-loop .loop .inv .2 old d) (l-insert-at2 .insert-at2 .ensures) (l-concat .concat .ensures))
+
+same-length : tie.Need-same-length Inv-loop μ-loop
+same-length c =
+    let l-loop = c .before in
+    let l-insert-at = l-loop .before .before .before in
+    let st = l-insert-at .before .before .before in
+    omega (arith, (l-loop .loop .inv .2 _ (lanes-first (insertAt (st .args .left) (st .args .kept) (st .args .lane-bits)) {m = 7} (omega arith) (l-insert-at .insert-at .ensures))) .sized)
+
+returns : tie.Need-returns Inv-loop μ-loop
+returns c =
+    let l-loop-test = c in
+    let l-loop = l-loop-test .before in
+    let l-insert-at = l-loop .before .before .before in
+    let st = l-insert-at .before .before .before in
+    let e : l-loop .loop .i ≡ st .args .lanes = omega (arith, l-loop .loop .inv .1, l-loop-test .loop-test .left) in
+    lanes-all (insertAt (st .args .left) (st .args .kept) (st .args .lane-bits)) 7 (st .args .lane-bits) e (l-loop .loop .inv .2 _ (lanes-first (insertAt (st .args .left) (st .args .kept) (st .args .lane-bits)) {m = 7} (omega arith) (l-insert-at .insert-at .ensures)))
+
+pub insert-lanes-spec : {M : Type 1} → statement M
+insert-lanes-spec =
+    tie.close
+    (tie.spec
+    Inv-loop
+    μ-loop
+    insert-at-requires
+    loop-holds
+    insert-at-requires-2
+    concat-requires
+    add-i
+    loop-less
+    loop-again
+    same-length
+    returns)

@@ -1,0 +1,88 @@
+// The length of a node's text, by a pass that gives up once a ceiling is passed.
+use digits::decimal_length;
+use digits::less;
+use digits::less_hex;
+use pool::Node;
+use pool_check::pool_check;
+use text_parts::first;
+use text_parts::high;
+use text_parts::infix_length;
+use text_parts::kind_of;
+use text_parts::low;
+use text_parts::second;
+use text_parts::third;
+use text_parts::width_of;
+ghost use mathlib.Core.Path.{_≡_};
+ghost use Prim.Native.Nat.{_-_};
+ghost use lib.ListN.{length};
+ghost use Rattle.text_parts.specs.Text.{text, Ready};
+ghost use Rattle.text_length.specs.Answer.{Measured};
+
+// What is left of b when the length of node n's text is taken off it, and 0 where the text is longer.
+// A node's own characters are taken off before its operands', so a text of any length is given up
+// once b is used up.
+pub fn measure(p: &[u64], n: Node, b: usize) -> usize
+    requires { ⌜ Ready (now p) (n .0) ⌝ }
+    ensures { λ r. ⌜ r ≡ b - length (text (now (p .entry)) (n .0)) ⌝ }
+{
+    if b == 0 {
+        return 0;
+    }
+    let k = kind_of(p, n);
+    if k == 1 {
+        return less(b, decimal_length(low(p, n)) + 1);
+    }
+    if k == 2 {
+        let c = less(b, decimal_length(width_of(p, n)) + 3);
+        return less_hex(low(p, n), high(p, n), c);
+    }
+    let a = first(p, n);
+    if k < 15 {
+        let c = measure(p, a, less(b, infix_length(k) + 2));
+        return measure(p, second(p, n), c);
+    }
+    if k == 15 {
+        let c = measure(p, a, less(b, 9));
+        let d = measure(p, second(p, n), c);
+        return measure(p, third(p, n), d);
+    }
+    if k == 16 {
+        let c = less(b, decimal_length(low(p, n)) + 3);
+        return measure(p, a, less(c, decimal_length(high(p, n))));
+    }
+    if k == 17 {
+        let c = measure(p, a, less(b, 10));
+        return measure(p, second(p, n), c);
+    }
+    measure(p, a, less(b, decimal_length(width_of(p, n)) + 8))
+}
+
+// A number of document 01, and the text's length.
+pub struct Written {
+    pub number: u64,
+    pub length: usize,
+}
+
+// The length of a node's text, or one more than the ceiling where the text is longer. Refuses by 1 and 5.
+pub fn text_length(pool: &[u64], count: usize, node: usize, ceiling: u32) -> Written
+    ensures { λ r. ⌜ Measured (now (pool .entry)) count node ceiling (r .number) (r .length) ⌝ }
+{
+    if !pool_check(pool, count) {
+        return Written {
+            number: 1,
+            length: 0,
+        };
+    }
+    if count <= node {
+        return Written {
+            number: 5,
+            length: 0,
+        };
+    }
+    let most = (ceiling as usize) + 1;
+    let left = measure(pool, Node(node), most);
+    Written {
+        number: 0,
+        length: most - left,
+    }
+}
