@@ -14,41 +14,21 @@ use Rattle.neon.specs.declared.Instruction.{Instruction}
 use Rattle.neon.specs.Op.{opAt, arrangementAt, isOperation, isArrangement, laneBits}
 use Rattle.neon.specs.Form.{hasForm, hasSecond, least, most}
 use Rattle.neon.specs.Refusal.{formNumber, mostM, registersOk, recordNumber, Legal, AllLegal, refusal, recordsRefusal, blockRefusal}
-use Rattle.neon.proofs.Legal.{m-le}
+use Rattle.neon.proofs.Legal.{m-le, form-rest, form-first}
 use Rattle.block_check.specs.Records.{recordAt, recordsFrom, recordsOf, placesIn, sizeNumber}
 
 -- ---- one record
-
--- what follows the tests on the form is looked at where they pass, and only there
-rest-of : (a b c : Bool) (rest : ℕ) → unless a 2 (unless b 3 (unless c 4 0)) ≡ 0 → unless a 2 (unless b 3 (unless c 4 rest)) ≡ rest
-rest-of true true true rest e = refl
-rest-of true true false rest e = absurd (omega arith)
-rest-of true false c rest e = absurd (omega arith)
-rest-of false b c rest e = absurd (omega arith)
-
-stops : (a b c : Bool) (rest : ℕ) → (unless a 2 (unless b 3 (unless c 4 0)) ≡ 0 → ⊥) → unless a 2 (unless b 3 (unless c 4 0)) ≡ unless a 2 (unless b 3 (unless c 4 rest))
-stops true true true rest e = absurd (e refl)
-stops true true false rest e = refl
-stops true false c rest e = refl
-stops false b c rest e = refl
 
 module _ (c : Instruction) where
   -- refused for its form
   pub by-form : (k : ℕ) → 0 < k → k ≡ formNumber (c .operation) (c .arrangement) (c .i) 0 → k ≡ recordNumber c
   unfolding recordNumber
-  by-form k h e =
-      let o = opAt (c .operation) in
-      let v = arrangementAt (c .arrangement) in
-      e ∙ stops (isOperation (c .operation)) (isArrangement (c .arrangement) && hasForm o v) (leb (least o) (c .i) && leb (c .i) (most o (laneBits v))) _ (λ z. omega (arith, e, z))
+  by-form k h e = e ∙ form-first (c .operation) (c .arrangement) (c .i) _ (λ z. omega (arith, e, z))
 
   -- the form is accepted: the registers decide
   pub by-registers : (k : ℕ) (b : Bool) → 0 ≡ formNumber (c .operation) (c .arrangement) (c .i) 0 → registersOk c ≡ b → unless b 7 0 ≡ k → k ≡ recordNumber c
   unfolding recordNumber
-  by-registers k b e g h =
-      let o = opAt (c .operation) in
-      let v = arrangementAt (c .arrangement) in
-      sym (rest-of (isOperation (c .operation)) (isArrangement (c .arrangement) && hasForm o v) (leb (least o) (c .i) && leb (c .i) (most o (laneBits v))) _ (sym e)
-      ∙ ap (λ (t : Bool). unless t 7 0) g ∙ h)
+  by-registers k b e g h = sym (form-rest (c .operation) (c .arrangement) (c .i) _ (sym e) ∙ ap (λ (t : Bool). unless t 7 0) g ∙ h)
 
   pub bad-d : 31 < c .d → registersOk c ≡ false
   bad-d h = rw (lt-leb (c .d) 31 h)

@@ -1,5 +1,5 @@
 // Texts that are 65,534 levels deep, through every operand of every kind, in buffers of 0 and 1 byte, of just enough, of
-// one less, of 65,536 bytes and of 768 KB; and terms of 2^65,534 characters. It runs on a stack of 8 MB: the
+// one less, of 65,536 bytes and of 768 KB; terms of 2^65,534 characters; and a bad pool. It runs on a stack of 8 MB: the
 // pool takes 2 MB, the deepest text 5 MB.
 ghost use Prim.Native.Nat.{_<_};
 
@@ -43,4 +43,6 @@ fn main() {
     // 2^65,534 characters and more, and 2^32,767
     deep(&mut pool, 65534, chains::BOTH, 3, 3);
     deep(&mut pool, 65534, chains::CONCAT_BOTH, 17, 17);
+    // a Concat of itself: it has 256 bits, so the pool is bad
+    deep(&mut pool, 65534, chains::BOTH, 17, 17);
 }

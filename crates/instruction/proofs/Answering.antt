@@ -20,8 +20,9 @@ use Rattle.pool.specs.Unfold.{unfoldAt}
 use Rattle.pool.specs.Growth.{NodeIs, Room}
 use Rattle.lower.specs.Builds.{Lowers, Below, read, readIf}
 use Rattle.lower_neon.specs.Family.{mostNodes}
-use Rattle.instruction.specs.Lowering.{sourceOk, instructionNumber, Answers}
-use Rattle.instruction.proofs.Refusing.{Passed, passes, source-is}
+use Rattle.instruction_check.specs.Number.{sourceOk, instructionNumber}
+use Rattle.instruction.specs.Lowering.{Answers}
+use Rattle.instruction_check.proofs.Refusing.{Passed, passes, source-is}
 
 module _ (ws : List ℕ) (count operation arrangement i : ℕ) (d n m : Node) (h : instructionNumber ws count operation arrangement i (d .0) (n .0) (m .0) ≡ 0) where
   abbrev o : Op

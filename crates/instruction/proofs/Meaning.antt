@@ -10,7 +10,7 @@ use Rattle.pool.specs.Unfold.{unfoldAt}
 use Rattle.value.proofs.Whole.{result-is}
 use Rattle.instruction.specs.declared.Lowering.{Lowering}
 use Rattle.instruction.specs.Lowering.{Answers}
-use Rattle.instruction.proofs.Refusing.{passes}
+use Rattle.instruction_check.proofs.Refusing.{passes}
 
 pub instruction-is : {old new : List ℕ} {r : Lowering} (count operation arrangement i d n m : ℕ) (start : ℕ → ℕ)
     → Answers old count new r operation arrangement i d n m

@@ -1,34 +1,17 @@
 -- One instruction on a pool (document 01, "Pool" and "The numbers"): its number, and what the pool then holds.
-use mathlib.Core.Bool.{Bool, true, cond, _&&_}
+use mathlib.Core.Bool.{true}
 use mathlib.Core.List.{List}
 use mathlib.Core.Path.{_≡_}
 use Prim.Native.Nat.{ℕ, _+_, _≤_, _<_}
-use lib.Dec.{leb, ltb, eqb}
-use Rattle.facts.specs.Refuse.{unless}
 use Rattle.neon.specs.Op.{Op, opAt, Arrangement, arrangementAt, view}
-use Rattle.neon.specs.Form.{hasSecond, readsD, firstBits, secondBits}
-use Rattle.neon.specs.Refusal.{formNumber, reserve}
+use Rattle.neon.specs.Refusal.{reserve}
 use Rattle.trees.specs.Neon.{resultTree}
-use Rattle.pool.specs.Node.{widthAt, none, places}
+use Rattle.pool.specs.Node.{none}
 use Rattle.pool.specs.Rules.{poolOk}
 use Rattle.pool.specs.Unfold.{unfoldAt}
 use Rattle.pool.specs.Growth.{Grown, NodeIs, Reach}
+use Rattle.instruction_check.specs.Number.{instructionNumber}
 use Rattle.instruction.specs.declared.Lowering.{Lowering}
-
--- a source that is wanted is below the count and has its width; one that is not is no node
-abbrev pub sourceOk : List ℕ → (count : ℕ) (wanted : Bool) (width node : ℕ) → Bool
-sourceOk ws count wanted w n = cond wanted (ltb n count && eqb (widthAt ws n) w) (eqb n none)
-
-abbrev pub sourcesOk : List ℕ → (count : ℕ) → Op → Arrangement → (d n m : ℕ) → Bool
-sourcesOk ws count o v d n m =
-    sourceOk ws count (readsD o v) (view v) d && sourceOk ws count true (firstBits o v) n && sourceOk ws count (hasSecond o) (secondBits o v) m
-
--- 1, then 2 to 4, then 5 and 6; 0 for an instruction that is accepted
-unfoldable pub instructionNumber : List ℕ → (count operation arrangement i d n m : ℕ) → ℕ
-instructionNumber ws count operation arrangement i d n m =
-    unless (poolOk ws count) 1
-    (formNumber operation arrangement i
-    (unless (sourcesOk ws count (opAt operation) (arrangementAt arrangement) d n m) 5 (unless (leb (count + reserve) (places ws)) 6 0)))
 
 module _ (old : List ℕ) (count : ℕ) (new : List ℕ) (r : Lowering) where
   -- the answer's node is the term of the instruction over those of its sources; the nodes that are new come after the count, keep the

@@ -19,7 +19,7 @@ fn make_room(out: &[u8], at: usize) -> usize {
     if out.len() < at {
         return 0;
     }
-    if lines::ANSWER_ROOM <= out.len() - at {
+    if line_answers::ANSWER_ROOM <= out.len() - at {
         return at;
     }
     io::write_all(OUTPUT, &out[..at]);
@@ -47,7 +47,7 @@ fn consume(
     let mut output = before.output;
     let mut from = 0;
     while from < input.len() {
-        let g = lines::gather(held, line, input, from);
+        let g = line_pieces::gather(held, line, input, from);
         from = g.taken;
         line = g.len;
         if g.ended {

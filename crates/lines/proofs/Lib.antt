@@ -1,5 +1,2 @@
-pub mod Gathering
 pub mod Output
 pub mod Records
-pub mod Stores
-pub mod Texts

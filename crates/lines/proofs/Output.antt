@@ -10,9 +10,10 @@ use lib.Seq.{take-all, length-take-le}
 use borrow.Author.Tests.{leb-true, leb-false, ne-eqb}
 use Rattle.facts.proofs.Tests.{false≢true}
 use Rattle.columns.specs.Columns.{inColumns}
-use Rattle.lines.specs.declared.Gathered.{Gathered}
+use Rattle.line_pieces.specs.declared.Gathered.{Gathered}
+use Rattle.line_pieces.specs.Pieces.{upTo, ends, one, Gathers}
 use Rattle.lines.specs.Line.{answer}
-use Rattle.lines.specs.Pieces.{lastAnswer, outputFrom, output, upTo, ends, one, Gathers}
+use Rattle.lines.specs.Output.{lastAnswer, outputFrom, output}
 
 -- ---- an output, line by line
 

@@ -25,7 +25,8 @@ use Rattle.register_map.specs.Map.{nodeOf}
 use Rattle.block.specs.declared.BlockAnswer.{BlockAnswer}
 use Rattle.block.specs.Block.{Answered}
 use Rattle.columns.specs.Columns.{columns, inColumns, fields, recordOf}
-use Rattle.lines.specs.Line.{answerRoom, recordText, roomNumber, oneNumber, written, answer, answerIn}
+use Rattle.line_answers.specs.Answer.{answerRoom, roomNumber, written}
+use Rattle.lines.specs.Line.{recordText, oneNumber, answer, answerIn}
 
 -- ---- numbers
 

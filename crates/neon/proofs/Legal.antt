@@ -1,5 +1,5 @@
 -- What an accepted record says: each test of its refusals is passed. Assumes nothing.
-use mathlib.Core.Path.{_≡_}
+use mathlib.Core.Path.{_≡_, refl}
 use mathlib.Core.Bool.{Bool, true, false, cond, _&&_}
 use Prim.Native.Nat.{ℕ, _≤_}
 use native.Mathlib.Omega.{arith}
@@ -65,3 +65,33 @@ m-le o v = go (hasSecond o)
     go : (b : Bool) → cond b 31 0 ≤ 31
     go true = omega arith
     go false = omega arith
+
+-- ---- what follows the tests on the form is looked at where they pass, and only there
+
+rest-of : (a b c : Bool) (rest : ℕ) → unless a 2 (unless b 3 (unless c 4 0)) ≡ 0 → unless a 2 (unless b 3 (unless c 4 rest)) ≡ rest
+rest-of true true true rest e = refl
+rest-of true true false rest e = absurd (omega (arith, e))
+rest-of true false c rest e = absurd (omega (arith, e))
+rest-of false b c rest e = absurd (omega (arith, e))
+
+first-of : (a b c : Bool) (rest : ℕ) → (unless a 2 (unless b 3 (unless c 4 0)) ≡ 0 → ⊥)
+    → unless a 2 (unless b 3 (unless c 4 0)) ≡ unless a 2 (unless b 3 (unless c 4 rest))
+first-of true true true rest f = absurd (f refl)
+first-of true true false rest f = refl
+first-of true false c rest f = refl
+first-of false b c rest f = refl
+
+module _ (operation arrangement i rest : ℕ) where
+  abbrev o : Op
+  o = opAt operation
+
+  abbrev v : Arrangement
+  v = arrangementAt arrangement
+
+  pub form-rest : formNumber operation arrangement i 0 ≡ 0 → formNumber operation arrangement i rest ≡ rest
+  form-rest e =
+      rest-of (isOperation operation) (isArrangement arrangement && hasForm o v) (leb (least o) i && leb i (most o (laneBits v))) rest e
+
+  pub form-first : (formNumber operation arrangement i 0 ≡ 0 → ⊥) → formNumber operation arrangement i 0 ≡ formNumber operation arrangement i rest
+  form-first f =
+      first-of (isOperation operation) (isArrangement arrangement && hasForm o v) (leb (least o) i && leb i (most o (laneBits v))) rest f

@@ -3,7 +3,7 @@ use mathlib.Core.Path.{_≡_, refl, sym}
 use lib.Seq.{length-take-le}
 use Prim.Native.Nat.{_-_, _≤_}
 use lib.ListN.{length}
-use Rattle.lines.proofs.Gathering.{taken-more, held-fits}
+use Rattle.line_pieces.proofs.Gathering.{taken-more, held-fits}
 use Rattle.lanes.proofs.consume.Statement.{statement}
 use Rattle.lanes.proofs.consume.Tie as tie
 

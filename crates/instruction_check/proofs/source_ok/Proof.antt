@@ -1,8 +1,8 @@
 use native.Mathlib.Omega.{arith}
 use denote.Ref.{now}
-use Rattle.instruction.proofs.Refusing.{within-places, words-for, source-none, source-above, source-full, source-half}
-use Rattle.instruction.proofs.source_ok.Statement.{statement}
-use Rattle.instruction.proofs.source_ok.Tie as tie
+use Rattle.instruction_check.proofs.Refusing.{within-places, words-for, source-none, source-above, source-full, source-half}
+use Rattle.instruction_check.proofs.source_ok.Statement.{statement}
+use Rattle.instruction_check.proofs.source_ok.Tie as tie
 
 returns : tie.Need-returns
 returns c =

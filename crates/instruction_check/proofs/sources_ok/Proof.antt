@@ -1,8 +1,8 @@
 use denote.Ref.{now}
-use Rattle.instruction.proofs.Refusing.{sources-first, sources-second, sources-third}
+use Rattle.instruction_check.proofs.Refusing.{sources-first, sources-second, sources-third}
 use borrow.Author.Needs.{needs}
-use Rattle.instruction.proofs.sources_ok.Statement.{statement}
-use Rattle.instruction.proofs.sources_ok.Tie as tie
+use Rattle.instruction_check.proofs.sources_ok.Statement.{statement}
+use Rattle.instruction_check.proofs.sources_ok.Tie as tie
 
 reads-d-requires : tie.Need-reads-d-requires
 reads-d-requires c κs = search needs

@@ -9,13 +9,13 @@ use lib.ListN.{length, getD}
 use borrow.Author.Tests.{leb-true, ltb-true, eqb-true, le-leb, lt-leb, lt-ltb, le-ltb, not-true, not-false}
 use Rattle.facts.specs.Refuse.{unless}
 use Rattle.facts.proofs.Tests.{and-both, passed}
-use Rattle.neon.specs.Op.{Op, isOperation, opAt, Arrangement, isArrangement, arrangementAt, laneBits, full, bitsIf, view}
-use Rattle.neon.specs.Form.{form, hasForm, least, most, hasSecond, readsD, firstFull, secondFull, byElement, firstBits}
+use Rattle.neon.specs.Op.{Op, opAt, Arrangement, arrangementAt, full, bitsIf, view}
+use Rattle.neon.specs.Form.{form, hasSecond, readsD, firstFull, secondFull, byElement, firstBits}
 use Rattle.neon.specs.Refusal.{formNumber, reserve}
-use Rattle.neon.proofs.Legal.{formed}
+use Rattle.neon.proofs.Legal.{formed, form-rest, form-first}
 use Rattle.pool.specs.Node.{widthAt, places}
 use Rattle.pool.specs.Rules.{okPool, poolOk}
-use Rattle.instruction.specs.Lowering.{sourceOk, sourcesOk, instructionNumber}
+use Rattle.instruction_check.specs.Number.{sourceOk, sourcesOk, instructionNumber}
 
 -- a pool that passes the check has places for its nodes
 pub within-places : (ws : List ℕ) (count : ℕ) → poolOk ws count ≡ true → count ≤ places ws
@@ -83,34 +83,6 @@ module _ (ws : List ℕ) (count : ℕ) (o : Op) (v : Arrangement) (d n m : ℕ) 
       q2′ = sym (not-false y h2) ∙ q2 ∙ rw p2
 
 -- ---- the number
-
-rest-of : (a b c : Bool) (rest : ℕ) → unless a 2 (unless b 3 (unless c 4 0)) ≡ 0 → unless a 2 (unless b 3 (unless c 4 rest)) ≡ rest
-rest-of true true true rest e = refl
-rest-of true true false rest e = absurd (omega (arith, e))
-rest-of true false c rest e = absurd (omega (arith, e))
-rest-of false b c rest e = absurd (omega (arith, e))
-
-first-of : (a b c : Bool) (rest : ℕ) → (unless a 2 (unless b 3 (unless c 4 0)) ≡ 0 → ⊥)
-    → unless a 2 (unless b 3 (unless c 4 0)) ≡ unless a 2 (unless b 3 (unless c 4 rest))
-first-of true true true rest f = absurd (f refl)
-first-of true true false rest f = refl
-first-of true false c rest f = refl
-first-of false b c rest f = refl
-
-module _ (operation arrangement i rest : ℕ) where
-  abbrev o : Op
-  o = opAt operation
-
-  abbrev v : Arrangement
-  v = arrangementAt arrangement
-
-  form-rest : formNumber operation arrangement i 0 ≡ 0 → formNumber operation arrangement i rest ≡ rest
-  form-rest e =
-      rest-of (isOperation operation) (isArrangement arrangement && hasForm o v) (leb (least o) i && leb i (most o (laneBits v))) rest e
-
-  form-first : (formNumber operation arrangement i 0 ≡ 0 → ⊥) → formNumber operation arrangement i 0 ≡ formNumber operation arrangement i rest
-  form-first f =
-      first-of (isOperation operation) (isArrangement arrangement && hasForm o v) (leb (least o) i && leb i (most o (laneBits v))) rest f
 
 module _ (ws : List ℕ) (count operation arrangement i d n m : ℕ) where
   abbrev number : ℕ

@@ -1,25 +1,11 @@
--- An input's lines, and a line that comes in pieces.
+-- A line that comes in pieces.
 use mathlib.Core.Bool.{Bool, true, false, cond}
 use mathlib.Core.List.{List, [], _∷_, _++_}
 use mathlib.Core.Path.{_≡_}
 use Prim.Native.Nat.{ℕ, _+_, _≤_, min, max}
 use lib.Dec.{eqb}
 use lib.ListN.{length, take, getD}
-use Rattle.lines.specs.declared.Gathered.{Gathered}
-use Rattle.lines.specs.Line.{answer}
-
--- what is written for an input, of which `line` came before: an answer for each newline, and for a last line that has none
-abbrev pub lastAnswer : (places : ℕ) → List ℕ → List ℕ
-lastAnswer places [] = []
-lastAnswer places (b ∷ line) = answer places (b ∷ line)
-
-unfoldable pub outputFrom : (places : ℕ) → (line input : List ℕ) → List ℕ
-outputFrom places line [] = lastAnswer places line
-outputFrom places line (b ∷ input) =
-    cond (eqb b 10) (answer places line ++ outputFrom places [] input) (outputFrom places (line ++ (b ∷ [])) input)
-
-abbrev pub output : (places : ℕ) → List ℕ → List ℕ
-output places input = outputFrom places [] input
+use Rattle.line_pieces.specs.declared.Gathered.{Gathered}
 
 -- the bytes before the first newline, and whether there is one
 unfoldable pub upTo : List ℕ → List ℕ

@@ -1,9 +1,9 @@
 use native.Mathlib.Omega.{arith}
 use Prim.Native.Nat.{_+_, _-_}
-use Rattle.lines.proofs.Texts.{text-put}
+use Rattle.line_answers.proofs.Texts.{text-put}
 use borrow.Author.Needs.{needs}
-use Rattle.lines.proofs.put_text.Statement.{statement}
-use Rattle.lines.proofs.put_text.Tie as tie
+use Rattle.line_answers.proofs.put_text.Statement.{statement}
+use Rattle.line_answers.proofs.put_text.Tie as tie
 
 add-end : tie.Need-add-end
 add-end c = search needs

@@ -9,8 +9,8 @@ use lib.Dec.{eqb}
 use lib.ListN.{length, take, drop, getD, set, length-set, length-take}
 use lib.Seq.{getD-set-other, drop-cons, take-suc-set, take-all, take-append-seam}
 use borrow.Author.Tests.{eq-eqb, ne-eqb}
-use Rattle.lines.specs.declared.Gathered.{Gathered}
-use Rattle.lines.specs.Pieces.{upTo, ends, one, Gathers}
+use Rattle.line_pieces.specs.declared.Gathered.{Gathered}
+use Rattle.line_pieces.specs.Pieces.{upTo, ends, one, Gathers}
 
 -- the next byte, and those after it
 pub drop-next : (l : List ℕ) (i : ℕ) → i < length l → drop i l ≡ getD l i 0 ∷ drop (i + 1) l

@@ -1,9 +1,9 @@
 use native.Mathlib.Omega.{arith}
 use Rattle.digits.proofs.Laws.{wrote-then, wrote-length}
-use Rattle.lines.proofs.Texts.{length-columns}
+use Rattle.line_answers.proofs.Texts.{length-columns}
 use borrow.Author.Needs.{needs}
-use Rattle.lines.proofs.put_number.Statement.{statement}
-use Rattle.lines.proofs.put_number.Tie as tie
+use Rattle.line_answers.proofs.put_number.Statement.{statement}
+use Rattle.line_answers.proofs.put_number.Tie as tie
 
 put-columns-requires : tie.Need-put-columns-requires
 put-columns-requires c κs =

@@ -5,10 +5,10 @@ use borrow.Author.Tests.{not-true, not-false}
 use Rattle.neon.specs.Op.{opAt, arrangementAt}
 use Rattle.neon.proofs.Legal.{formed}
 use Rattle.form.proofs.Parts.{coded}
-use Rattle.instruction.proofs.Refusing.{within-places, number-pool, number-form, number-sources, number-room, number-done}
+use Rattle.instruction_check.proofs.Refusing.{within-places, number-pool, number-form, number-sources, number-room, number-done}
 use borrow.Author.Needs.{needs}
-use Rattle.instruction.proofs.instruction_number.Statement.{statement}
-use Rattle.instruction.proofs.instruction_number.Tie as tie
+use Rattle.instruction_check.proofs.instruction_number.Statement.{statement}
+use Rattle.instruction_check.proofs.instruction_number.Tie as tie
 
 pool-check-requires : tie.Need-pool-check-requires
 pool-check-requires c κs = search needs

@@ -1,9 +1,9 @@
 use native.Mathlib.Omega.{arith}
 use Rattle.digits.proofs.Laws.{wrote-length}
-use Rattle.lines.proofs.Texts.{length-columns, term-refused, term-done}
+use Rattle.line_answers.proofs.Texts.{length-columns, term-refused, term-done}
 use borrow.Author.Needs.{needs}
-use Rattle.lines.proofs.put_term.Statement.{statement}
-use Rattle.lines.proofs.put_term.Tie as tie
+use Rattle.line_answers.proofs.put_term.Statement.{statement}
+use Rattle.line_answers.proofs.put_term.Tie as tie
 
 add-put-text : tie.Need-add-put-text
 add-put-text c = search needs

@@ -17,8 +17,8 @@ use Rattle.text.specs.Answer.{textNumber, Answered}
 use Rattle.text_length.proofs.Answers.{good-node}
 use Rattle.columns.specs.Columns.{columns}
 use Rattle.columns.proofs.Characters.{columns-are}
-use Rattle.lines.specs.Line.{textRoom, roomNumber, written, TextPut}
-use Rattle.lines.proofs.Stores.{part-back, part-same, wrote-around}
+use Rattle.line_answers.specs.Answer.{textRoom, roomNumber, written, TextPut}
+use Rattle.line_answers.proofs.Stores.{part-back, part-same, wrote-around}
 
 pub length-columns : (x : ℕ) → x < 10000 → length (columns x) ≡ 4
 length-columns x h = ap length (columns-are x h)

@@ -1,11 +1,10 @@
 use Prim.Native.Nat.{_+_, _-_}
-use Rattle.lines.proofs.Gathering.{Same, drop-next, same-start, at-end, at-newline, same-held, same-full}
+use Rattle.line_pieces.proofs.Gathering.{Same, drop-next, same-start, at-end, at-newline, same-held, same-full}
 use native.Mathlib.Omega.{arith}
 use Prim.Native.Nat.{_-_}
 use lib.ListN.{length, drop, getD, drop-of-length-le}
-use Rattle.lines.proofs.Gathering.{Same, same-start, at-end, at-newline, same-held, same-full}
-use Rattle.lines.proofs.gather.Statement.{statement}
-use Rattle.lines.proofs.gather.Tie as tie
+use Rattle.line_pieces.proofs.gather.Statement.{statement}
+use Rattle.line_pieces.proofs.gather.Tie as tie
 
 abbrev Inv-loop : tie.InvT-loop
 Inv-loop held₀ len input from n₀ i₀ held n i = Same held₀ len (drop from input) from held n (drop i input) i
