@@ -84,7 +84,7 @@ fn write_condition(p: &[u64], n: Node, buf: &mut [u8], at: usize) -> usize
 
 // An operand that is a vector term, and an Ite's condition. A call through these, which the compiler
 // puts in line, leaves `write_term` one place in its frame for the buffer's reference in the stead of
-// one for each call: 80 bytes a level of nesting, and not 256. For its sake a kind is read again, too,
+// one for each call: 80 bytes a level of nesting, and not 240. For its sake a kind is read again, too,
 // and not kept while an operand is written.
 fn operand(p: &[u64], n: Node, buf: &mut [u8], at: usize) -> usize
     requires { ⌜ Ready (now p) (n .0) ⌝ }
