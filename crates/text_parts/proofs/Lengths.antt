@@ -5,7 +5,7 @@ use native.Mathlib.Omega.{arith}
 use lib.ListN.{length}
 use Rattle.terms.specs.Display.{decimal}
 use Rattle.pool.specs.Node.{Kind, kinds}
-use Rattle.pool_check.proofs.Tables.{within}
+use Rattle.node_rules.proofs.Numbers.{within}
 use Rattle.text_parts.specs.Text.{infixOf, infixText}
 use Rattle.digits.proofs.Laws.{digits-one, length-more}
 

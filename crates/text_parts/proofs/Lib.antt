@@ -1,4 +1,3 @@
 pub mod Lengths
-pub mod Kept
 pub mod Operands
 pub mod Tree

@@ -15,9 +15,9 @@ use Rattle.facts.proofs.Tests.{and-both, false≢true}
 use Rattle.pool.specs.Node.{bad, extract, kinds, kindAt, decode, Cell, cellAt, widthAt, wordAt}
 use Rattle.pool.specs.Rules.{widthBefore, okKind, okPool, Valid}
 use Rattle.pool.proofs.Facts.{valid-node}
-use Rattle.pool_check.proofs.Tables.{within, is-bad}
+use Rattle.node_rules.proofs.Numbers.{within, is-bad}
 use Rattle.text_parts.specs.Text.{kindNumber, opA, opB, opC, Ready}
-use Rattle.text_parts.proofs.Kept.{Ok, Two, Three, One, register, bv-two, compare-two, ite-three, extract-one, extract-range, concat-two, zext-one, wide-bad, wide-var, wide-const, wide-bv, wide-ite, wide-extract, wide-concat, wide-zext, most-bad, most-var, most-const, most-bv, most-compare, most-ite, most-extract, most-concat, most-zext}
+use Rattle.node_rules.proofs.Kept.{Ok, Two, Three, One, register, bv-two, compare-two, ite-three, extract-one, extract-range, concat-two, zext-one, wide-bad, wide-var, wide-const, wide-bv, wide-ite, wide-extract, wide-concat, wide-zext, most-bad, most-var, most-const, most-bv, most-compare, most-ite, most-extract, most-concat, most-zext}
 
 -- fewer nodes of a valid pool are a valid pool
 valid-less : (ws : List ℕ) (k j : ℕ) → j ≤ k → Valid ws k → Valid ws j

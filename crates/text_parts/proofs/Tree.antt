@@ -11,7 +11,7 @@ use Rattle.terms.specs.Display.{bytes, decimal, hexadecimal, display}
 use Rattle.pool.specs.Node.{Kind, kinds, kindAt, decode, Cell, cellAt, widthAt, wordAt, wide}
 use Rattle.pool.specs.Unfold.{shapeOf, earlier, unfoldAt}
 use Rattle.pool.proofs.Laws.{unfold-step}
-use Rattle.pool_check.proofs.Tables.{within}
+use Rattle.node_rules.proofs.Numbers.{within}
 use Rattle.text_parts.specs.Text.{text, kindNumber, opA, opB, opC, infixOf, infixText, extendOf, extendText, rangeText, widthText, Ready}
 use Rattle.text_parts.proofs.Operands.{kind-below, bin-a, bin-b, ite-a, ite-b, ite-c, extract-a, concat-a, concat-b, extend-a}
 

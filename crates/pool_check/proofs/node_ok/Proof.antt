@@ -1,5 +1,5 @@
 use denote.Ref.{now}
-use Rattle.pool_check.proofs.Tables.{node-is}
+use Rattle.pool_check.proofs.Nodes.{node-is}
 use borrow.Author.Needs.{needs}
 use Rattle.pool_check.proofs.node_ok.Statement.{statement}
 use Rattle.pool_check.proofs.node_ok.Tie as tie

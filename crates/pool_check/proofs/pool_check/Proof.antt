@@ -6,7 +6,7 @@ use mathlib.Core.Bool.{true}
 use denote.Ref.{now}
 use Rattle.pool.specs.Node.{places}
 use Rattle.pool.specs.Rules.{okPool}
-use Rattle.pool_check.proofs.Tables.{some-bad, one-more, none}
+use Rattle.pool_check.proofs.Nodes.{some-bad, one-more, none}
 use Rattle.pool_check.proofs.pool_check.Statement.{statement}
 use Rattle.pool_check.proofs.pool_check.Tie as tie
 

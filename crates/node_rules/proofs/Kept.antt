@@ -1,5 +1,5 @@
 -- What the rules of a valid pool say of a node by its kind: its operands come before it and have the widths that they must. Assumes nothing.
-use Prim.Native.Nat.{ℕ, _+_, _-_, _≤_, _<_}
+use Prim.Native.Nat.{ℕ, _+_, _-_, _^_, _≤_, _<_}
 use mathlib.Core.Path.{_≡_}
 use mathlib.Core.Bool.{true, _&&_}
 use native.Mathlib.Omega.{arith}
@@ -8,7 +8,7 @@ use borrow.Author.Tests.{ltb-true, leb-true, eqb-true}
 use Rattle.terms.specs.declared.BinOp.{BinOp}
 use Rattle.terms.specs.declared.CmpOp.{CmpOp}
 use Rattle.facts.proofs.Tests.{and-both, false≢true}
-use Rattle.pool.specs.Node.{Kind, bad, var, const, bv, compare, ite, extract, concat, zext, Cell}
+use Rattle.pool.specs.Node.{Kind, bad, var, const, bv, compare, ite, extract, concat, zext, Cell, wide}
 use Rattle.pool.specs.Rules.{wideOk, okKind}
 
 pub wide-one : (w : ℕ) → wideOk w ≡ true → 1 ≤ w
@@ -52,11 +52,14 @@ module _ (n : ℕ) (k : Cell) (A B C : ℕ) where
   pub var-wide : Ok var → k .width ≡ 128
   var-wide h = eqb-true _ _ (and-both _ _ (and-both _ _ (and-both _ _ (and-both _ _ (and-both _ _ h .0) .0) .0) .0) .0)
 
-  const-wide : Ok const → wideOk (k .width) ≡ true
+  pub const-wide : Ok const → wideOk (k .width) ≡ true
   const-wide h = and-both _ _ (and-both _ _ (and-both _ _ (and-both _ _ h .0) .0) .0) .0
 
+  pub const-fits : Ok const → wide (k .x) (k .y) < 2 ^ k .width
+  const-fits h = ltb-true _ _ (and-both (wideOk (k .width) && eqb (k .a) 0 && eqb (k .b) 0 && eqb (k .c) 0) _ h .1)
+
   -- the first three tests of a kind that has eight, and the last two
-  bv-tests : (o : BinOp) → Ok (bv o) → (wideOk (k .width) ≡ true) × (k .a < n) × (k .b < n) × (A ≡ k .width) × (B ≡ k .width)
+  pub bv-tests : (o : BinOp) → Ok (bv o) → (wideOk (k .width) ≡ true) × (k .a < n) × (k .b < n) × (A ≡ k .width) × (B ≡ k .width)
   bv-tests o h =
       let p7 = and-both _ _ h in
       let p6 = and-both _ _ (p7 .0) in
@@ -70,7 +73,7 @@ module _ (n : ℕ) (k : Cell) (A B C : ℕ) where
       let w : 1 ≤ k .width = wide-one _ (t .0) in
       record { less-a = t .1; less-b = t .2; term-a = omega (arith, t .3); term-b = omega (arith, t .4) }
 
-  compare-tests : (o : CmpOp) → Ok (compare o) → (k .width ≡ 0) × (k .a < n) × (k .b < n) × (1 ≤ A) × (B ≡ A)
+  pub compare-tests : (o : CmpOp) → Ok (compare o) → (k .width ≡ 0) × (k .a < n) × (k .b < n) × (1 ≤ A) × (B ≡ A)
   compare-tests o h =
       let p7 = and-both _ _ h in
       let p6 = and-both _ _ (p7 .0) in
@@ -81,7 +84,7 @@ module _ (n : ℕ) (k : Cell) (A B C : ℕ) where
   pub compare-two : (o : CmpOp) → Ok (compare o) → Two
   compare-two o h = let t = compare-tests o h in record { less-a = t .1; less-b = t .2; term-a = t .3; term-b = omega (arith, t .3, t .4) }
 
-  ite-tests : Ok ite → (wideOk (k .width) ≡ true) × (k .a < n) × (k .b < n) × (k .c < n) × (A ≡ 0) × (B ≡ k .width) × (C ≡ k .width)
+  pub ite-tests : Ok ite → (wideOk (k .width) ≡ true) × (k .a < n) × (k .b < n) × (k .c < n) × (A ≡ 0) × (B ≡ k .width) × (C ≡ k .width)
   ite-tests h =
       let p8 = and-both _ _ h in
       let p7 = and-both _ _ (p8 .0) in
@@ -97,7 +100,7 @@ module _ (n : ℕ) (k : Cell) (A B C : ℕ) where
       let w : 1 ≤ k .width = wide-one _ (t .0) in
       record { less-a = t .1; less-b = t .2; less-c = t .3; cond-a = t .4; term-b = omega (arith, t .5); term-c = omega (arith, t .6) }
 
-  extract-tests : Ok extract → (k .a < n) × (k .y ≤ k .x) × (k .x < A) × (k .width ≡ k .x - k .y + 1)
+  pub extract-tests : Ok extract → (k .a < n) × (k .y ≤ k .x) × (k .x < A) × (k .width ≡ k .x - k .y + 1)
   extract-tests h =
       let p5 = and-both _ _ h in
       let p4 = and-both _ _ (p5 .0) in
@@ -112,23 +115,24 @@ module _ (n : ℕ) (k : Cell) (A B C : ℕ) where
   pub extract-range : Ok extract → (k .y ≤ k .x) × (k .x < A)
   extract-range h = let t = extract-tests h in (t .1, t .2)
 
-  concat-tests : Ok concat → (wideOk (k .width) ≡ true) × (k .a < n) × (k .b < n) × (1 ≤ A) × (1 ≤ B)
+  pub concat-tests : Ok concat → (wideOk (k .width) ≡ true) × (k .a < n) × (k .b < n) × (1 ≤ A) × (1 ≤ B) × (k .width ≡ A + B)
   concat-tests h =
       let p8 = and-both _ _ h in
       let p7 = and-both _ _ (p8 .0) in
       let p6 = and-both _ _ (p7 .0) in
       let p2 = and-both _ _ (and-both _ _ (and-both _ _ (and-both _ _ (p6 .0) .0) .0) .0) in
       let p1 = and-both _ _ (p2 .0) in
-      (p1 .0, ltb-true _ _ (p1 .1), ltb-true _ _ (p2 .1), leb-true _ _ (p6 .1), leb-true _ _ (p7 .1))
+      (p1 .0, ltb-true _ _ (p1 .1), ltb-true _ _ (p2 .1), leb-true _ _ (p6 .1), leb-true _ _ (p7 .1), eqb-true _ _ (p8 .1))
 
   pub concat-two : Ok concat → Two
   concat-two h = let t = concat-tests h in record { less-a = t .1; less-b = t .2; term-a = t .3; term-b = t .4 }
 
-  zext-tests : Ok zext → (wideOk (k .width) ≡ true) × (k .a < n) × (1 ≤ A)
+  pub zext-tests : Ok zext → (wideOk (k .width) ≡ true) × (k .a < n) × (1 ≤ A) × (A ≤ k .width)
   zext-tests h =
-      let p6 = and-both _ _ (and-both _ _ h .0) in
+      let p7 = and-both _ _ h in
+      let p6 = and-both _ _ (p7 .0) in
       let p1 = and-both _ _ (and-both _ _ (and-both _ _ (and-both _ _ (and-both _ _ (p6 .0) .0) .0) .0) .0) in
-      (p1 .0, ltb-true _ _ (p1 .1), leb-true _ _ (p6 .1))
+      (p1 .0, ltb-true _ _ (p1 .1), leb-true _ _ (p6 .1), leb-true _ _ (p7 .1))
 
   pub zext-one : Ok zext → One
   zext-one h = let t = zext-tests h in record { less-a = t .1; term-a = t .2 }

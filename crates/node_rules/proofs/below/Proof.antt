@@ -1,7 +1,7 @@
-use Rattle.pool_check.proofs.Words.{always, upper, lower, over}
+use Rattle.node_rules.proofs.Words.{always, upper, lower, over}
 use borrow.Author.Needs.{needs}
-use Rattle.pool_check.proofs.below.Statement.{statement}
-use Rattle.pool_check.proofs.below.Tie as tie
+use Rattle.node_rules.proofs.below.Statement.{statement}
+use Rattle.node_rules.proofs.below.Tie as tie
 
 returns : tie.Need-returns
 returns c =

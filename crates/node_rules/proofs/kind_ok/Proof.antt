@@ -1,10 +1,10 @@
 use native.Mathlib.Omega.{arith}
 use mathlib.Core.Path.{_≡_, _∙_}
-use Rattle.pool_check.proofs.Tables.{is-bin, is-cmp, is-ext, is-bad, seventeen}
+use Rattle.node_rules.proofs.Numbers.{is-bin, is-cmp, is-ext, is-bad, seventeen}
 use Rattle.pool.specs.Node.{kindAt, kinds}
 use borrow.Author.Needs.{needs}
-use Rattle.pool_check.proofs.kind_ok.Statement.{statement}
-use Rattle.pool_check.proofs.kind_ok.Tie as tie
+use Rattle.node_rules.proofs.kind_ok.Statement.{statement}
+use Rattle.node_rules.proofs.kind_ok.Tie as tie
 
 var-ok-requires : tie.Need-var-ok-requires
 var-ok-requires c κs = search needs

@@ -1,8 +1,8 @@
 use borrow.Author.Tests.{le-ltb, lt-leb}
 use mathlib.Core.Bool.{and-false}
 use borrow.Author.Needs.{needs}
-use Rattle.pool_check.proofs.extract_ok.Statement.{statement}
-use Rattle.pool_check.proofs.extract_ok.Tie as tie
+use Rattle.node_rules.proofs.extract_ok.Statement.{statement}
+use Rattle.node_rules.proofs.extract_ok.Tie as tie
 
 returns : tie.Need-returns
 returns c =

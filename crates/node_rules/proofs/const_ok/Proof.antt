@@ -1,6 +1,6 @@
 use borrow.Author.Needs.{needs}
-use Rattle.pool_check.proofs.const_ok.Statement.{statement}
-use Rattle.pool_check.proofs.const_ok.Tie as tie
+use Rattle.node_rules.proofs.const_ok.Statement.{statement}
+use Rattle.node_rules.proofs.const_ok.Tie as tie
 
 below-requires : tie.Need-below-requires
 below-requires c κs = search needs
