@@ -16,7 +16,8 @@ use Rattle.pool.specs.Node.{bad, extract, kinds, kindAt, decode, Cell, cellAt, 
 use Rattle.pool.specs.Rules.{widthBefore, okKind, okPool, Valid}
 use Rattle.pool.proofs.Facts.{valid-node}
 use Rattle.node_rules.proofs.Numbers.{within, is-bad}
-use Rattle.text_parts.specs.Text.{kindNumber, opA, opB, opC, Ready}
+use Rattle.node_fields.specs.Fields.{kindNumber, opA, opB, opC}
+use Rattle.text_parts.specs.Text.{Ready}
 use Rattle.node_rules.proofs.Kept.{Ok, Two, Three, One, register, bv-two, compare-two, ite-three, extract-one, extract-range, concat-two, zext-one, wide-bad, wide-var, wide-const, wide-bv, wide-ite, wide-extract, wide-concat, wide-zext, most-bad, most-var, most-const, most-bv, most-compare, most-ite, most-extract, most-concat, most-zext}
 
 -- fewer nodes of a valid pool are a valid pool

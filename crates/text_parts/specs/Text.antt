@@ -1,28 +1,15 @@
 -- The text of a node, and its parts.
 use mathlib.Core.List.{List, [], _++_}
 use Prim.Native.Nat.{ℕ, _+_, _*_, _<_}
-use lib.ListN.{length, getD}
+use lib.ListN.{length}
 use Rattle.terms.specs.Display.{bytes, operator, comparison, decimal, display}
-use Rattle.pool.specs.Node.{Kind, bad, var, const, bv, compare, ite, extract, concat, zext, sext, kindAt, kindOf, aOf, bOf, cOf}
+use Rattle.pool.specs.Node.{Kind, bad, var, const, bv, compare, ite, extract, concat, zext, sext, kindAt}
 use Rattle.pool.specs.Rules.{Valid}
 use Rattle.pool.specs.Unfold.{unfoldAt}
 
 -- the text of node n
 unfoldable pub text : List ℕ → ℕ → List ℕ
 text ws n = display (unfoldAt ws n)
-
--- the number of node n's kind, and its operands
-abbrev pub kindNumber : List ℕ → ℕ → ℕ
-kindNumber ws n = kindOf (getD ws (4 * n) 0)
-
-abbrev pub opA : List ℕ → ℕ → ℕ
-opA ws n = aOf (getD ws (4 * n + 1) 0)
-
-abbrev pub opB : List ℕ → ℕ → ℕ
-opB ws n = bOf (getD ws (4 * n + 1) 0)
-
-abbrev pub opC : List ℕ → ℕ → ℕ
-opC ws n = cOf (getD ws (4 * n + 1) 0)
 
 -- what stands between the operands of the kinds 3 to 14
 abbrev pub infixOf : Kind → List ℕ

@@ -2,71 +2,14 @@
 use digits::put;
 use digits::put_decimal;
 use digits::put_hex;
-use pool::Node;
 ghost use mathlib.Core.Path.{_≡_};
-ghost use Prim.Native.Nat.{_+_, _*_, _≤_, _<_};
+ghost use Prim.Native.Nat.{_≤_, _<_};
 ghost use lib.ListN.{length};
 ghost use Rattle.terms.specs.Expr.{Var, Const};
 ghost use Rattle.terms.specs.Display.{display};
-ghost use Rattle.pool.specs.Node.{wide, wordAt, widthAt};
+ghost use Rattle.pool.specs.Node.{wide};
 ghost use Rattle.digits.specs.Writing.{Room, Wrote};
-ghost use Rattle.text_parts.specs.Text.{kindNumber, opA, opB, opC, infixText, extendText, rangeText, widthText};
-
-pub fn kind_of(p: &[u64], n: Node) -> u64
-    requires { ⌜ 4 * n .0 + 3 < length (now p) ⌝ }
-    ensures { λ r. ⌜ r ≡ kindNumber (now (p .entry)) (n .0) ⌝ }
-{
-    let at = 4 * n.0;
-    p[at] % 65536
-}
-
-pub fn width_of(p: &[u64], n: Node) -> u64
-    requires { ⌜ 4 * n .0 + 3 < length (now p) ⌝ }
-    ensures { λ r. ⌜ r ≡ widthAt (now (p .entry)) (n .0) ⌝ }
-{
-    let at = 4 * n.0;
-    p[at] / 65536
-}
-
-pub fn first(p: &[u64], n: Node) -> Node
-    requires { ⌜ 4 * n .0 + 3 < length (now p) ⌝ }
-    ensures { λ r. ⌜ r .0 ≡ opA (now (p .entry)) (n .0) ⌝ }
-{
-    let at = 4 * n.0;
-    Node((p[at + 1] % 65536) as usize)
-}
-
-pub fn second(p: &[u64], n: Node) -> Node
-    requires { ⌜ 4 * n .0 + 3 < length (now p) ⌝ }
-    ensures { λ r. ⌜ r .0 ≡ opB (now (p .entry)) (n .0) ⌝ }
-{
-    let at = 4 * n.0;
-    Node((p[at + 1] / 65536 % 65536) as usize)
-}
-
-pub fn third(p: &[u64], n: Node) -> Node
-    requires { ⌜ 4 * n .0 + 3 < length (now p) ⌝ }
-    ensures { λ r. ⌜ r .0 ≡ opC (now (p .entry)) (n .0) ⌝ }
-{
-    let at = 4 * n.0;
-    Node((p[at + 1] / 4294967296) as usize)
-}
-
-pub fn low(p: &[u64], n: Node) -> u64
-    requires { ⌜ 4 * n .0 + 3 < length (now p) ⌝ }
-    ensures { λ r. ⌜ r ≡ wordAt (now (p .entry)) (n .0) 2 ⌝ }
-{
-    let at = 4 * n.0;
-    p[at + 2]
-}
-
-pub fn high(p: &[u64], n: Node) -> u64
-    requires { ⌜ 4 * n .0 + 3 < length (now p) ⌝ }
-    ensures { λ r. ⌜ r ≡ wordAt (now (p .entry)) (n .0) 3 ⌝ }
-{
-    let at = 4 * n.0;
-    p[at + 3]
-}
+ghost use Rattle.text_parts.specs.Text.{infixText, extendText, rangeText, widthText};
 
 // The operator between two operands.
 pub fn put_infix(k: u64, buf: &mut [u8], at: usize) -> usize

@@ -1,20 +1,20 @@
 // The text of a node that keeps the pool's rules, where the buffer has room for it: `Display` of the Rust's expr.rs, of the
 // term that the node unfolds to.
 use digits::put;
+use node_fields::first;
+use node_fields::high;
+use node_fields::kind_of;
+use node_fields::low;
+use node_fields::second;
+use node_fields::third;
+use node_fields::width_of;
 use pool::Node;
-use text_parts::first;
-use text_parts::high;
-use text_parts::kind_of;
-use text_parts::low;
 use text_parts::put_const;
 use text_parts::put_extend;
 use text_parts::put_infix;
 use text_parts::put_range;
 use text_parts::put_var;
 use text_parts::put_width;
-use text_parts::second;
-use text_parts::third;
-use text_parts::width_of;
 ghost use mathlib.Core.Path.{_≡_};
 ghost use Prim.Native.Nat.{_≤_};
 ghost use Rattle.pool.specs.Node.{widthAt};

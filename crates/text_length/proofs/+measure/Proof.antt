@@ -10,16 +10,16 @@ use Rattle.text_length.proofs.measure.Reads as measure
 use Rattle.text_length.proofs.measure.Kinds as measure-kinds
 use Rattle.text_length.proofs.+measure.Lts-measure as measure-lts
 use Rattle.digits.proofs.decimal_length.Reads as decimal-length-reads
-use Rattle.text_parts.proofs.first.Reads as first-reads
-use Rattle.text_parts.proofs.high.Reads as high-reads
+use Rattle.node_fields.proofs.first.Reads as first-reads
+use Rattle.node_fields.proofs.high.Reads as high-reads
 use Rattle.text_parts.proofs.infix_length.Reads as infix-length-reads
-use Rattle.text_parts.proofs.kind_of.Reads as kind-of-reads
+use Rattle.node_fields.proofs.kind_of.Reads as kind-of-reads
 use Rattle.digits.proofs.less.Reads as less-reads
 use Rattle.digits.proofs.less_hex.Reads as less-hex-reads
-use Rattle.text_parts.proofs.low.Reads as low-reads
-use Rattle.text_parts.proofs.second.Reads as second-reads
-use Rattle.text_parts.proofs.third.Reads as third-reads
-use Rattle.text_parts.proofs.width_of.Reads as width-of-reads
+use Rattle.node_fields.proofs.low.Reads as low-reads
+use Rattle.node_fields.proofs.second.Reads as second-reads
+use Rattle.node_fields.proofs.third.Reads as third-reads
+use Rattle.node_fields.proofs.width_of.Reads as width-of-reads
 use Rattle.text_length.proofs.+measure.{statement}
 use Rattle.text_length.proofs.+measure.Tie.{close}
 

@@ -12,10 +12,10 @@ use Rattle.text_terms.proofs.write_condition.Reads as write-condition
 use Rattle.text_terms.proofs.+operand+selector+write_condition+write_term.Lts-write_condition as write-condition-lts
 use Rattle.text_terms.proofs.write_term.Reads as write-term
 use Rattle.text_terms.proofs.+operand+selector+write_condition+write_term.Lts-write_term as write-term-lts
-use Rattle.text_parts.proofs.first.Reads as first-reads
-use Rattle.text_parts.proofs.high.Reads as high-reads
-use Rattle.text_parts.proofs.kind_of.Reads as kind-of-reads
-use Rattle.text_parts.proofs.low.Reads as low-reads
+use Rattle.node_fields.proofs.first.Reads as first-reads
+use Rattle.node_fields.proofs.high.Reads as high-reads
+use Rattle.node_fields.proofs.kind_of.Reads as kind-of-reads
+use Rattle.node_fields.proofs.low.Reads as low-reads
 use Rattle.digits.proofs.put.Reads as put-reads
 use Rattle.text_parts.proofs.put_const.Reads as put-const-reads
 use Rattle.text_parts.proofs.put_extend.Reads as put-extend-reads
@@ -23,9 +23,9 @@ use Rattle.text_parts.proofs.put_infix.Reads as put-infix-reads
 use Rattle.text_parts.proofs.put_range.Reads as put-range-reads
 use Rattle.text_parts.proofs.put_var.Reads as put-var-reads
 use Rattle.text_parts.proofs.put_width.Reads as put-width-reads
-use Rattle.text_parts.proofs.second.Reads as second-reads
-use Rattle.text_parts.proofs.third.Reads as third-reads
-use Rattle.text_parts.proofs.width_of.Reads as width-of-reads
+use Rattle.node_fields.proofs.second.Reads as second-reads
+use Rattle.node_fields.proofs.third.Reads as third-reads
+use Rattle.node_fields.proofs.width_of.Reads as width-of-reads
 use Rattle.text_terms.proofs.+operand+selector+write_condition+write_term.{statement}
 use Rattle.text_terms.proofs.+operand+selector+write_condition+write_term.Tie.{close}
 use Rattle.text_terms.proofs.+operand+selector+write_condition+write_term.Proof.Writers.{μ-operand, μ-selector, μ-write-condition, μ-write-term, operand-at, operand-below, selector-at, selector-below, write-condition-at, write-condition-below, write-term-at, write-term-below}

@@ -2,7 +2,7 @@
 use mathlib.Core.Path.{refl}
 use native.Mathlib.Omega.{arith}
 use borrow.Author.Needs.{needs}
-use Rattle.text_parts.specs.Text.{opB, opC}
+use Rattle.node_fields.specs.Fields.{opB, opC}
 use Rattle.digits.proofs.Laws.{room-front, room-step, room-as, wrote-then, wrote-as, wrote-length}
 use Rattle.text_parts.proofs.Operands.{ite-a, ite-b, ite-c}
 use Rattle.text_parts.proofs.Tree.{whole-ite}

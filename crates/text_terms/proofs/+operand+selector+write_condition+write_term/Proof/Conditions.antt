@@ -2,7 +2,7 @@
 use mathlib.Core.Path.{refl}
 use native.Mathlib.Omega.{arith}
 use borrow.Author.Needs.{needs}
-use Rattle.text_parts.specs.Text.{kindNumber, opA, opB}
+use Rattle.node_fields.specs.Fields.{kindNumber, opA, opB}
 use Rattle.digits.proofs.Laws.{room-front, room-step, room-as, wrote-then, wrote-as, wrote-length}
 use Rattle.text_parts.proofs.Operands.{compare-low, compare-high, bin-a, bin-b}
 use Rattle.text_parts.proofs.Tree.{whole-bin}

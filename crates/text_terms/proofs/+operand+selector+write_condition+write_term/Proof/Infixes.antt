@@ -2,7 +2,7 @@
 use mathlib.Core.Path.{refl}
 use native.Mathlib.Omega.{arith}
 use borrow.Author.Needs.{needs}
-use Rattle.text_parts.specs.Text.{opB}
+use Rattle.node_fields.specs.Fields.{opB}
 use Rattle.digits.proofs.Laws.{room-front, room-step, room-as, wrote-then, wrote-as, wrote-length}
 use Rattle.text_parts.proofs.Operands.{from-three, bin-a, bin-b, same-low, same-high}
 use Rattle.text_parts.proofs.Tree.{whole-var, whole-const, whole-bin}

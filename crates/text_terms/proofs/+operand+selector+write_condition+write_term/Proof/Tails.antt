@@ -3,7 +3,7 @@ use mathlib.Core.Path.{refl}
 use native.Mathlib.Omega.{arith}
 use borrow.Author.Needs.{needs}
 use Rattle.pool.specs.Node.{widthAt, wordAt}
-use Rattle.text_parts.specs.Text.{opB}
+use Rattle.node_fields.specs.Fields.{opB}
 use Rattle.digits.proofs.Laws.{room-front, room-step, room-as, wrote-then, wrote-as, wrote-length}
 use Rattle.text_parts.proofs.Operands.{from-eighteen, to-nineteen, extract-a, concat-a, concat-b, extend-a}
 use Rattle.text_parts.proofs.Tree.{whole-extract, whole-concat, whole-extend}

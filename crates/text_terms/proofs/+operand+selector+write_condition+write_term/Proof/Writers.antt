@@ -13,10 +13,10 @@ use Rattle.text_terms.proofs.+operand+selector+write_condition+write_te
 use Rattle.text_terms.proofs.write_term.Reads as write-term
 use Rattle.text_terms.proofs.write_term.Kinds as write-term-kinds
 use Rattle.text_terms.proofs.+operand+selector+write_condition+write_term.Lts-write_term as write-term-lts
-use Rattle.text_parts.proofs.first.Reads as first-reads
-use Rattle.text_parts.proofs.high.Reads as high-reads
-use Rattle.text_parts.proofs.kind_of.Reads as kind-of-reads
-use Rattle.text_parts.proofs.low.Reads as low-reads
+use Rattle.node_fields.proofs.first.Reads as first-reads
+use Rattle.node_fields.proofs.high.Reads as high-reads
+use Rattle.node_fields.proofs.kind_of.Reads as kind-of-reads
+use Rattle.node_fields.proofs.low.Reads as low-reads
 use Rattle.digits.proofs.put.Reads as put-reads
 use Rattle.text_parts.proofs.put_const.Reads as put-const-reads
 use Rattle.text_parts.proofs.put_extend.Reads as put-extend-reads
@@ -24,9 +24,9 @@ use Rattle.text_parts.proofs.put_infix.Reads as put-infix-reads
 use Rattle.text_parts.proofs.put_range.Reads as put-range-reads
 use Rattle.text_parts.proofs.put_var.Reads as put-var-reads
 use Rattle.text_parts.proofs.put_width.Reads as put-width-reads
-use Rattle.text_parts.proofs.second.Reads as second-reads
-use Rattle.text_parts.proofs.third.Reads as third-reads
-use Rattle.text_parts.proofs.width_of.Reads as width-of-reads
+use Rattle.node_fields.proofs.second.Reads as second-reads
+use Rattle.node_fields.proofs.third.Reads as third-reads
+use Rattle.node_fields.proofs.width_of.Reads as width-of-reads
 
 abbrev pub μ-operand : Measures 2 operand-kinds.ps ℕ
 μ-operand κs a = a .1 .0 .0 + a .1 .0 .0 + 1

@@ -1,0 +1,63 @@
+// The parts of a node's words (document 01, "Pool"), read one by one.
+use pool::Node;
+ghost use mathlib.Core.Path.{_≡_};
+ghost use Prim.Native.Nat.{_+_, _*_, _<_};
+ghost use lib.ListN.{length};
+ghost use Rattle.pool.specs.Node.{wordAt, widthAt};
+ghost use Rattle.node_fields.specs.Fields.{kindNumber, opA, opB, opC};
+
+pub fn kind_of(p: &[u64], n: Node) -> u64
+    requires { ⌜ 4 * n .0 + 3 < length (now p) ⌝ }
+    ensures { λ r. ⌜ r ≡ kindNumber (now (p .entry)) (n .0) ⌝ }
+{
+    let at = 4 * n.0;
+    p[at] % 65536
+}
+
+pub fn width_of(p: &[u64], n: Node) -> u64
+    requires { ⌜ 4 * n .0 + 3 < length (now p) ⌝ }
+    ensures { λ r. ⌜ r ≡ widthAt (now (p .entry)) (n .0) ⌝ }
+{
+    let at = 4 * n.0;
+    p[at] / 65536
+}
+
+pub fn first(p: &[u64], n: Node) -> Node
+    requires { ⌜ 4 * n .0 + 3 < length (now p) ⌝ }
+    ensures { λ r. ⌜ r .0 ≡ opA (now (p .entry)) (n .0) ⌝ }
+{
+    let at = 4 * n.0;
+    Node((p[at + 1] % 65536) as usize)
+}
+
+pub fn second(p: &[u64], n: Node) -> Node
+    requires { ⌜ 4 * n .0 + 3 < length (now p) ⌝ }
+    ensures { λ r. ⌜ r .0 ≡ opB (now (p .entry)) (n .0) ⌝ }
+{
+    let at = 4 * n.0;
+    Node((p[at + 1] / 65536 % 65536) as usize)
+}
+
+pub fn third(p: &[u64], n: Node) -> Node
+    requires { ⌜ 4 * n .0 + 3 < length (now p) ⌝ }
+    ensures { λ r. ⌜ r .0 ≡ opC (now (p .entry)) (n .0) ⌝ }
+{
+    let at = 4 * n.0;
+    Node((p[at + 1] / 4294967296) as usize)
+}
+
+pub fn low(p: &[u64], n: Node) -> u64
+    requires { ⌜ 4 * n .0 + 3 < length (now p) ⌝ }
+    ensures { λ r. ⌜ r ≡ wordAt (now (p .entry)) (n .0) 2 ⌝ }
+{
+    let at = 4 * n.0;
+    p[at + 2]
+}
+
+pub fn high(p: &[u64], n: Node) -> u64
+    requires { ⌜ 4 * n .0 + 3 < length (now p) ⌝ }
+    ensures { λ r. ⌜ r ≡ wordAt (now (p .entry)) (n .0) 3 ⌝ }
+{
+    let at = 4 * n.0;
+    p[at + 3]
+}
