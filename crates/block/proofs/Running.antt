@@ -1,15 +1,14 @@
 -- Records in order: one more at the end of a run, the start of the pool, and the answer of the whole. Assumes nothing.
 use Prim.Native.Nat.{ℕ, zero, suc, _+_, _*_, _/_, _≤_, _<_}
 use mathlib.Core.Path.{_≡_, refl, sym, ap, subst, _∙_}
-use mathlib.Core.Bool.{Bool, true, false}
 use mathlib.Core.List.{List, [], _∷_, _++_}
-use mathlib.Core.Logic.{⊎-elim, _⊎_, inl, inr}
+use mathlib.Core.Logic.{⊎-elim, inl, inr}
 use native.Mathlib.Omega.{arith}
 use native.Mathlib.Nat.{le-refl, le-trans, add-zero, zero-add, not-suc-le-zero, min-le-left, min-le-right}
 use native.Mathlib.Numerals.{add-one}
-use lib.Dec.{ltb}
 use lib.ListN.{length, length-append}
-use borrow.Author.Tests.{ltb-true, ltb-false, le-leb}
+use borrow.Author.Tests.{le-leb}
+use Rattle.facts.proofs.Numbers.{before-or-from}
 use Rattle.terms.specs.Expr.{Expr, Var}
 use Rattle.neon.specs.declared.Instruction.{Instruction}
 use Rattle.neon.specs.Refusal.{Legal, AllLegal, blockRefusal}
@@ -114,13 +113,6 @@ pub runs-all : {w0 w1 : List ℕ} {m0 m1 : RegisterMap} (flat : List ℕ) (j : �
 runs-all flat j e r = rw (← e) r
 
 -- ---- the start of the pool
-
-before-or-from : (x k : ℕ) → (x < k) ⊎ (k ≤ x)
-before-or-from x k = go (ltb x k) refl
-  where
-    go : (b : Bool) → ltb x k ≡ b → (x < k) ⊎ (k ≤ x)
-    go true e = inl (ltb-true x k e)
-    go false e = inr (ltb-false x k e)
 
 pub start-none : (ws : List ℕ) → Started ws ws 0
 unfolding okPool

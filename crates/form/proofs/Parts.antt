@@ -9,6 +9,7 @@ use borrow.Author.Tests.{le-leb}
 use Rattle.neon.specs.Op.{Op, opAt, Arrangement, arrangementAt, isArrangement, full}
 use Rattle.neon.specs.Form.{Immediate, None, Left, Right, Element, leastOf, mostOf, form, hasForm, hasSecond, readsD, byElement, firstFull, secondFull, flag, immediateCode, formCode, formCodeAt}
 use Rattle.neon.specs.Refusal.{formNumber}
+use Rattle.neon.proofs.Geometry.{immediate-le}
 use Rattle.neon.proofs.Legal.{formed}
 
 -- ---- the row
@@ -18,12 +19,6 @@ immediate-some None = omega arith
 immediate-some Left = omega arith
 immediate-some Right = omega arith
 immediate-some Element = omega arith
-
-immediate-le : (i : Immediate) → immediateCode i ≤ 4
-immediate-le None = omega arith
-immediate-le Left = omega arith
-immediate-le Right = omega arith
-immediate-le Element = omega arith
 
 -- a flag is a bit of the code
 bit : Bool → ℕ

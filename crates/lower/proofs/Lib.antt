@@ -1,4 +1,3 @@
 pub mod Powers
-pub mod Cutting
 pub mod Clamping
 pub mod Lanes

@@ -3,14 +3,13 @@
 use mathlib.Core.Bool.{Bool, true, false}
 use mathlib.Core.List.{List, [], _∷_}
 use mathlib.Core.Path.{_≡_}
-use Prim.Native.Nat.{ℕ, _+_, _-_, _*_, _≤_, _<_}
+use Prim.Native.Nat.{ℕ, _-_, _*_, _≤_, _<_}
 use Rattle.terms.specs.Expr.{Expr}
 use Rattle.pool.specs.declared.Node.{Node}
 use Rattle.pool.specs.declared.Built.{Built}
 use Rattle.pool.specs.Rules.{Valid}
 use Rattle.pool.specs.Growth.{NodeIs}
 use Rattle.pool.specs.Builders.{Takes, Makes}
-use Rattle.trees.specs.Simd.{extractCollapsing, extractLane}
 use Rattle.trees.specs.Lower.{extend}
 
 -- a source of an instruction: whether it is read, its node, and its width
@@ -68,18 +67,8 @@ module _ (old : List ℕ) (k : ℕ) (new : List ℕ) (r : Built) where
     pub made : {td ta tb : Expr} → Valid old k → SourceIs old k d td → SourceIs old k first ta → SourceIs old k second tb
         → Makes old k new r w (t td ta tb) ins
 
-  -- `extend`, `extract_collapsing` and `extract_lane`, at any width w of the operand
+  -- `extend`, at any width w of the operand
   pub record MadeExtend (value : Node) (to : ℕ) (signed : Bool) : Type 0 where
     pub sized : Takes old k new r 1
     pub made : {w : ℕ} {t : Expr} → Valid old k → 1 ≤ w → w ≤ to → to ≤ 129 → NodeIs old k (value .0) w t
         → Makes old k new r to (extend t to signed) (value .0 ∷ [])
-
-  pub record MadeCut (value : Node) (hi lo : ℕ) : Type 0 where
-    pub sized : Takes old k new r 1
-    pub made : {w u : ℕ} {t : Expr} → Valid old k → hi < w → hi - lo + 1 ≡ u → NodeIs old k (value .0) w t
-        → Makes old k new r u (extractCollapsing t hi lo) []
-
-  pub record MadeLane (value : Node) (bits index : ℕ) : Type 0 where
-    pub sized : Takes old k new r 1
-    pub made : {w : ℕ} {t : Expr} → Valid old k → bits * index + bits ≤ w → NodeIs old k (value .0) w t
-        → Makes old k new r bits (extractLane t bits index) []

@@ -1,5 +1,4 @@
-// The Rust's neon/lower.rs: what several families use. simd has lift/simd.rs, and arith what the families of neon/lower/arith.rs
-// share.
+// The Rust's neon/lower.rs: what several families use. arith has what the families of neon/lower/arith.rs share.
 use pool::Built;
 use pool::Node;
 ghost use mathlib.Core.Path.{_≡_};
@@ -10,7 +9,6 @@ ghost use Rattle.trees.specs.Lower.{unsignedMax};
 ghost use Rattle.lower.specs.Builds.{MadeExtend};
 
 pub mod arith;
-pub mod simd;
 
 // Two words, the low one first: the Rust's u128.
 pub struct Words {

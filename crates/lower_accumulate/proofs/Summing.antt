@@ -12,7 +12,8 @@ use Rattle.pool.specs.Builders.{MadeBv, MadeCompare, MadeIte}
 use Rattle.pool.proofs.Steps.{start, step, finish, given, spare}
 use Rattle.trees.specs.declared.SaturateTo.{SaturateTo}
 use Rattle.trees.specs.Arith.{clamp, mixedTo, mixedSignAddLane, lessOp, absoluteDifferenceLane}
-use Rattle.lower.specs.Builds.{Builds1, Builds2, Lowers, read, readIf, unread, MadeExtend, MadeLane}
+use Rattle.simd.specs.Cut.{MadeLane}
+use Rattle.lower.specs.Builds.{Builds1, Builds2, Lowers, read, readIf, unread, MadeExtend}
 use Rattle.lower.proofs.Lanes.{lane-fits}
 use Rattle.lower_accumulate.specs.Lanes.{mixedAt, differenceAt}
 

@@ -57,11 +57,11 @@ fn difference_at(
     ensures { λ r. ⌜ Lowers (now (pool .entry)) count (now (pool .exit)) r 8 «lane_bits» (readIf accumulate d («lane_bits» * lanes))
         (read first («lane_bits» * lanes)) (read second («lane_bits» * lanes)) (λ d a b. differenceAt signed accumulate «lane_bits» d a b (index .0)) [] ⌝ }
 {
-    let a = lower::simd::extract_lane(pool, count, first, lane_bits, index);
-    let b = lower::simd::extract_lane(pool, a.count, second, lane_bits, index);
+    let a = simd::extract_lane(pool, count, first, lane_bits, index);
+    let b = simd::extract_lane(pool, a.count, second, lane_bits, index);
     let difference = absolute_difference_lane(pool, b.count, signed, a.node, b.node, lane_bits);
     if accumulate {
-        let previous = lower::simd::extract_lane(pool, difference.count, d, lane_bits, index);
+        let previous = simd::extract_lane(pool, difference.count, d, lane_bits, index);
         return pool::bv(
             pool,
             previous.count,

@@ -41,8 +41,8 @@ fn mixed_at(
         unread (λ d a b. mixedAt «destination_signed» «lane_bits» d a b (index .0)) [] ⌝ }
 {
     let wide = lane_bits + 2;
-    let previous = lower::simd::extract_lane(pool, count, d, lane_bits, index);
-    let addend = lower::simd::extract_lane(pool, previous.count, first, lane_bits, index);
+    let previous = simd::extract_lane(pool, count, d, lane_bits, index);
+    let addend = simd::extract_lane(pool, previous.count, first, lane_bits, index);
     let wide_previous = lower::extend(pool, addend.count, previous.node, wide, destination_signed);
     let wide_addend = lower::extend(
         pool,

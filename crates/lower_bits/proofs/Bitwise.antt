@@ -14,7 +14,8 @@ use Rattle.trees.specs.declared.BitwiseUnary.{BitwiseUnary}
 use Rattle.trees.specs.declared.BitwiseUnary.the-variants.{PopulationCount, LeadingZeros, LeadingSignBits, ReverseBits}
 use Rattle.trees.specs.Simd.{concatLanes}
 use Rattle.trees.specs.Arith.{leadingZeros, populationCount, bitwiseUnaryLane}
-use Rattle.lower.specs.Builds.{Builds1, Lowers, read, unread, MadeLane}
+use Rattle.simd.specs.Cut.{MadeLane}
+use Rattle.lower.specs.Builds.{Builds1, Lowers, read, unread}
 use Rattle.lower.proofs.Lanes.{LanesTo, lane-fits}
 use Rattle.lower_bits.specs.Layers.{reversedAt, bitwiseAt}
 

@@ -48,7 +48,7 @@ fn bitwise_at(
     ensures { λ r. ⌜ Lowers (now (pool .entry)) count (now (pool .exit)) r (5 * «lane_bits» + 2) «lane_bits» unread (read first («lane_bits» * lanes))
         unread (λ d a b. bitwiseAt op «lane_bits» d a b (index .0)) [] ⌝ }
 {
-    let element = lower::simd::extract_lane(pool, count, first, lane_bits, index);
+    let element = simd::extract_lane(pool, count, first, lane_bits, index);
     bitwise_unary_lane(pool, element.count, op, element.node, lane_bits)
 }
 

@@ -18,7 +18,8 @@ use Rattle.trees.specs.declared.Combine.{Combine}
 use Rattle.trees.specs.declared.Combine.the-variants.{Nothing, With}
 use Rattle.trees.specs.Simd.{concatLanes}
 use Rattle.trees.specs.Arith.{clamp, doublingProduct, sourceLane, doublingLongLane, doublingLongLanes}
-use Rattle.lower.specs.Builds.{Builds1, Builds2, Lowers, read, readIf, unread, MadeExtend, MadeLane}
+use Rattle.simd.specs.Cut.{MadeLane}
+use Rattle.lower.specs.Builds.{Builds1, Builds2, Lowers, read, readIf, unread, MadeExtend}
 use Rattle.lower.proofs.Lanes.{lane-fits, source-kept}
 use Rattle.lower_doubling.specs.declared.Element.{Element}
 use Rattle.lower_doubling.specs.declared.Element.the-variants.{One, PerLane}

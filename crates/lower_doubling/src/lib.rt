@@ -68,7 +68,7 @@ fn combine_at(
         },
         Combine::With(op) => {
             let wide = lane_bits + 1;
-            let prior = lower::simd::extract_lane(pool, count, d, lane_bits, index);
+            let prior = simd::extract_lane(pool, count, d, lane_bits, index);
             let wide_prior = lower::extend(pool, prior.count, prior.node, wide, true);
             let wide_product = lower::extend(pool, wide_prior.count, product, wide, true);
             let sum = pool::bv(
@@ -109,7 +109,7 @@ fn second_lane(pool: &mut [u64], count: usize, second: Element, bits: u64, index
 {
     match second {
         Element::One(value) => Built { node: value, count },
-        Element::PerLane(vector) => lower::simd::extract_lane(pool, count, vector, bits, index),
+        Element::PerLane(vector) => simd::extract_lane(pool, count, vector, bits, index),
     }
 }
 
@@ -135,7 +135,7 @@ fn doubling_at(
 {
     let narrow = lane_bits / 2;
     let from = source_lane(upper, lanes, index);
-    let a = lower::simd::extract_lane(pool, count, first, narrow, from);
+    let a = simd::extract_lane(pool, count, first, narrow, from);
     let b = second_lane(pool, a.count, second, narrow, from);
     let product = doubling_product(pool, b.count, a.node, b.node, lane_bits);
     combine_at(
@@ -224,7 +224,7 @@ pub fn doubling_long_lanes(
         (λ d a b. doublingLongLanes combine upper «by_element» (element .0) a b d «lane_bits» lanes) [] ⌝ }
 {
     if by_element {
-        let one = lower::simd::extract_lane(pool, count, second, lane_bits / 2, element);
+        let one = simd::extract_lane(pool, count, second, lane_bits / 2, element);
         let value = one.node;
         return doubled_lanes(
             pool,

@@ -13,7 +13,8 @@ use Rattle.pool.specs.Builders.{MadeBv, MadeExtract}
 use Rattle.pool.proofs.Steps.{start, step, finish, given, spare}
 use Rattle.trees.specs.Arith.{plusIf}
 use Rattle.trees.specs.Width.{sumOp, highNarrowLane}
-use Rattle.lower.specs.Builds.{Builds1, Builds2, Lowers, read, unread, MadeLane}
+use Rattle.simd.specs.Cut.{MadeLane}
+use Rattle.lower.specs.Builds.{Builds1, Builds2, Lowers, read, unread}
 use Rattle.lower.proofs.Lanes.{lane-fits}
 use Rattle.lower_high.specs.Lanes.{highAt}
 

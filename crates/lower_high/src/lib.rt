@@ -67,8 +67,8 @@ fn high_at(
         (read second («lane_bits» * 2 * lanes)) (λ d a b. highAt subtract rounding «lane_bits» d a b (index .0)) [] ⌝ }
 {
     let source_bits = lane_bits * 2;
-    let a = lower::simd::extract_lane(pool, count, first, source_bits, index);
-    let b = lower::simd::extract_lane(pool, a.count, second, source_bits, index);
+    let a = simd::extract_lane(pool, count, first, source_bits, index);
+    let b = simd::extract_lane(pool, a.count, second, source_bits, index);
     high_narrow_lane(pool, b.count, subtract, rounding, a.node, b.node, lane_bits)
 }
 

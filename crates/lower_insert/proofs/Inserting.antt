@@ -14,7 +14,8 @@ use Rattle.pool.specs.Builders.{MadeConst, MadeBv}
 use Rattle.pool.proofs.Steps.{start, step, finish, given, spare}
 use Rattle.trees.specs.Simd.{concatLanes}
 use Rattle.trees.specs.Arith.{insertOp, keptBits, shiftInsertLane, shiftInsertLanes}
-use Rattle.lower.specs.Builds.{Lowers, read, unread, MadeLane}
+use Rattle.simd.specs.Cut.{MadeLane}
+use Rattle.lower.specs.Builds.{Lowers, read, unread}
 use Rattle.lower.proofs.Lanes.{source-kept, lane-fits}
 use Rattle.lower_insert.specs.Lanes.{insertAt}
 

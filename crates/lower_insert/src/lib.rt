@@ -60,8 +60,8 @@ fn insert_at(
     ensures { λ r. ⌜ Lowers (now (pool .entry)) count (now (pool .exit)) r 6 «lane_bits» (read d («lane_bits» * lanes)) (read first («lane_bits» * lanes))
         (read amount «lane_bits») (λ d a s. insertAt left kept «lane_bits» d a s (index .0)) (amount .0 ∷ []) ⌝ }
 {
-    let a = lower::simd::extract_lane(pool, count, first, lane_bits, index);
-    let previous = lower::simd::extract_lane(pool, a.count, d, lane_bits, index);
+    let a = simd::extract_lane(pool, count, first, lane_bits, index);
+    let previous = simd::extract_lane(pool, a.count, d, lane_bits, index);
     let op = insert_op(left);
     let shifted = pool::bv(pool, previous.count, op, a.node, amount);
     let mask = pool::konst(pool, shifted.count, kept, 0, lane_bits);

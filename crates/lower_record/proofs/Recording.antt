@@ -6,9 +6,10 @@ use mathlib.Core.List.{List, [], _∷_}
 use mathlib.Core.Logic.{⊎-elim, _⊎_, inl, inr}
 use native.Mathlib.Omega.{arith}
 use native.Mathlib.Nat.{not-le-of-lt}
-use lib.Dec.{ltb, eqb}
+use lib.Dec.{eqb}
 use lib.ListN.{length, length-set}
-use borrow.Author.Tests.{ltb-true, ltb-false, eq-eqb}
+use borrow.Author.Tests.{eq-eqb}
+use Rattle.facts.proofs.Numbers.{before-or-from}
 use Rattle.facts.proofs.Tests.{false≢true}
 use Rattle.terms.specs.Expr.{Expr}
 use Rattle.neon.specs.declared.Instruction.{Instruction}
@@ -100,13 +101,6 @@ pub widen-some : {old : List ℕ} {k : ℕ} {new : List ℕ} {r : Built} {whole 
 widen-some q d = rw q (record { sized = omega (arith, d .sized); made = λ v x. d .made v (omega arith) (omega arith) (omega arith) x })
 
 -- ---- the record
-
-before-or-from : (x k : ℕ) → (x < k) ⊎ (k ≤ x)
-before-or-from x k = go (ltb x k) refl
-  where
-    go : (b : Bool) → ltb x k ≡ b → (x < k) ⊎ (k ≤ x)
-    go true e = inl (ltb-true x k e)
-    go false e = inr (ltb-false x k e)
 
 half-kept : {a b : List ℕ} {k k′ : ℕ} → Grown a k b k′ → {register y : ℕ} → y ≡ register → (x : ℕ) → x < k → LowHalf a y x → LowHalf b register x
 half-kept g q x l h = rw (← q) (cell-kept g x l ∙ h)

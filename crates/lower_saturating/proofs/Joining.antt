@@ -14,7 +14,8 @@ use Rattle.trees.specs.declared.SaturatingKind.{SaturatingKind}
 use Rattle.trees.specs.declared.SaturatingKind.the-variants.{AddSub, Halving, Narrow, ShiftNarrow, DoublingMultiplyHigh, Unary}
 use Rattle.trees.specs.Simd.{extractLane, concatLanes}
 use Rattle.trees.specs.Arith.{narrowing, keepLower, saturatingLane, saturatingLanes}
-use Rattle.lower.specs.Builds.{BuildsIf, Lowers, read, readIf, unread, withLower, MadeLane}
+use Rattle.simd.specs.Cut.{MadeLane}
+use Rattle.lower.specs.Builds.{BuildsIf, Lowers, read, readIf, unread, withLower}
 use Rattle.lower.proofs.Lanes.{lane-fits, kept-below}
 use Rattle.lower_saturating_lane.specs.Kinds.{usesSecond, sourceBits}
 use Rattle.lower_saturating.specs.Lanes.{saturatingAt}

@@ -79,9 +79,9 @@ fn saturating_at(
         (readIf (usesSecond kind) second (sourceBits kind «lane_bits» * lanes)) (λ d a b. saturatingAt kind signed «lane_bits» d a b (index .0)) [] ⌝ }
 {
     let bits = source_bits(kind, lane_bits);
-    let a = lower::simd::extract_lane(pool, count, first, bits, index);
+    let a = simd::extract_lane(pool, count, first, bits, index);
     if uses_second(kind) {
-        let b = lower::simd::extract_lane(pool, a.count, second, bits, index);
+        let b = simd::extract_lane(pool, a.count, second, bits, index);
         return lower_saturating_lane::saturating_lane(
             pool,
             b.count,

@@ -13,7 +13,8 @@ use Rattle.trees.specs.declared.ShiftKind.{ShiftKind}
 use Rattle.trees.specs.declared.ShiftKind.the-variants.{LeftImmediate, RightImmediate, Register}
 use Rattle.trees.specs.Simd.{extractLane}
 use Rattle.trees.specs.Arith.{shiftLane}
-use Rattle.lower.specs.Builds.{BuildsIf, Lowers, read, readIf, unread, MadeLane}
+use Rattle.simd.specs.Cut.{MadeLane}
+use Rattle.lower.specs.Builds.{BuildsIf, Lowers, read, readIf, unread}
 use Rattle.lower.proofs.Lanes.{lane-fits}
 use Rattle.lower_shift_lane.specs.Amounts.{isRegister}
 use Rattle.lower_shift.specs.Lanes.{shiftAt}

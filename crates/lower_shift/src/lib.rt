@@ -50,9 +50,9 @@ fn shift_at(
     ensures { λ r. ⌜ Lowers (now (pool .entry)) count (now (pool .exit)) r 25 «lane_bits» unread (read first («lane_bits» * lanes))
         (readIf (isRegister kind) second («lane_bits» * lanes)) (λ d a b. shiftAt kind signed «lane_bits» d a b (index .0)) [] ⌝ }
 {
-    let value = lower::simd::extract_lane(pool, count, first, lane_bits, index);
+    let value = simd::extract_lane(pool, count, first, lane_bits, index);
     if is_register(kind) {
-        let amount = lower::simd::extract_lane(pool, value.count, second, lane_bits, index);
+        let amount = simd::extract_lane(pool, value.count, second, lane_bits, index);
         return shift_lane(
             pool,
             amount.count,

@@ -5,7 +5,7 @@ use Prim.Native.Nat.{ℕ, suc, _+_, _-_, _*_, _/_, _≤_, _<_}
 use native.Mathlib.Omega.{arith}
 use native.Mathlib.Nat.{mul-le-mul-left}
 use Rattle.neon.specs.Op.{Arrangement, B8, B16, H4, H8, S2, S4, D2, laneBits, full, bitsIf, view}
-use Rattle.neon.specs.Form.{Lanes, Same, Narrow, Long, Immediate, None, Left, Right, Element, mostOf, isElement, sourceBits, madeBits, firstLane, secondLane, firstFull, secondFull}
+use Rattle.neon.specs.Form.{Lanes, Same, Narrow, Long, Immediate, None, Left, Right, Element, mostOf, isElement, sourceBits, madeBits, firstLane, secondLane, firstFull, secondFull, immediateCode}
 
 -- the lane widths, computed
 pub record Sized (v : Arrangement) : Type 0 where
@@ -123,3 +123,10 @@ module _ (v : Arrangement) (j : ℕ) where
       go false Left l = lower-in h
       go false Right l = lower-in h
       go false Element l = element-in l
+
+-- the part of a form code that tells the immediates has three bits
+pub immediate-le : (i : Immediate) → immediateCode i ≤ 4
+immediate-le None = omega arith
+immediate-le Left = omega arith
+immediate-le Right = omega arith
+immediate-le Element = omega arith

@@ -1,9 +1,9 @@
--- The rules of a pool and the rules of a term are the same: each node of a valid pool unfolds to a term that keeps them, of the node's
+-- The rules of a pool's words give the rules of terms: each node of a valid pool unfolds to a term that keeps them and has the node's
 -- width. Assumes nothing.
 use mathlib.Core.Path.{_≡_, refl, sym, _∙_}
 use mathlib.Core.Bool.{true}
 use mathlib.Core.List.{List}
-use Prim.Native.Nat.{ℕ, zero, suc, _+_, _≤_, _<_}
+use Prim.Native.Nat.{ℕ, zero, suc, _<_}
 use native.Mathlib.Omega.{arith}
 use lib.Dec.{ltb}
 use borrow.Author.Tests.{lt-ltb}

@@ -1,13 +1,11 @@
 -- How long the texts between operands are. Assumes nothing.
-use mathlib.Core.Path.{_≡_, refl, ap, _∙_}
-use Prim.Native.Nat.{ℕ, _+_, _/_, _≤_, _<_}
+use mathlib.Core.Path.{_≡_, refl}
+use Prim.Native.Nat.{ℕ, _≤_, _<_}
 use native.Mathlib.Omega.{arith}
 use lib.ListN.{length}
-use Rattle.terms.specs.Display.{decimal}
 use Rattle.pool.specs.Node.{Kind, kinds}
 use Rattle.node_rules.proofs.Numbers.{within}
 use Rattle.text_parts.specs.Text.{infixOf, infixText}
-use Rattle.digits.proofs.Laws.{digits-one, length-more}
 
 -- the kinds 3 to 8, 9, 10 and 11, 12 to 14
 abbrev Long : ℕ → Kind → Type 0

@@ -2,7 +2,8 @@ use native.Mathlib.Omega.{arith}
 use lib.Pow.{pow-pos, pow-mono, pow-lt}
 use Prim.Native.Nat.{_-_, _^_}
 use mathlib.Core.Path.{sym, _∙_}
-use Rattle.lower.proofs.Powers.{high-power, high-less, minus-high}
+use Rattle.facts.proofs.Numbers.{high-power}
+use Rattle.lower.proofs.Powers.{high-less, minus-high}
 use borrow.Author.Needs.{needs}
 use Rattle.lower.proofs.minus_power.Statement.{statement}
 use Rattle.lower.proofs.minus_power.Tie as tie

@@ -1,4 +1,4 @@
-use Rattle.lower.proofs.Powers.{shifted}
+use Rattle.facts.proofs.Numbers.{shifted}
 use borrow.Author.Needs.{needs}
 use Rattle.lower.proofs.power.Statement.{statement}
 use Rattle.lower.proofs.power.Tie as tie

@@ -8,8 +8,9 @@ use lib.ListN.{getD}
 use borrow.Author.Needs.{needs}
 use borrow.Author.Tests.{lt-leb, le-leb}
 use Rattle.neon.specs.Op.{Op, operations, opAt, Arrangement, full, arrangements, arrangementAt, isOperation, isArrangement}
-use Rattle.neon.specs.Form.{Immediate, None, Left, Right, Element, form, hasForm, hasSecond, readsD, byElement, firstFull, secondFull, flag, immediateCode, formCode, formCodeAt}
+use Rattle.neon.specs.Form.{form, hasForm, hasSecond, readsD, byElement, firstFull, secondFull, flag, immediateCode, formCode, formCodeAt}
 use Rattle.neon.specs.Arm.{lane, lanes}
+use Rattle.neon.proofs.Geometry.{immediate-le}
 use Rattle.neon.proofs.Lanes.{lane-of-lanes}
 use Rattle.facts.proofs.Table.{tabulate, entry}
 use Rattle.neon.proofs.form_code.Statement.{statement}
@@ -19,12 +20,6 @@ use Rattle.neon.proofs.form_code.Tie as tie
 flag-le : (b : Bool) (k : ℕ) → flag b k ≤ k
 flag-le true k = omega arith
 flag-le false k = omega arith
-
-immediate-le : (i : Immediate) → immediateCode i ≤ 4
-immediate-le None = omega arith
-immediate-le Left = omega arith
-immediate-le Right = omega arith
-immediate-le Element = omega arith
 
 code-lt : (o : Op) (v : Arrangement) → formCode o v < 2 ^ 8
 unfolding formCode

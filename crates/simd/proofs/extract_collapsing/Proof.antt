@@ -1,7 +1,7 @@
-use Rattle.lower.proofs.Cutting.{cut-built}
+use Rattle.simd.proofs.Cutting.{cut-built}
 use borrow.Author.Needs.{needs}
-use Rattle.lower.proofs.simd.extract_collapsing.Statement.{statement}
-use Rattle.lower.proofs.simd.extract_collapsing.Tie as tie
+use Rattle.simd.proofs.extract_collapsing.Statement.{statement}
+use Rattle.simd.proofs.extract_collapsing.Tie as tie
 
 cut-from-requires : tie.Need-cut-from-requires
 cut-from-requires c κs = search needs

@@ -7,8 +7,7 @@ ghost use mathlib.Core.Path.{_≡_};
 ghost use Prim.Native.Nat.{_+_, _*_, _≤_, _<_};
 ghost use lib.ListN.{length};
 ghost use Rattle.pool.specs.Growth.{Room};
-ghost use Rattle.lower.specs.Cut.{cutFrom};
-ghost use Rattle.lower.specs.Builds.{MadeCut, MadeLane};
+ghost use Rattle.simd.specs.Cut.{cutFrom, MadeCut, MadeLane};
 
 // The node that a cut of `value` up to the bit hi is taken from.
 fn cut_from(pool: &[u64], value: Node, hi: Bit) -> Node

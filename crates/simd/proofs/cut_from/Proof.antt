@@ -1,8 +1,8 @@
 use native.Mathlib.Omega.{arith}
 use borrow.Author.Tests.{eq-eqb, ne-eqb, le-leb, lt-leb, lt-ltb, le-ltb}
 use borrow.Author.Needs.{needs}
-use Rattle.lower.proofs.simd.cut_from.Statement.{statement}
-use Rattle.lower.proofs.simd.cut_from.Tie as tie
+use Rattle.simd.proofs.cut_from.Statement.{statement}
+use Rattle.simd.proofs.cut_from.Tie as tie
 
 mul-at : tie.Need-mul-at
 mul-at c = search needs

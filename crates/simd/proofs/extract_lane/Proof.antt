@@ -1,7 +1,7 @@
-use Rattle.lower.proofs.Cutting.{lane-built}
+use Rattle.simd.proofs.Cutting.{lane-built}
 use borrow.Author.Needs.{needs}
-use Rattle.lower.proofs.simd.extract_lane.Statement.{statement}
-use Rattle.lower.proofs.simd.extract_lane.Tie as tie
+use Rattle.simd.proofs.extract_lane.Statement.{statement}
+use Rattle.simd.proofs.extract_lane.Tie as tie
 
 mul-lo : tie.Need-mul-lo
 mul-lo c = search needs

@@ -22,8 +22,7 @@ use Rattle.pool.proofs.Laws.{unfold-step}
 use Rattle.pool.proofs.Facts.{codeOf, kind-code, valid-node, ExtractRule, extract-rule}
 use Rattle.pool.proofs.Steps.{forget}
 use Rattle.trees.specs.Simd.{joins, extractCollapsing, extractLane}
-use Rattle.lower.specs.Cut.{cutFrom, joinsAt}
-use Rattle.lower.specs.Builds.{MadeCut, MadeLane}
+use Rattle.simd.specs.Cut.{cutFrom, joinsAt, MadeCut, MadeLane}
 
 -- what a cut is taken from, for the cut of v up to hi
 pub record Source (ws : List ℕ) (k n hi : ℕ) (t : Expr) : Type 0 where
