@@ -1,63 +1,26 @@
--- The records of a list in order: the first that is refused, a run of them, and the answer of the whole. Assumes nothing.
-use mathlib.Core.Path.{_≡_, refl, sym, ap, subst, _∙_}
+-- The records of a list in order: a run of them, and the answer of the whole. Assumes nothing.
+use mathlib.Core.Path.{_≡_, refl, ap, subst}
 use mathlib.Core.List.{List, [], _∷_}
 use Prim.Native.Nat.{ℕ, zero, suc, _+_, _*_, _/_, _≤_, _<_}
 use native.Mathlib.Omega.{arith}
 use native.Mathlib.Nat.{le-of-suc-le-suc, not-suc-le-zero, min-le-left, min-le-right}
 use native.Mathlib.Numerals.{add-one}
-use lib.ListN.{length, getD, take, drop, drop-of-length-le}
-use lib.Seq.{take-suc, take-all, drop-cons, length-take-le}
-use borrow.Author.Tests.{eq-eqb, ne-eqb}
+use lib.ListN.{length, getD, take}
+use lib.Seq.{take-suc, take-all, length-take-le}
 use Rattle.neon.specs.declared.Instruction.{Instruction}
-use Rattle.neon.specs.Refusal.{Refusal, reserve, recordNumber, Legal, AllLegal, refusal, recordsRefusal, blockRefusal}
+use Rattle.neon.specs.Refusal.{reserve, Legal, AllLegal, blockRefusal}
 use Rattle.pool.specs.Node.{places}
 use Rattle.pool.specs.Growth.{Room}
 use Rattle.register_map.specs.declared.RegisterMap.{RegisterMap}
 use Rattle.register_map.specs.Map.{firstMap, noMap}
 use Rattle.block_check.specs.declared.Refused.{Refused}
-use Rattle.block_check.specs.Records.{instruction, placesIn, sizeNumber, Refuses}
-use Rattle.block_check.proofs.Refusals.{by-size, by-records, block-legal}
+use Rattle.block_check.specs.Records.{placesIn, Refuses}
+use Rattle.block_check.proofs.Refusals.{block-legal}
 use Rattle.lower_record.specs.Step.{MapOk, Steps}
 use Rattle.block.specs.Block.{Started, Runs, Answered}
 use Rattle.block.proofs.Running.{runs-none, runs-more, runs-first, first-ok, all-done}
+use Rattle.blocks_check.proofs.Listed.{none}
 use Rattle.blocks.specs.Lent.{answer}
-
--- what stands past the end of a list
-abbrev pub none : Instruction
-none = instruction 0 0 0 0 0 0
-
--- ---- the first that is refused
-
-module _ (p : ℕ) (cs : List Instruction) where
-  refuses : {r : Refused} (x : Refusal) → r .number ≡ x .number → r .position ≡ x .position → blockRefusal p cs ≡ x → Refuses r (blockRefusal p cs)
-  refuses x a b e = (a ∙ sym (ap (λ (y : Refusal). y .number) e), b ∙ sym (ap (λ (y : Refusal). y .position) e))
-
-  -- the block's size
-  pub refused-size : (k : ℕ) → k ≡ sizeNumber p (length cs) → 0 < k → Refuses (record { number = k; position = 0 }) (blockRefusal p cs)
-  refused-size k e h = refuses (refusal (sizeNumber p (length cs)) 0) e refl (by-size p cs (omega (arith, e, h)))
-
-  -- the records before the j-th are accepted
-  abbrev pub Passed : ℕ → Type 0
-  Passed j = recordsRefusal j (drop j cs) ≡ blockRefusal p cs
-
-  pub passed-none : {k : ℕ} → k ≡ sizeNumber p (length cs) → k ≤ 0 → Passed 0
-  passed-none e h = sym (by-records p cs (omega (arith, e, h)))
-
-  pub passed-more : (j : ℕ) {k : ℕ} → Passed j → j < length cs → k ≡ recordNumber (getD cs j none) → k ≤ 0 → Passed (j + 1)
-  unfolding recordsRefusal
-  passed-more j {k} s l e h =
-      subst (λ (i : ℕ). recordsRefusal i (drop i cs) ≡ blockRefusal p cs) (sym (add-one j))
-      (sym (rw (drop-cons cs j none l, eq-eqb (recordNumber (getD cs j none)) 0 (omega (arith, e, h)))) ∙ s)
-
-  pub refused-here : (j k : ℕ) → Passed j → j < length cs → k ≡ recordNumber (getD cs j none) → 0 < k → Refuses (record { number = k; position = j }) (blockRefusal p cs)
-  unfolding recordsRefusal
-  refused-here j k s l e h =
-      refuses (refusal (recordNumber (getD cs j none)) j) e refl
-      (sym s ∙ rw (drop-cons cs j none l, ne-eqb (recordNumber (getD cs j none)) 0 (λ z. omega (arith, e, h, z))))
-
-  pub refused-none : (j : ℕ) → Passed j → length cs ≤ j → Refuses (record { number = 0; position = 0 }) (blockRefusal p cs)
-  unfolding recordsRefusal
-  refused-none j s l = refuses (refusal 0 0) refl refl (sym s ∙ ap (λ (l : List Instruction). recordsRefusal j l) (drop-of-length-le cs l))
 
 -- ---- a run of them
 

@@ -2,42 +2,17 @@
 // functions are thin walks: block_check, lower_record and block do the work, and serve callers that have flat numbers.
 // The Rust has no counterpart: it lowers one instruction at a time.
 use block_check::Refused;
+use blocks_check::block_refusal;
 use neon::Instruction;
 use register_map::RegisterMap;
 ghost use Prim.Native.Nat.{_*_};
 ghost use lib.ListN.{length};
-ghost use Rattle.neon.specs.Refusal.{reserve, Legal, AllLegal, blockRefusal};
+ghost use Rattle.neon.specs.Refusal.{reserve, Legal, AllLegal};
 ghost use Rattle.pool.specs.Growth.{Room};
-ghost use Rattle.block_check.specs.Records.{instruction, placesIn, Refuses};
+ghost use Rattle.block_check.specs.Records.{instruction};
 ghost use Rattle.lower_record.specs.Step.{MapOk, Steps};
 ghost use Rattle.block.specs.Block.{Runs, Answered};
 ghost use Rattle.blocks.specs.Lent.{answer};
-
-// What refuses a block of these records for a pool of so many words.
-fn block_refusal(words: usize, records: &[Instruction]) -> Refused
-    ensures { λ r. ⌜ Refuses r (blockRefusal (placesIn words) (now (records .entry))) ⌝ }
-{
-    let size = block_check::size_number(words, records.len());
-    if 0 < size {
-        return Refused {
-            number: size,
-            position: 0,
-        };
-    }
-    let mut position = 0;
-    while position < records.len() {
-        let r = records[position];
-        let number = block_check::record_number(r.operation, r.arrangement, r.i, r.d, r.n, r.m);
-        if 0 < number {
-            return Refused { number, position };
-        }
-        position += 1;
-    }
-    Refused {
-        number: 0,
-        position: 0,
-    }
-}
 
 // An accepted record brings the map up to date, and its nodes are added to the pool.
 pub fn lower_record_in(

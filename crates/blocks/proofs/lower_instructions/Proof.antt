@@ -70,10 +70,10 @@ use Rattle.blocks.specs.Lent.{answer}
 use Rattle.blocks.proofs.Again.{LentAgain as SliceLent, lends-again as slice-lends, comes-back as slice-back}
 use Rattle.blocks.proofs.Listed.{all-refused, start-room, run-ok, all-accepted}
 use Rattle.blocks.proofs.Walking.{says3}
-use Rattle.blocks.proofs.block_refusal as block-refusal
-use Rattle.blocks.proofs.block_refusal.Symbol as block-refusal-def
-use Rattle.blocks.proofs.block_refusal.Symbol.{name as #blocks·block-refusal}
-use Rattle.blocks.proofs.block_refusal.Met as block-refusal-thm
+use Rattle.blocks_check.proofs.block_refusal as block-refusal
+use Rattle.blocks_check.proofs.block_refusal.Symbol as block-refusal-def
+use Rattle.blocks_check.proofs.block_refusal.Symbol.{name as #blocks-check·block-refusal}
+use Rattle.blocks_check.proofs.block_refusal.Met as block-refusal-thm
 use Rattle.blocks.proofs.run_instructions as run-instructions
 use Rattle.blocks.proofs.run_instructions.Symbol as run-instructions-def
 use Rattle.blocks.proofs.run_instructions.Symbol.{name as #blocks·run-instructions}
@@ -239,7 +239,7 @@ module _ {M : Type 1} (𝓤 : URA M) (H : Heap 𝓤) (A : Atoms 𝓤) (W : Given
       says3 ! (ok .0) (ok .1) (ok .2) $ split ! $ move ! (1 ∷ []) $ split ! $ nothing ! $ move ! (2 ∷ 0 ∷ []) $ join ! $ move ! (1 ∷ 0 ∷ []) $ join ! $ move ! (1 ∷ 0 ∷ []) $ join ! $ frame ! $
       split ! $ move ! (1 ∷ []) $ split ! $ nothing ! $ move ! (2 ∷ 0 ∷ []) $ fjoin ! $ move ! (1 ∷ 0 ∷ []) $ fjoin ! $ move ! (1 ∷ 0 ∷ []) $ fjoin ! $ done !
 
-  module _ (𝓣 : Tables 𝓤 H) (fm : FmC 𝓤 H (W .laws) (𝓣 .C)) (refusing-known : Triple 𝓤 (𝓣 .C #blocks·block-refusal) (Refusing 𝓤 H A at-mem ran)) (no-map-known : Triple 𝓤 (𝓣 .C #register-map·refused) (NoMap 𝓤 H A at-mem ran))
+  module _ (𝓣 : Tables 𝓤 H) (fm : FmC 𝓤 H (W .laws) (𝓣 .C)) (refusing-known : Triple 𝓤 (𝓣 .C #blocks-check·block-refusal) (Refusing 𝓤 H A at-mem ran)) (no-map-known : Triple 𝓤 (𝓣 .C #register-map·refused) (NoMap 𝓤 H A at-mem ran))
       (start-known : Triple 𝓤 (𝓣 .C #block·start-pool) (Start 𝓤 H A at-mem ran)) (run-known : Triple 𝓤 (𝓣 .C #blocks·run-instructions) (Run 𝓤 H A at-mem ran)) (l₀ l₁ l₂ l₃ l₄ l₅ l₆ l₇ l₈ l₉ l₁₀ l₁₁ l₁₂ l₁₃ l₁₄ : ℕ) where
     abbrev C : Calls 𝓤 H
     C = 𝓣 .C
@@ -337,7 +337,7 @@ module _ {M : Type 1} (𝓤 : URA M) (H : Heap 𝓤) (A : Atoms 𝓤) (W : Given
         leaves r ps₀ g (all-refused ps₀ ys r e g (ltb→lt 0 (r .number) big) z) refl (fit r (v ∷ []) is))))))) (λ small. skips ! $ exec ! C Λ En code.Mir.t-5 (atRet En Post) $ forget ! 22 refl $ forget ! 24 refl $
         keep ! (1 ∷ 0 ∷ 2 ∷ 3 ∷ 4 ∷ 5 ∷ 6 ∷ 7 ∷ 8 ∷ 9 ∷ 10 ∷ 11 ∷ 12 ∷ 13 ∷ 14 ∷ 15 ∷ 16 ∷ 17 ∷ 18 ∷ 19 ∷ 20 ∷ 21 ∷ 22 ∷ 23 ∷ 24 ∷ 25 ∷ 26 ∷ 27 ∷ 28 ∷ 29 ∷ 30 ∷ 31 ∷ 32 ∷ 33 ∷ 34 ∷ 35 ∷ []) $ accepts r e (nltb→le 0 (r .number) small) (fit r (v ∷ []) is))))))
 
-  walk : (𝓣 : Tables 𝓤 H) → FmC 𝓤 H (W .laws) (𝓣 .C) → Triple 𝓤 (𝓣 .C #blocks·block-refusal) (Refusing 𝓤 H A at-mem ran) → Triple 𝓤 (𝓣 .C #register-map·refused) (NoMap 𝓤 H A at-mem ran)
+  walk : (𝓣 : Tables 𝓤 H) → FmC 𝓤 H (W .laws) (𝓣 .C) → Triple 𝓤 (𝓣 .C #blocks-check·block-refusal) (Refusing 𝓤 H A at-mem ran) → Triple 𝓤 (𝓣 .C #register-map·refused) (NoMap 𝓤 H A at-mem ran)
       → Triple 𝓤 (𝓣 .C #block·start-pool) (Start 𝓤 H A at-mem ran) → Triple 𝓤 (𝓣 .C #blocks·run-instructions) (Run 𝓤 H A at-mem ran)
       → ent 𝓤 (onEntry 𝓤 H A lower-instructions.signature (κ, (κ₂, (κ₃, tt))) (q, (q₂, (q₃, tt))) x at) (WpFn 𝓤 H (𝓣 .C) (𝓣 .Λ) code.function args Post)
   walk 𝓣 fm refusing-known no-map-known start-known run-known =
@@ -351,7 +351,7 @@ module _ {M : Type 1} (𝓤 : URA M) (H : Heap 𝓤) (A : Atoms 𝓤) (W : Given
       keep ! (30 ∷ 31 ∷ 32 ∷ 33 ∷ 34 ∷ 35 ∷ 0 ∷ 1 ∷ 2 ∷ 3 ∷ 4 ∷ 5 ∷ 6 ∷ 7 ∷ 8 ∷ 9 ∷ 10 ∷ 11 ∷ 12 ∷ 13 ∷ 14 ∷ 15 ∷ 16 ∷ 17 ∷ 18 ∷ 19 ∷ 20 ∷ 21 ∷ 22 ∷ 23 ∷ 24 ∷ 25 ∷ 26 ∷ 27 ∷ 28 ∷ 29 ∷ []) $
       begins 𝓣 fm refusing-known no-map-known start-known run-known l₀ l₁ l₂ l₃ l₄ l₅ l₆ l₇ l₈ l₉ l₁₀ l₁₁ l₁₂ l₁₃ l₁₄)))))))))))))))
 
-module _ {M : Type 1} (𝓤 : URA M) (H : Heap 𝓤) (A : Atoms 𝓤) (W : Given 𝓤 H A) (at-mem : Memory → SProp 𝓤) (ran : Routine → Fun 𝓤) (𝓣 : Tables 𝓤 H) (refusing-known : Triple 𝓤 (𝓣 .C #blocks·block-refusal) (Refusing 𝓤 H A at-mem ran))
+module _ {M : Type 1} (𝓤 : URA M) (H : Heap 𝓤) (A : Atoms 𝓤) (W : Given 𝓤 H A) (at-mem : Memory → SProp 𝓤) (ran : Routine → Fun 𝓤) (𝓣 : Tables 𝓤 H) (refusing-known : Triple 𝓤 (𝓣 .C #blocks-check·block-refusal) (Refusing 𝓤 H A at-mem ran))
     (no-map-known : Triple 𝓤 (𝓣 .C #register-map·refused) (NoMap 𝓤 H A at-mem ran)) (start-known : Triple 𝓤 (𝓣 .C #block·start-pool) (Start 𝓤 H A at-mem ran)) (run-known : Triple 𝓤 (𝓣 .C #blocks·run-instructions) (Run 𝓤 H A at-mem ran)) where
   lower-instructions-walks : Walks 𝓤 H A lower-instructions.ended stayed (WpFn 𝓤 H (𝓣 .C) (𝓣 .Λ) code.function) (lower-instructions.clauses 𝓤 H A at-mem ran)
   lower-instructions-walks =
@@ -373,7 +373,7 @@ lower-instructions-spec 𝓤 H 𝓜 𝓖 𝓡 =
     entered 𝓤 H (tripleOf 𝓤 H (𝓖 .A) lower-instructions.signature (lower-instructions.spec 𝓤 H (𝓖 .A) (𝓜 .mem) (𝓡 .run)))
     (tables 𝓤 H 𝓜 𝓡 code.env .C) (tables 𝓤 H 𝓜 𝓡 code.env .Λ) #blocks·lower-instructions code.function (code.unfolded 𝓤 H 𝓜 𝓡)
     (lower-instructions-meets 𝓤 H (𝓖 .A) (givenOf 𝓤 H 𝓜 𝓖) (𝓜 .mem) (𝓡 .run) (tablesOf 𝓤 H 𝓜 (tables 𝓤 H 𝓜 𝓡 code.env))
-    (cited 𝓤 H (Refusing 𝓤 H (𝓖 .A) (𝓜 .mem) (𝓡 .run)) 𝓜 𝓡 code.env #blocks·block-refusal block-refusal-def.routine code.calls-blocks·block-refusal (block-refusal-thm.met 𝓤 H 𝓜 𝓖 𝓡))
+    (cited 𝓤 H (Refusing 𝓤 H (𝓖 .A) (𝓜 .mem) (𝓡 .run)) 𝓜 𝓡 code.env #blocks-check·block-refusal block-refusal-def.routine code.calls-blocks-check·block-refusal (block-refusal-thm.met 𝓤 H 𝓜 𝓖 𝓡))
     (cited 𝓤 H (NoMap 𝓤 H (𝓖 .A) (𝓜 .mem) (𝓡 .run)) 𝓜 𝓡 code.env #register-map·refused no-map-def.routine code.calls-register-map·RegisterMap·refused (no-map-thm.met 𝓤 H 𝓜 𝓖 𝓡))
     (cited 𝓤 H (Start 𝓤 H (𝓖 .A) (𝓜 .mem) (𝓡 .run)) 𝓜 𝓡 code.env #block·start-pool start-pool-def.routine code.calls-block·start-pool (start-pool-thm.met 𝓤 H 𝓜 𝓖 𝓡))
     (cited 𝓤 H (Run 𝓤 H (𝓖 .A) (𝓜 .mem) (𝓡 .run)) 𝓜 𝓡 code.env #blocks·run-instructions run-instructions-def.routine code.calls-blocks·run-instructions (run-instructions-thm.met 𝓤 H 𝓜 𝓖 𝓡)))

@@ -53,7 +53,8 @@ use Rattle.lower_record.proofs.lower_record as lower-record
 use Rattle.lower_record.proofs.lower_record.Symbol as lower-record-def
 use Rattle.lower_record.proofs.lower_record.Symbol.{name as #lower-record·lower-record}
 use Rattle.lower_record.proofs.lower_record.Met as lower-record-thm
-use Rattle.blocks.proofs.Walking.{needs3, says3, Fits, six}
+use Rattle.blocks_check.proofs.Six.{Fits, six}
+use Rattle.blocks.proofs.Walking.{needs3, says3}
 use Rattle.blocks.proofs.lower_record_in.Key.{name as #blocks·lower-record-in}
 use Rattle.blocks.proofs.lower_record_in as lower-record-in
 use Rattle.blocks.proofs.lower_record_in.Statement as stated

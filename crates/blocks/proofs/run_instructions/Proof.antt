@@ -59,8 +59,10 @@ use Rattle.neon.proofs.Instruction as T₁
 use Rattle.neon.proofs.Instruction.Laws as T₁′
 use Rattle.register_map.proofs.RegisterMap as T
 use Rattle.blocks.proofs.Again.{LentAgain as SliceLent, lends-again as slice-lends, comes-back as slice-back}
-use Rattle.blocks.proofs.Listed.{none, Ran, ran-none, ran-more, ran-all, ran-ok}
-use Rattle.blocks.proofs.Walking.{needs3, says3, Fits, six}
+use Rattle.blocks_check.proofs.Listed.{none}
+use Rattle.blocks.proofs.Listed.{Ran, ran-none, ran-more, ran-all, ran-ok}
+use Rattle.blocks_check.proofs.Six.{Fits, six}
+use Rattle.blocks.proofs.Walking.{needs3, says3}
 use Rattle.blocks.proofs.lower_record_in as lower-record-in
 use Rattle.blocks.proofs.lower_record_in.Symbol as lower-record-in-def
 use Rattle.blocks.proofs.lower_record_in.Symbol.{name as #blocks·lower-record-in}

@@ -1,4 +1,4 @@
--- `blocks::block_refusal` meets its contract: a walk of its MIR, by hand. The loop's variant is the place k, before which each record is accepted.
+-- `block_refusal` meets its contract: a walk of its MIR, by hand. The loop's variant is the place k, before which each record is accepted.
 -- A turn reads record k whole and calls `record_number`, which is covered, with the record's fields; `size_number` is called before the loop.
 -- Assumes nothing.
 use mathlib.Core.Path.{_≡_, refl, sym, ap}
@@ -63,12 +63,12 @@ use Rattle.block_check.proofs.record_number as record-number
 use Rattle.block_check.proofs.record_number.Symbol as record-number-def
 use Rattle.block_check.proofs.record_number.Symbol.{name as #block-check·record-number}
 use Rattle.block_check.proofs.record_number.Met as record-number-thm
-use Rattle.blocks.proofs.Listed.{none, Passed, passed-none, passed-more, refused-size, refused-here, refused-none}
-use Rattle.blocks.proofs.Walking.{Fits, six}
-use Rattle.blocks.proofs.block_refusal.Key.{name as #blocks·block-refusal}
-use Rattle.blocks.proofs.block_refusal as block-refusal
-use Rattle.blocks.proofs.block_refusal.Statement as stated
-use Rattle.blocks.proofs.block_refusal.Code as code
+use Rattle.blocks_check.proofs.Listed.{none, Passed, passed-none, passed-more, refused-size, refused-here, refused-none}
+use Rattle.blocks_check.proofs.Six.{Fits, six}
+use Rattle.blocks_check.proofs.block_refusal.Key.{name as #blocks-check·block-refusal}
+use Rattle.blocks_check.proofs.block_refusal as block-refusal
+use Rattle.blocks_check.proofs.block_refusal.Statement as stated
+use Rattle.blocks_check.proofs.block_refusal.Code as code
 
 -- a record
 abbrev R : RattleType
@@ -315,7 +315,7 @@ pub block-refusal-spec : {M : Type 1} → stated.statement M
 unfolding code.routine tablesOf
 block-refusal-spec 𝓤 H 𝓜 𝓖 𝓡 =
     entered 𝓤 H (tripleOf 𝓤 H (𝓖 .A) block-refusal.signature (block-refusal.spec 𝓤 H (𝓖 .A) (𝓜 .mem) (𝓡 .run)))
-    (tables 𝓤 H 𝓜 𝓡 code.env .C) (tables 𝓤 H 𝓜 𝓡 code.env .Λ) #blocks·block-refusal code.function (code.unfolded 𝓤 H 𝓜 𝓡)
+    (tables 𝓤 H 𝓜 𝓡 code.env .C) (tables 𝓤 H 𝓜 𝓡 code.env .Λ) #blocks-check·block-refusal code.function (code.unfolded 𝓤 H 𝓜 𝓡)
     (block-refusal-meets 𝓤 H (𝓖 .A) (givenOf 𝓤 H 𝓜 𝓖) (𝓜 .mem) (𝓡 .run) (tablesOf 𝓤 H 𝓜 (tables 𝓤 H 𝓜 𝓡 code.env))
     (cited 𝓤 H (Size 𝓤 H (𝓖 .A) (𝓜 .mem) (𝓡 .run)) 𝓜 𝓡 code.env #block-check·size-number size-number-def.routine code.calls-block-check·size-number (size-number-thm.met 𝓤 H 𝓜 𝓖 𝓡))
     (cited 𝓤 H (Number 𝓤 H (𝓖 .A) (𝓜 .mem) (𝓡 .run)) 𝓜 𝓡 code.env #block-check·record-number record-number-def.routine code.calls-block-check·record-number (record-number-thm.met 𝓤 H 𝓜 𝓖 𝓡)))
