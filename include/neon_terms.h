@@ -3,9 +3,13 @@
  *
  * Memory. Nothing is allocated and nothing is kept: a function reads and writes what is lent to it, during the call alone. A
  * slice is a pointer and a number of entries. The pointer has to be aligned and good for that many entries, and not null, also
- * where the number is 0. What is lent by a pointer without const must not overlap anything else that is lent. These are the
- * only duties of a caller: whatever the words and the numbers are, a function answers, and a refusal writes to neither pool
- * nor buffer.
+ * where the number is 0. What is lent by a pointer without const must not overlap anything else that is lent. These, and the
+ * stack, are the only duties of a caller: whatever the words and the numbers are, a function answers, and a refusal writes to
+ * neither pool nor buffer.
+ *
+ * Stack. The two functions on texts call themselves for each level of a term, and take at most 80 bytes a level: 5.3 MB for the
+ * deepest pool. A level has 5 characters or more, so a buffer or a ceiling of 100,000 bytes or less needs 1.6 MB at most. The
+ * other functions take a few kilobytes.
  *
  * Pool. Four words a node; places = words / 4, or 65,535 if that is less; nodes 0 to count - 1 are in use.
  *   word 0   kind + 65,536 * width; the width is 1 to 129 bits, or 0 for a condition

@@ -1,9 +1,29 @@
 //! The calls of libexports.a: include/neon_terms.h tells what they promise. Each is safe to call on any slices and numbers: a
-//! slice of Rust is aligned and not null, and one that is lent to be written overlaps no other.
+//! slice of Rust is aligned and not null, one that is lent to be written overlaps no other, and a text that may be deep gets a
+//! stack that is deep enough.
+
+use std::thread;
 
 pub const RESERVE: usize = 1024;
 pub const RESULTS: usize = 34;
 pub const NO_NODE: usize = 65535;
+
+/// A text of so many bytes has at most a fifth as many levels, of 80 bytes of stack each: 1.1 MB, which every thread has.
+const SHALLOW: usize = 65536;
+
+/// 65,534 levels of 80 bytes, and to spare.
+const DEEP_STACK: usize = 8 << 20;
+
+/// A call that reads or writes a text of up to so many bytes.
+fn with_stack<T: Send>(bytes: usize, call: impl FnOnce() -> T + Send) -> T {
+    if bytes <= SHALLOW {
+        return call();
+    }
+    thread::scope(|scope| {
+        let thread = thread::Builder::new().stack_size(DEEP_STACK).spawn_scoped(scope, call).expect("a thread can be started");
+        thread.join().expect("a call of the library ends")
+    })
+}
 
 unsafe extern "C" {
     safe fn neon_form_code(operation: u64, arrangement: u64) -> u64;
@@ -40,14 +60,18 @@ pub fn lower_block(pool: &mut [u64], records: &[u64], results: &mut [u64]) -> u6
 
 /// Number and length.
 pub fn write_text(pool: &[u64], count: usize, node: usize, buffer: &mut [u8]) -> (u64, usize) {
-    let mut length = 0;
-    let number = unsafe { neon_write_text(pool.as_ptr(), pool.len(), count, node, buffer.as_mut_ptr(), buffer.len(), &mut length) };
-    (number, length)
+    with_stack(buffer.len(), || {
+        let mut length = 0;
+        let number = unsafe { neon_write_text(pool.as_ptr(), pool.len(), count, node, buffer.as_mut_ptr(), buffer.len(), &mut length) };
+        (number, length)
+    })
 }
 
 /// Number and length.
 pub fn text_length(pool: &[u64], count: usize, node: usize, ceiling: u32) -> (u64, usize) {
-    let mut length = 0;
-    let number = unsafe { neon_text_length(pool.as_ptr(), pool.len(), count, node, ceiling, &mut length) };
-    (number, length)
+    with_stack(ceiling as usize, || {
+        let mut length = 0;
+        let number = unsafe { neon_text_length(pool.as_ptr(), pool.len(), count, node, ceiling, &mut length) };
+        (number, length)
+    })
 }

@@ -15,7 +15,8 @@ use Rattle.neon.specs.Op.{opAt, arrangementAt, isOperation, isArrangement, lane
 use Rattle.neon.specs.Form.{hasForm, hasSecond, least, most}
 use Rattle.neon.specs.Refusal.{formNumber, mostM, registersOk, recordNumber, Legal, AllLegal, refusal, recordsRefusal, blockRefusal}
 use Rattle.neon.proofs.Legal.{m-le, form-rest, form-first}
-use Rattle.block_check.specs.Records.{recordAt, recordsFrom, recordsOf, placesIn, sizeNumber}
+use Rattle.pool.specs.Node.{placesIn}
+use Rattle.block_check.specs.Records.{recordAt, recordsFrom, recordsOf, sizeNumber}
 
 -- ---- one record
 

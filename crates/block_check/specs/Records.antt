@@ -26,10 +26,6 @@ recordsFrom flat j (suc k) = recordAt flat j ∷ recordsFrom flat (suc j) k
 abbrev pub recordsOf : List ℕ → List Instruction
 recordsOf flat = recordsFrom flat 0 (length flat / 6)
 
--- how many nodes so many words have places for
-abbrev pub placesIn : ℕ → ℕ
-placesIn words = Prim.Native.Nat.min (words / 4) 65535
-
 -- 8 or 6: more records than a block may have, or than so many places hold; else 0
 unfoldable pub sizeNumber : (places count : ℕ) → ℕ
 sizeNumber places count = unless (leb count mostRecords) 8 (unless (leb (32 + reserve * count) places) 6 0)

@@ -2,8 +2,8 @@
 // last whole record are not read. The Rust has no counterpart: it lowers one instruction at a time.
 ghost use mathlib.Core.Path.{_≡_};
 ghost use Rattle.neon.specs.Refusal.{recordNumber, recordsRefusal, blockRefusal};
-ghost use Rattle.pool.specs.Node.{places};
-ghost use Rattle.block_check.specs.Records.{instruction, recordsOf, placesIn, sizeNumber, Refuses};
+ghost use Rattle.pool.specs.Node.{places, placesIn};
+ghost use Rattle.block_check.specs.Records.{instruction, recordsOf, sizeNumber, Refuses};
 
 // 0 and 0, or the number and the position that refuse a block.
 pub struct Refused {

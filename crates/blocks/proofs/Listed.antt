@@ -9,12 +9,12 @@ use lib.ListN.{length, getD, take}
 use lib.Seq.{take-suc, take-all, length-take-le}
 use Rattle.neon.specs.declared.Instruction.{Instruction}
 use Rattle.neon.specs.Refusal.{reserve, Legal, AllLegal, blockRefusal}
-use Rattle.pool.specs.Node.{places}
+use Rattle.pool.specs.Node.{places, placesIn}
 use Rattle.pool.specs.Growth.{Room}
 use Rattle.register_map.specs.declared.RegisterMap.{RegisterMap}
 use Rattle.register_map.specs.Map.{firstMap, noMap}
 use Rattle.block_check.specs.declared.Refused.{Refused}
-use Rattle.block_check.specs.Records.{placesIn, Refuses}
+use Rattle.block_check.specs.Records.{Refuses}
 use Rattle.block_check.proofs.Refusals.{block-legal}
 use Rattle.lower_record.specs.Step.{MapOk, Steps}
 use Rattle.block.specs.Block.{Started, Runs, Answered}

@@ -1,5 +1,5 @@
 // A block as a list of records, on a map of the registers that the caller lends (document 01, "The forms we expect"). These
-// functions are thin walks: block_check, lower_record and block do the work, and serve callers that have flat numbers.
+// functions only take records apart: block_check, lower_record and block do the work, and serve callers that have flat numbers.
 // The Rust has no counterpart: it lowers one instruction at a time.
 use block_check::Refused;
 use blocks_check::block_refusal;

@@ -1,8 +1,9 @@
-// The refusals of a block that comes as a list of records: a thin walk over those of block_check.
+// The refusals of a block that comes as a list of records. block_check has the test of one record.
 use block_check::Refused;
 use neon::Instruction;
 ghost use Rattle.neon.specs.Refusal.{blockRefusal};
-ghost use Rattle.block_check.specs.Records.{placesIn, Refuses};
+ghost use Rattle.pool.specs.Node.{placesIn};
+ghost use Rattle.block_check.specs.Records.{Refuses};
 
 // What refuses a block of these records for a pool of so many words.
 pub fn block_refusal(words: usize, records: &[Instruction]) -> Refused

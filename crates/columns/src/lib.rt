@@ -31,7 +31,7 @@ fn field(line: &[u8], at: usize) -> u64
     1000 * a + 100 * b + 10 * c + d
 }
 
-// The character above the last place, from the digits down to it: a blank where all of them are 0.
+// The character of a column but the last: `above` is the number that the digits up to this column make. A blank where it is 0.
 fn character(above: u64) -> u8
     ensures { λ r. ⌜ r ≡ characterOf above ⌝ }
 {

@@ -1,5 +1,5 @@
 -- What an accepted instruction leaves, from its lowering. Assumes nothing.
-use Prim.Native.Nat.{ℕ, _+_, _/_, _≤_, _<_}
+use Prim.Native.Nat.{ℕ, _+_, _≤_, _<_}
 use mathlib.Core.Path.{_≡_, refl, sym, ap}
 use mathlib.Core.Bool.{Bool, true, _&&_}
 use mathlib.Core.List.{List, []}
@@ -14,7 +14,7 @@ use Rattle.neon.specs.Refusal.{formNumber}
 use Rattle.trees.specs.Neon.{resultTree}
 use Rattle.pool.specs.declared.Node.{Node}
 use Rattle.pool.specs.declared.Built.{Built}
-use Rattle.pool.specs.Node.{widthAt, places}
+use Rattle.pool.specs.Node.{widthAt, places, placesIn}
 use Rattle.pool.specs.Rules.{okPool, poolOk}
 use Rattle.pool.specs.Unfold.{unfoldAt}
 use Rattle.pool.specs.Growth.{NodeIs, Room}
@@ -66,7 +66,7 @@ module _ (ws : List ℕ) (count operation arrangement i : ℕ) (d n m : Node) (h
   -- a pool that grew within its places passes the check
   checked : (new : List ℕ) (k : ℕ) → length new ≡ length ws → k ≤ count + 1024 → okPool new k ≡ true → poolOk new k ≡ true
   checked new k e l q =
-      let same : places new ≡ places ws = ap (λ (x : ℕ). Prim.Native.Nat.min (x / 4) 65535) e in
+      let same : places new ≡ places ws = ap placesIn e in
       rw (le-leb k (places new) (omega (arith, same, p .room, l)), q) refl
 
   pub lowered : {new : List ℕ} {r : Built}

@@ -94,8 +94,8 @@ fn run(pool: &mut [u64], held: &mut [u8], input: &mut [u8], out: &mut [u8]) {
 }
 
 fn main() {
-    let mut pool = [0u64; 4224];
-    let mut held = [0u8; 25];
+    let mut pool = [0u64; lines::POOL_WORDS];
+    let mut held = [0u8; lines::LINE_ROOM];
     let mut input = [0u8; 65536];
     let mut out = [0u8; 262144];
     run(&mut pool, &mut held, &mut input, &mut out);

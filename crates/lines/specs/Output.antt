@@ -5,11 +5,12 @@ use Prim.Native.Nat.{ℕ}
 use lib.Dec.{eqb}
 use Rattle.lines.specs.Line.{answer}
 
--- `line` came before: an answer for each newline, and for a last line that has none
+-- the answer to a last line that no newline ends: none where it is empty
 abbrev pub lastAnswer : (places : ℕ) → List ℕ → List ℕ
 lastAnswer places [] = []
 lastAnswer places (b ∷ line) = answer places (b ∷ line)
 
+-- the answers to the lines of an input, of whose first line `line` came before
 unfoldable pub outputFrom : (places : ℕ) → (line input : List ℕ) → List ℕ
 outputFrom places line [] = lastAnswer places line
 outputFrom places line (b ∷ input) =

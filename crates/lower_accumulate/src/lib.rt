@@ -1,3 +1,3 @@
-// The Rust's neon/lower/arith.rs: the families that add to the old destination's lanes.
+// The Rust's neon/lower/arith.rs: absolute differences, alone or added to the old destination, and sums of mixed sign.
 pub mod difference;
 pub mod mixed;

@@ -12,7 +12,7 @@ ghost use Rattle.trees.specs.Arith.{leadingZeros, populationCount, bitwiseUnary
 ghost use Rattle.lower.specs.Builds.{Builds1, Builds2};
 ghost use Rattle.lower_bits.specs.Layers.{zerosAt, countAt};
 
-// The layer that tests one bit, above the ladder of the bits below it.
+// The test of one bit; `rest` has the tests of the bits below it.
 fn zeros_at(pool: &mut [u64], count: usize, value: Node, rest: Node, bits: u64, bit: Bit) -> Built
     requires { ⌜ Room (now pool) count 5 ⌝ }
     requires { ⌜ (value .0 < count) × (rest .0 < count) × (bit .0 < bits) × (bits ≤ 64) ⌝ }
@@ -26,7 +26,7 @@ fn zeros_at(pool: &mut [u64], count: usize, value: Node, rest: Node, bits: u64, 
     pool::ite(pool, zeros.count, set.node, zeros.node, rest)
 }
 
-// How many leading bits are zero. The ladder grows from the lowest bit, so that the test of the highest stands outermost.
+// How many leading bits are zero. The tests begin with the lowest bit, so that that of the highest stands outermost.
 pub fn leading_zeros(pool: &mut [u64], count: usize, value: Node, bits: u64) -> Built
     requires { ⌜ Room (now pool) count (5 * bits + 1) ⌝ }
     requires { ⌜ (value .0 < count) × (1 ≤ bits) × (bits ≤ 64) ⌝ }

@@ -1,5 +1,5 @@
 // One record of a block: the reads of its registers, the lowering of its form, and the widening of its result.
-// The Rust has no counterpart: it asks its caller for the sources' terms.
+// The Rust's lift_neon does this over a map of its own, which keeps terms and no nodes.
 use pool::Bit;
 use pool::Built;
 use pool::Node;

@@ -11,7 +11,7 @@ ghost use Rattle.pool.specs.Growth.{Room};
 ghost use Rattle.trees.specs.Arith.{saturatingLane};
 ghost use Rattle.lower.specs.Builds.{Builds2};
 
-// One bit more makes the sum or the difference exact, so that the clamp sees the true value.
+// With one bit more the sum or the difference is exact before it is clamped.
 pub fn add_sub_lane(
     pool: &mut [u64],
     count: usize,

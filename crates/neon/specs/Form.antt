@@ -164,7 +164,7 @@ isNarrow Same = false
 isNarrow Narrow = true
 isNarrow (Long u) = false
 
--- a "2" form keeps half of d
+-- a narrowing "2" form keeps half of d
 abbrev pub readsD : Op → Arrangement → Bool
 readsD o v = dIn (form o .reads) || isNarrow (form o .lanes) && full v
 

@@ -98,6 +98,9 @@ writeNode ws n w0 w1 w2 w3 = set (set (set (set ws (4 * n) w0) (4 * n + 1) w1) (
 abbrev pub none : ℕ
 none = 65535
 
--- how many nodes the words have places for
+-- how many nodes so many words have places for
+abbrev pub placesIn : ℕ → ℕ
+placesIn words = Prim.Native.Nat.min (words / 4) none
+
 abbrev pub places : List ℕ → ℕ
-places ws = Prim.Native.Nat.min (length ws / 4) none
+places ws = placesIn (length ws)

@@ -22,7 +22,7 @@ shapeOf sext k A B C = SignExtend A (k .width)
 abbrev pub shape : Cell → Expr → Expr → Expr → Expr
 shape k A B C = shapeOf (k .kind) k A B C
 
--- an operand has a smaller number; what has none stands for Var 0
+-- an operand has a smaller number than its node; one that has not stands for Var 0
 abbrev pub earlier : Bool → Expr → Expr
 earlier true e = e
 earlier false e = Var 0

@@ -1,4 +1,4 @@
-// The arguments that the Rust's resolvers give for each operation (document 01, "Forms").
+// The Rust's arguments for each operation (document 01, "Forms").
 use terms::BinOp;
 use trees::BitwiseUnary;
 use trees::Combine;
@@ -58,6 +58,12 @@ fn halving(rounding: bool, signed: bool) -> NeonOp
     ensures { λ r. ⌜ r ≡ NeonOp.Saturating (SaturatingKind.Halving rounding) signed false ⌝ }
 {
     saturating(SaturatingKind::Halving { rounding }, signed, false)
+}
+
+fn narrow_to(to: SaturateTo, signed: bool, upper: bool) -> NeonOp
+    ensures { λ r. ⌜ r ≡ NeonOp.Saturating (SaturatingKind.Narrow to) signed upper ⌝ }
+{
+    saturating(SaturatingKind::Narrow { to }, signed, upper)
 }
 
 fn shift_narrow(shift: u64, rounding: bool, to: Saturate, signed: bool, upper: bool) -> NeonOp
@@ -140,27 +146,9 @@ pub fn narrow(operation: u64, i: u64, upper: bool) -> NeonOp
     ensures { λ r. ⌜ r ≡ neonOp (opAt operation) i upper ⌝ }
 {
     match operation {
-        27 => saturating(
-            SaturatingKind::Narrow {
-                to: SaturateTo::Signed,
-            },
-            true,
-            upper,
-        ),
-        28 => saturating(
-            SaturatingKind::Narrow {
-                to: SaturateTo::Unsigned,
-            },
-            false,
-            upper,
-        ),
-        29 => saturating(
-            SaturatingKind::Narrow {
-                to: SaturateTo::SignedToUnsigned,
-            },
-            true,
-            upper,
-        ),
+        27 => narrow_to(SaturateTo::Signed, true, upper),
+        28 => narrow_to(SaturateTo::Unsigned, false, upper),
+        29 => narrow_to(SaturateTo::SignedToUnsigned, true, upper),
         30 => shift_narrow(i, false, Saturate::Never, false, upper),
         31 => shift_narrow(i, true, Saturate::Never, false, upper),
         32 => shift_narrow(i, false, Saturate::Into(SaturateTo::Signed), true, upper),

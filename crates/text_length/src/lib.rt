@@ -1,4 +1,4 @@
-// The length of a node's text, by a pass that gives up once a ceiling is passed.
+// The length of a node's text, by a pass that stops once a ceiling is passed.
 use digits::decimal_length;
 use digits::less;
 use digits::less_hex;

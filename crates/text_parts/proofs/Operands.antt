@@ -1,4 +1,4 @@
--- The operands of a node of a valid pool, by the number of its kind: what a text of the node leans on. Assumes nothing.
+-- The operands of a node of a valid pool, by the number of its kind: what is needed to write its text. Assumes nothing.
 use Prim.Native.Nat.{ℕ, zero, suc, _+_, _*_, _≤_, _<_}
 use mathlib.Core.Path.{_≡_, refl, sym, _∙_, subst}
 use mathlib.Core.Bool.{Bool, true, false}

@@ -82,10 +82,9 @@ fn write_condition(p: &[u64], n: Node, buf: &mut [u8], at: usize) -> usize
     put(b")", buf, m)
 }
 
-// An operand that is a vector term, and an Ite's condition. A call through these, which the compiler
-// puts in line, leaves `write_term` one place in its frame for the buffer's reference in the stead of
-// one for each call: 80 bytes a level of nesting, and not 240. For its sake a kind is read again, too,
-// and not kept while an operand is written.
+// An operand that is a vector term, and an Ite's condition. The compiler puts these two in line, so that
+// `write_term` has one place in its frame for the buffer's reference and not one for each call: 80 bytes
+// a level of nesting, and not 240. A kind is read again, and not kept, for the same reason.
 fn operand(p: &[u64], n: Node, buf: &mut [u8], at: usize) -> usize
     requires { ⌜ Ready (now p) (n .0) ⌝ }
     requires { ⌜ 1 ≤ widthAt (now p) (n .0) ⌝ }

@@ -245,7 +245,7 @@ narrowing (ShiftNarrow shift rounding to) = true
 narrowing (DoublingMultiplyHigh rounding) = false
 narrowing (Unary negate) = false
 
--- the 2 forms keep the lower half of d
+-- a narrowing "2" form keeps the lower half of d
 abbrev pub keepLower : (upper : Bool) (new d : Expr) (n k : ℕ) → Expr
 keepLower true new d n k = Concat new (extract d (n * k - 1) 0)
 keepLower false new d n k = new

@@ -1,4 +1,4 @@
--- The value of the Rust's tree for a lane is the Arm value, for each of the 67 operations and every lane width n from 8 on. Assumes nothing.
+-- The value of the Rust's tree for a lane is the Arm value, for each of the 67 operations and every even lane width n from 8 on. Assumes nothing.
 use mathlib.Core.Path.{_≡_, ap, subst}
 use mathlib.Core.Bool.{Bool, true, false}
 use Prim.Native.Nat.{ℕ, _-_, _*_, _/_, _^_, _≤_, _<_}

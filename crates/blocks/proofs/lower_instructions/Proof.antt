@@ -50,7 +50,8 @@ use Rattle.pool.specs.Growth.{Room as Places}
 use Rattle.register_map.specs.declared.RegisterMap.{RegisterMap}
 use Rattle.register_map.specs.Map.{firstMap, noMap}
 use Rattle.block_check.specs.declared.Refused.{Refused}
-use Rattle.block_check.specs.Records.{placesIn, Refuses}
+use Rattle.pool.specs.Node.{placesIn}
+use Rattle.block_check.specs.Records.{Refuses}
 use Rattle.lower_record.specs.Step.{MapOk}
 use Rattle.block.specs.Block.{Started, Runs, Answered}
 use Rattle.neon.proofs.Instruction as T₁

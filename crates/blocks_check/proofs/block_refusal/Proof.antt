@@ -50,7 +50,8 @@ use denote.Exit.{yes}
 use Rattle.neon.specs.declared.Instruction.{Instruction}
 use Rattle.neon.specs.Refusal.{recordNumber, blockRefusal}
 use Rattle.block_check.specs.declared.Refused.{Refused}
-use Rattle.block_check.specs.Records.{placesIn, sizeNumber, Refuses}
+use Rattle.pool.specs.Node.{placesIn}
+use Rattle.block_check.specs.Records.{sizeNumber, Refuses}
 use Rattle.neon.proofs.Instruction as T₁
 use Rattle.neon.proofs.Instruction.Laws as T₁′
 use Rattle.block_check.proofs.Refused as T

@@ -1,4 +1,4 @@
--- The cycle of the writers: the node number falls at each call. Assumes nothing.
+-- The cycle of the writers: the node number falls from each writer to the next. Assumes nothing.
 mod Writers
 mod Conditions
 mod Infixes

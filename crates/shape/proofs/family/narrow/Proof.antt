@@ -6,14 +6,14 @@ use borrow.Author.Needs.{needs}
 use Rattle.shape.proofs.family.narrow.Statement.{statement}
 use Rattle.shape.proofs.family.narrow.Tie as tie
 
-saturating-requires : tie.Need-saturating-requires
-saturating-requires c κs = search needs
+narrow-to-requires : tie.Need-narrow-to-requires
+narrow-to-requires c κs = search needs
 
-saturating-requires-2 : tie.Need-saturating-requires-2
-saturating-requires-2 c κs = search needs
+narrow-to-requires-2 : tie.Need-narrow-to-requires-2
+narrow-to-requires-2 c κs = search needs
 
-saturating-requires-3 : tie.Need-saturating-requires-3
-saturating-requires-3 c κs = search needs
+narrow-to-requires-3 : tie.Need-narrow-to-requires-3
+narrow-to-requires-3 c κs = search needs
 
 shift-narrow-requires : tie.Need-shift-narrow-requires
 shift-narrow-requires c κs = search needs
@@ -42,23 +42,23 @@ shift-narrow-requires-8 c κs = search needs
 returns : tie.Need-returns
 unfolding opAt operations
 returns c =
-    let l-saturating = c in
-    let l-match = l-saturating .before in
-    l-saturating .saturating .ensures ∙ rw (l-match .match .keys1) refl
+    let l-narrow-to = c in
+    let l-match = l-narrow-to .before in
+    l-narrow-to .narrow-to .ensures ∙ rw (l-match .match .keys1) refl
 
 returns-2 : tie.Need-returns-2
 unfolding opAt operations
 returns-2 c =
-    let l-saturating2 = c in
-    let l-match = l-saturating2 .before in
-    l-saturating2 .saturating2 .ensures ∙ rw (l-match .match .keys2) refl
+    let l-narrow-to2 = c in
+    let l-match = l-narrow-to2 .before in
+    l-narrow-to2 .narrow-to2 .ensures ∙ rw (l-match .match .keys2) refl
 
 returns-3 : tie.Need-returns-3
 unfolding opAt operations
 returns-3 c =
-    let l-saturating3 = c in
-    let l-match = l-saturating3 .before in
-    l-saturating3 .saturating3 .ensures ∙ rw (l-match .match .keys3) refl
+    let l-narrow-to3 = c in
+    let l-match = l-narrow-to3 .before in
+    l-narrow-to3 .narrow-to3 .ensures ∙ rw (l-match .match .keys3) refl
 
 returns-4 : tie.Need-returns-4
 unfolding opAt operations
@@ -123,9 +123,9 @@ pub narrow-spec : {M : Type 1} → statement M
 narrow-spec =
     tie.close
     (tie.spec
-    saturating-requires
-    saturating-requires-2
-    saturating-requires-3
+    narrow-to-requires
+    narrow-to-requires-2
+    narrow-to-requires-3
     shift-narrow-requires
     shift-narrow-requires-2
     shift-narrow-requires-3

@@ -1,0 +1,28 @@
+//! The deepest term a pool can hold, on a test's thread of 2 MB.
+
+use neon_terms::{Node, Number, Pool};
+
+/// v0, then each node the sum of the one before and v0.
+fn chain(second: impl Fn(u64) -> u64) -> Pool {
+    let mut words = vec![1 + 65536 * 128, 0, 0, 0];
+    for last in 0..65534 {
+        words.extend([3 + 65536 * 128, last + 65536 * second(last), 0, 0]);
+    }
+    Pool::from_words(words, 65535).expect("the chain keeps the rules")
+}
+
+#[test]
+fn deepest_text() {
+    let pool = chain(|_| 0);
+    let text = pool.text(Node(65534)).unwrap();
+    assert_eq!(text.len(), 2 + 7 * 65534);
+    let mut short = vec![0; text.len() - 1];
+    assert_eq!(pool.write_text(Node(65534), &mut short).unwrap_err().number, Number::ShortBuffer);
+    assert!(short.iter().all(|byte| *byte == 0));
+}
+
+#[test]
+fn longest_text() {
+    let pool = chain(|last| last);
+    assert_eq!(pool.text(Node(65534)).unwrap_err().number, Number::ShortBuffer);
+}
