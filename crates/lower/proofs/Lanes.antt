@@ -47,12 +47,15 @@ concat-next i f h =
     ap (λ (j : ℕ). concatLanes j f) {x = i + 1 - 1} {y = suc (i - 1)} (omega arith) ∙ ap (λ (j : ℕ). Concat (f j) (concatLanes (i - 1) f)) (omega arith)
 
 module _ (lane : Expr → Expr → Expr → ℕ → Expr) {m n bits : ℕ} {d first second : Source} {ins : List ℕ} {k : ℕ} where
-  pub lanes-first : {w0 w1 : List ℕ} {r : Built} → n ≤ m → Lowers w0 k w1 r n bits d first second (λ td ta tb. lane td ta tb 0) ins
+  pub lanes-first : {w0 w1 : List ℕ} {r : Built} {j : ℕ} → j ≡ 0 → n ≤ m → Lowers w0 k w1 r n bits d first second (λ td ta tb. lane td ta tb j) ins
       → LanesTo w0 k w1 r m bits d first second lane ins 1
   unfolding concatLanes
-  lanes-first h e =
+  lanes-first {w0} {w1} {r} {j} z h e =
       rw (mul-one m, mul-one bits)
-      (record { sized = omega (arith, e .sized); made = λ v x y z. e .made v x y z })
+      (record {
+        sized = omega (arith, e .sized);
+        made = λ {td} {ta} {tb} v x y w. subst (λ (i : ℕ). Made w0 k w1 (r .node .0) (r .count) bits (lane td ta tb i) ins) z (e .made v x y w);
+      })
 
   pub lanes-more : {w0 w1 w2 w3 : List ℕ} {r1 r2 r3 : Built} {i : ℕ} {also : List ℕ} → 1 ≤ bits → 1 ≤ i → bits * (i + 1) ≤ 129 → n + 1 ≤ m
       → LanesTo w0 k w1 r1 m bits d first second lane ins i

@@ -91,7 +91,7 @@ pub fn mixed_sign_add_lanes(
         d,
         lane_bits,
         lanes,
-        Lane(0),
+        Lane::first(),
     );
     let mut i = 1;
     while i < lanes {

@@ -67,7 +67,7 @@ pub fn bitwise_unary_lanes(
     ensures { λ r. ⌜ Lowers (now (pool .entry)) count (now (pool .exit)) r ((5 * «lane_bits» + 3) * lanes) («lane_bits» * lanes) unread
         (read first («lane_bits» * lanes)) unread (λ d a b. bitwiseUnaryLanes op a «lane_bits» lanes) [] ⌝ }
 {
-    let mut acc = bitwise_at(pool, count, op, first, lane_bits, lanes, Lane(0));
+    let mut acc = bitwise_at(pool, count, op, first, lane_bits, lanes, Lane::first());
     let mut i = 1;
     while i < lanes {
         let lane = bitwise_at(pool, acc.count, op, first, lane_bits, lanes, Lane(i));

@@ -179,7 +179,7 @@ fn doubled_lanes(
         d,
         lane_bits,
         lanes,
-        Lane(0),
+        Lane::first(),
     );
     let mut i = 1;
     while i < lanes {

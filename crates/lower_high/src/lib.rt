@@ -99,7 +99,7 @@ fn narrowed_lanes(
         second,
         lane_bits,
         lanes,
-        Lane(0),
+        Lane::first(),
     );
     let mut i = 1;
     while i < lanes {

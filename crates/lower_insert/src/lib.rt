@@ -96,7 +96,7 @@ fn insert_lanes(
         d,
         lane_bits,
         lanes,
-        Lane(0),
+        Lane::first(),
     );
     let mut i = 1;
     while i < lanes {

@@ -121,7 +121,7 @@ fn made_lanes(
         second,
         lane_bits,
         lanes,
-        Lane(0),
+        Lane::first(),
     );
     let mut i = 1;
     while i < lanes {

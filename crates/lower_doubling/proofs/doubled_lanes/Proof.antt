@@ -17,14 +17,18 @@ Inv-loop pool₀ count combine upper first second d lane-bits lanes acc₀ i₀ 
 abbrev μ-loop : tie.MeasureT-loop
 μ-loop pool₀ count combine upper first second d lane-bits lanes acc₀ i₀ pool acc i = lanes - i
 
+first-requires : tie.Need-first-requires Inv-loop μ-loop
+first-requires c κs = tt
+
 doubling-at-requires : tie.Need-doubling-at-requires Inv-loop μ-loop
 doubling-at-requires c κs =
-    let st = c .before .before in
-    (omega (arith, st .pre), ((omega (arith, st .pre), omega (arith, st .pre), λ u. lt-of-lt-of-le (st .pre .1 .0 .2 u) (omega (arith, st .pre))), omega (arith, st .pre)))
+    let l-first = c in
+    let st = l-first .before .before .before in
+    (omega (arith, st .pre, l-first .first .ensures), ((omega (arith, st .pre, l-first .first .ensures), omega (arith, st .pre, l-first .first .ensures), λ u. lt-of-lt-of-le (st .pre .1 .0 .2 u) (omega (arith, st .pre, l-first .first .ensures))), omega (arith, st .pre, l-first .first .ensures)))
 
 loop-holds : tie.Need-loop-holds Inv-loop μ-loop
 loop-holds c =
-    let st = c .before .before .before .before .before in
+    let st = c .before .before .before .before .before .before in
     (omega arith, omega (arith, st .pre), λ old d. d)
 
 doubling-at-requires-2 : tie.Need-doubling-at-requires-2 Inv-loop μ-loop
@@ -32,8 +36,9 @@ doubling-at-requires-2 c κs =
     let l-loop-test = c .before in
     let l-loop = l-loop-test .before in
     let l-doubling-at = l-loop .before .before .before in
-    let st = l-doubling-at .before .before .before in
-    (omega (arith, st .pre, (l-loop .loop .inv .2 _ (lanes-first (doublingAt (st .args .combine) (st .args .second) (st .args .upper) (st .args .lane-bits) (st .args .lanes)) {m = 26} (omega arith) (l-doubling-at .doubling-at .ensures))) .sized, l-loop-test .loop-test .taken), ((omega (arith, st .pre, (l-loop .loop .inv .2 _ (lanes-first (doublingAt (st .args .combine) (st .args .second) (st .args .upper) (st .args .lane-bits) (st .args .lanes)) {m = 26} (omega arith) (l-doubling-at .doubling-at .ensures))) .sized, l-loop-test .loop-test .taken), omega (arith, st .pre, (l-loop .loop .inv .2 _ (lanes-first (doublingAt (st .args .combine) (st .args .second) (st .args .upper) (st .args .lane-bits) (st .args .lanes)) {m = 26} (omega arith) (l-doubling-at .doubling-at .ensures))) .sized, l-loop-test .loop-test .taken), λ u. lt-of-lt-of-le (st .pre .1 .0 .2 u) (omega (arith, st .pre, (l-loop .loop .inv .2 _ (lanes-first (doublingAt (st .args .combine) (st .args .second) (st .args .upper) (st .args .lane-bits) (st .args .lanes)) {m = 26} (omega arith) (l-doubling-at .doubling-at .ensures))) .sized, l-loop-test .loop-test .taken))), omega (arith, st .pre, (l-loop .loop .inv .2 _ (lanes-first (doublingAt (st .args .combine) (st .args .second) (st .args .upper) (st .args .lane-bits) (st .args .lanes)) {m = 26} (omega arith) (l-doubling-at .doubling-at .ensures))) .sized, l-loop-test .loop-test .taken)))
+    let l-first = l-doubling-at .before in
+    let st = l-first .before .before .before in
+    (omega (arith, st .pre, (l-loop .loop .inv .2 _ (lanes-first (doublingAt (st .args .combine) (st .args .second) (st .args .upper) (st .args .lane-bits) (st .args .lanes)) {m = 26} (l-first .first .ensures) (omega arith) (l-doubling-at .doubling-at .ensures))) .sized, l-loop-test .loop-test .taken), ((omega (arith, st .pre, (l-loop .loop .inv .2 _ (lanes-first (doublingAt (st .args .combine) (st .args .second) (st .args .upper) (st .args .lane-bits) (st .args .lanes)) {m = 26} (l-first .first .ensures) (omega arith) (l-doubling-at .doubling-at .ensures))) .sized, l-loop-test .loop-test .taken), omega (arith, st .pre, (l-loop .loop .inv .2 _ (lanes-first (doublingAt (st .args .combine) (st .args .second) (st .args .upper) (st .args .lane-bits) (st .args .lanes)) {m = 26} (l-first .first .ensures) (omega arith) (l-doubling-at .doubling-at .ensures))) .sized, l-loop-test .loop-test .taken), λ u. lt-of-lt-of-le (st .pre .1 .0 .2 u) (omega (arith, st .pre, (l-loop .loop .inv .2 _ (lanes-first (doublingAt (st .args .combine) (st .args .second) (st .args .upper) (st .args .lane-bits) (st .args .lanes)) {m = 26} (l-first .first .ensures) (omega arith) (l-doubling-at .doubling-at .ensures))) .sized, l-loop-test .loop-test .taken))), omega (arith, st .pre, (l-loop .loop .inv .2 _ (lanes-first (doublingAt (st .args .combine) (st .args .second) (st .args .upper) (st .args .lane-bits) (st .args .lanes)) {m = 26} (l-first .first .ensures) (omega arith) (l-doubling-at .doubling-at .ensures))) .sized, l-loop-test .loop-test .taken)))
 
 concat-requires : tie.Need-concat-requires Inv-loop μ-loop
 concat-requires c κs =
@@ -41,13 +46,14 @@ concat-requires c κs =
     let l-loop-test = l-doubling-at2 .before .before in
     let l-loop = l-loop-test .before in
     let l-doubling-at = l-loop .before .before .before in
-    let st = l-doubling-at .before .before .before in
-    omega (arith, st .pre, (l-loop .loop .inv .2 _ (lanes-first (doublingAt (st .args .combine) (st .args .second) (st .args .upper) (st .args .lane-bits) (st .args .lanes)) {m = 26} (omega arith) (l-doubling-at .doubling-at .ensures))) .sized, l-doubling-at2 .doubling-at2 .ensures .sized, l-loop-test .loop-test .taken)
+    let l-first = l-doubling-at .before in
+    let st = l-first .before .before .before in
+    omega (arith, st .pre, (l-loop .loop .inv .2 _ (lanes-first (doublingAt (st .args .combine) (st .args .second) (st .args .upper) (st .args .lane-bits) (st .args .lanes)) {m = 26} (l-first .first .ensures) (omega arith) (l-doubling-at .doubling-at .ensures))) .sized, l-doubling-at2 .doubling-at2 .ensures .sized, l-loop-test .loop-test .taken)
 
 add-i : tie.Need-add-i Inv-loop μ-loop
 add-i c =
     let l-loop-test = c .before .before .before .before .before .before .before .before in
-    let st = l-loop-test .before .before .before .before .before .before .before in
+    let st = l-loop-test .before .before .before .before .before .before .before .before in
     omega (arith, l-loop-test .loop-test .taken, st .fits .lanes)
 
 loop-less : tie.Need-loop-less Inv-loop μ-loop
@@ -61,24 +67,26 @@ loop-again c =
     let l-doubling-at2 = l-concat .before .before .before .before in
     let l-loop-test = l-doubling-at2 .before .before in
     let l-loop = l-loop-test .before in
-    let st = l-loop .before .before .before .before .before .before in
+    let st = l-loop .before .before .before .before .before .before .before in
     (omega arith, omega (arith, l-loop-test .loop-test .taken), λ old d. lanes-more (doublingAt (st .args .combine) (st .args .second) (st .args .upper) (st .args .lane-bits) (st .args .lanes)) (omega (arith, st .pre)) (l-loop .loop .inv .0) (omega (arith, st .pre, lane-fits (st .args .lane-bits) (l-loop .loop .i) (st .args .lanes) {w = 128} (l-loop-test .loop-test .taken) (omega (arith, st .pre)))) (omega arith) (l-loop .loop .inv .2 old d) (l-doubling-at2 .doubling-at2 .ensures) (l-concat .concat .ensures))
 
 same-length : tie.Need-same-length Inv-loop μ-loop
 same-length c =
     let l-loop = c .before in
     let l-doubling-at = l-loop .before .before .before in
-    let st = l-doubling-at .before .before .before in
-    omega (arith, (l-loop .loop .inv .2 _ (lanes-first (doublingAt (st .args .combine) (st .args .second) (st .args .upper) (st .args .lane-bits) (st .args .lanes)) {m = 26} (omega arith) (l-doubling-at .doubling-at .ensures))) .sized)
+    let l-first = l-doubling-at .before in
+    let st = l-first .before .before .before in
+    omega (arith, (l-loop .loop .inv .2 _ (lanes-first (doublingAt (st .args .combine) (st .args .second) (st .args .upper) (st .args .lane-bits) (st .args .lanes)) {m = 26} (l-first .first .ensures) (omega arith) (l-doubling-at .doubling-at .ensures))) .sized)
 
 returns : tie.Need-returns Inv-loop μ-loop
 returns c =
     let l-loop-test = c in
     let l-loop = l-loop-test .before in
     let l-doubling-at = l-loop .before .before .before in
-    let st = l-doubling-at .before .before .before in
+    let l-first = l-doubling-at .before in
+    let st = l-first .before .before .before in
     let e : l-loop .loop .i ≡ st .args .lanes = omega (arith, l-loop .loop .inv .1, l-loop-test .loop-test .left) in
-    lanes-all (doublingAt (st .args .combine) (st .args .second) (st .args .upper) (st .args .lane-bits) (st .args .lanes)) 26 (st .args .lane-bits) e (l-loop .loop .inv .2 _ (lanes-first (doublingAt (st .args .combine) (st .args .second) (st .args .upper) (st .args .lane-bits) (st .args .lanes)) {m = 26} (omega arith) (l-doubling-at .doubling-at .ensures)))
+    lanes-all (doublingAt (st .args .combine) (st .args .second) (st .args .upper) (st .args .lane-bits) (st .args .lanes)) 26 (st .args .lane-bits) e (l-loop .loop .inv .2 _ (lanes-first (doublingAt (st .args .combine) (st .args .second) (st .args .upper) (st .args .lane-bits) (st .args .lanes)) {m = 26} (l-first .first .ensures) (omega arith) (l-doubling-at .doubling-at .ensures)))
 
 pub doubled-lanes-spec : {M : Type 1} → statement M
 doubled-lanes-spec =
@@ -86,6 +94,7 @@ doubled-lanes-spec =
     (tie.spec
     Inv-loop
     μ-loop
+    first-requires
     doubling-at-requires
     loop-holds
     doubling-at-requires-2

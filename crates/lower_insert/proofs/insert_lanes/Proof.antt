@@ -15,14 +15,18 @@ Inv-loop pool₀ count left kept amount first d lane-bits lanes acc₀ i₀ pool
 abbrev μ-loop : tie.MeasureT-loop
 μ-loop pool₀ count left kept amount first d lane-bits lanes acc₀ i₀ pool acc i = lanes - i
 
+first-requires : tie.Need-first-requires Inv-loop μ-loop
+first-requires c κs = tt
+
 insert-at-requires : tie.Need-insert-at-requires Inv-loop μ-loop
 insert-at-requires c κs =
-    let st = c .before .before in
-    omega (arith, st .pre)
+    let l-first = c in
+    let st = l-first .before .before .before in
+    omega (arith, st .pre, l-first .first .ensures)
 
 loop-holds : tie.Need-loop-holds Inv-loop μ-loop
 loop-holds c =
-    let st = c .before .before .before .before .before in
+    let st = c .before .before .before .before .before .before in
     (omega arith, omega (arith, st .pre), λ old d. d)
 
 insert-at-requires-2 : tie.Need-insert-at-requires-2 Inv-loop μ-loop
@@ -30,8 +34,9 @@ insert-at-requires-2 c κs =
     let l-loop-test = c .before in
     let l-loop = l-loop-test .before in
     let l-insert-at = l-loop .before .before .before in
-    let st = l-insert-at .before .before .before in
-    omega (arith, st .pre, (l-loop .loop .inv .2 _ (lanes-first (insertAt (st .args .left) (st .args .kept) (st .args .lane-bits)) {m = 7} (omega arith) (l-insert-at .insert-at .ensures))) .sized, l-loop-test .loop-test .taken)
+    let l-first = l-insert-at .before in
+    let st = l-first .before .before .before in
+    omega (arith, st .pre, (l-loop .loop .inv .2 _ (lanes-first (insertAt (st .args .left) (st .args .kept) (st .args .lane-bits)) {m = 7} (l-first .first .ensures) (omega arith) (l-insert-at .insert-at .ensures))) .sized, l-loop-test .loop-test .taken)
 
 concat-requires : tie.Need-concat-requires Inv-loop μ-loop
 concat-requires c κs =
@@ -39,13 +44,14 @@ concat-requires c κs =
     let l-loop-test = l-insert-at2 .before .before in
     let l-loop = l-loop-test .before in
     let l-insert-at = l-loop .before .before .before in
-    let st = l-insert-at .before .before .before in
-    omega (arith, st .pre, (l-loop .loop .inv .2 _ (lanes-first (insertAt (st .args .left) (st .args .kept) (st .args .lane-bits)) {m = 7} (omega arith) (l-insert-at .insert-at .ensures))) .sized, l-insert-at2 .insert-at2 .ensures .sized, l-loop-test .loop-test .taken)
+    let l-first = l-insert-at .before in
+    let st = l-first .before .before .before in
+    omega (arith, st .pre, (l-loop .loop .inv .2 _ (lanes-first (insertAt (st .args .left) (st .args .kept) (st .args .lane-bits)) {m = 7} (l-first .first .ensures) (omega arith) (l-insert-at .insert-at .ensures))) .sized, l-insert-at2 .insert-at2 .ensures .sized, l-loop-test .loop-test .taken)
 
 add-i : tie.Need-add-i Inv-loop μ-loop
 add-i c =
     let l-loop-test = c .before .before .before .before .before .before .before .before in
-    let st = l-loop-test .before .before .before .before .before .before .before in
+    let st = l-loop-test .before .before .before .before .before .before .before .before in
     omega (arith, l-loop-test .loop-test .taken, st .fits .lanes)
 
 loop-less : tie.Need-loop-less Inv-loop μ-loop
@@ -59,24 +65,26 @@ loop-again c =
     let l-insert-at2 = l-concat .before .before .before .before in
     let l-loop-test = l-insert-at2 .before .before in
     let l-loop = l-loop-test .before in
-    let st = l-loop .before .before .before .before .before .before in
+    let st = l-loop .before .before .before .before .before .before .before in
     (omega arith, omega (arith, l-loop-test .loop-test .taken), λ old d. lanes-more (insertAt (st .args .left) (st .args .kept) (st .args .lane-bits)) (omega (arith, st .pre)) (l-loop .loop .inv .0) (omega (arith, st .pre, lane-fits (st .args .lane-bits) (l-loop .loop .i) (st .args .lanes) {w = 128} (l-loop-test .loop-test .taken) (omega (arith, st .pre)))) (omega arith) (l-loop .loop .inv .2 old d) (l-insert-at2 .insert-at2 .ensures) (l-concat .concat .ensures))
 
 same-length : tie.Need-same-length Inv-loop μ-loop
 same-length c =
     let l-loop = c .before in
     let l-insert-at = l-loop .before .before .before in
-    let st = l-insert-at .before .before .before in
-    omega (arith, (l-loop .loop .inv .2 _ (lanes-first (insertAt (st .args .left) (st .args .kept) (st .args .lane-bits)) {m = 7} (omega arith) (l-insert-at .insert-at .ensures))) .sized)
+    let l-first = l-insert-at .before in
+    let st = l-first .before .before .before in
+    omega (arith, (l-loop .loop .inv .2 _ (lanes-first (insertAt (st .args .left) (st .args .kept) (st .args .lane-bits)) {m = 7} (l-first .first .ensures) (omega arith) (l-insert-at .insert-at .ensures))) .sized)
 
 returns : tie.Need-returns Inv-loop μ-loop
 returns c =
     let l-loop-test = c in
     let l-loop = l-loop-test .before in
     let l-insert-at = l-loop .before .before .before in
-    let st = l-insert-at .before .before .before in
+    let l-first = l-insert-at .before in
+    let st = l-first .before .before .before in
     let e : l-loop .loop .i ≡ st .args .lanes = omega (arith, l-loop .loop .inv .1, l-loop-test .loop-test .left) in
-    lanes-all (insertAt (st .args .left) (st .args .kept) (st .args .lane-bits)) 7 (st .args .lane-bits) e (l-loop .loop .inv .2 _ (lanes-first (insertAt (st .args .left) (st .args .kept) (st .args .lane-bits)) {m = 7} (omega arith) (l-insert-at .insert-at .ensures)))
+    lanes-all (insertAt (st .args .left) (st .args .kept) (st .args .lane-bits)) 7 (st .args .lane-bits) e (l-loop .loop .inv .2 _ (lanes-first (insertAt (st .args .left) (st .args .kept) (st .args .lane-bits)) {m = 7} (l-first .first .ensures) (omega arith) (l-insert-at .insert-at .ensures)))
 
 pub insert-lanes-spec : {M : Type 1} → statement M
 insert-lanes-spec =
@@ -84,6 +92,7 @@ insert-lanes-spec =
     (tie.spec
     Inv-loop
     μ-loop
+    first-requires
     insert-at-requires
     loop-holds
     insert-at-requires-2

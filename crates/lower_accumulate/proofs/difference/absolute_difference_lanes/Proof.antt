@@ -19,14 +19,18 @@ Inv-loop pool₀ count signed accumulate first second d lane-bits lanes acc₀ i
 abbrev μ-loop : tie.MeasureT-loop
 μ-loop pool₀ count signed accumulate first second d lane-bits lanes acc₀ i₀ pool acc i = lanes - i
 
+first-requires : tie.Need-first-requires Inv-loop μ-loop
+first-requires c κs = tt
+
 difference-at-requires : tie.Need-difference-at-requires Inv-loop μ-loop
 difference-at-requires c κs =
-    let st = c .before .before in
-    (omega (arith, st .pre), ((omega (arith, st .pre), omega (arith, st .pre), λ u. lt-of-lt-of-le (st .pre .1 .0 .2 u) (omega (arith, st .pre))), omega (arith, st .pre)))
+    let l-first = c in
+    let st = l-first .before .before .before in
+    (omega (arith, st .pre, l-first .first .ensures), ((omega (arith, st .pre, l-first .first .ensures), omega (arith, st .pre, l-first .first .ensures), λ u. lt-of-lt-of-le (st .pre .1 .0 .2 u) (omega (arith, st .pre, l-first .first .ensures))), omega (arith, st .pre, l-first .first .ensures)))
 
 loop-holds : tie.Need-loop-holds Inv-loop μ-loop
 loop-holds c =
-    let st = c .before .before .before .before .before in
+    let st = c .before .before .before .before .before .before in
     (omega arith, omega (arith, st .pre), λ old d. d)
 
 difference-at-requires-2 : tie.Need-difference-at-requires-2 Inv-loop μ-loop
@@ -34,8 +38,9 @@ difference-at-requires-2 c κs =
     let l-loop-test = c .before in
     let l-loop = l-loop-test .before in
     let l-difference-at = l-loop .before .before .before in
-    let st = l-difference-at .before .before .before in
-    (omega (arith, st .pre, (l-loop .loop .inv .2 _ (lanes-first (differenceAt (st .args .signed) (st .args .accumulate) (st .args .lane-bits)) {m = 9} (omega arith) (l-difference-at .difference-at .ensures))) .sized, l-loop-test .loop-test .taken), ((omega (arith, st .pre, (l-loop .loop .inv .2 _ (lanes-first (differenceAt (st .args .signed) (st .args .accumulate) (st .args .lane-bits)) {m = 9} (omega arith) (l-difference-at .difference-at .ensures))) .sized, l-loop-test .loop-test .taken), omega (arith, st .pre, (l-loop .loop .inv .2 _ (lanes-first (differenceAt (st .args .signed) (st .args .accumulate) (st .args .lane-bits)) {m = 9} (omega arith) (l-difference-at .difference-at .ensures))) .sized, l-loop-test .loop-test .taken), λ u. lt-of-lt-of-le (st .pre .1 .0 .2 u) (omega (arith, st .pre, (l-loop .loop .inv .2 _ (lanes-first (differenceAt (st .args .signed) (st .args .accumulate) (st .args .lane-bits)) {m = 9} (omega arith) (l-difference-at .difference-at .ensures))) .sized, l-loop-test .loop-test .taken))), omega (arith, st .pre, (l-loop .loop .inv .2 _ (lanes-first (differenceAt (st .args .signed) (st .args .accumulate) (st .args .lane-bits)) {m = 9} (omega arith) (l-difference-at .difference-at .ensures))) .sized, l-loop-test .loop-test .taken)))
+    let l-first = l-difference-at .before in
+    let st = l-first .before .before .before in
+    (omega (arith, st .pre, (l-loop .loop .inv .2 _ (lanes-first (differenceAt (st .args .signed) (st .args .accumulate) (st .args .lane-bits)) {m = 9} (l-first .first .ensures) (omega arith) (l-difference-at .difference-at .ensures))) .sized, l-loop-test .loop-test .taken), ((omega (arith, st .pre, (l-loop .loop .inv .2 _ (lanes-first (differenceAt (st .args .signed) (st .args .accumulate) (st .args .lane-bits)) {m = 9} (l-first .first .ensures) (omega arith) (l-difference-at .difference-at .ensures))) .sized, l-loop-test .loop-test .taken), omega (arith, st .pre, (l-loop .loop .inv .2 _ (lanes-first (differenceAt (st .args .signed) (st .args .accumulate) (st .args .lane-bits)) {m = 9} (l-first .first .ensures) (omega arith) (l-difference-at .difference-at .ensures))) .sized, l-loop-test .loop-test .taken), λ u. lt-of-lt-of-le (st .pre .1 .0 .2 u) (omega (arith, st .pre, (l-loop .loop .inv .2 _ (lanes-first (differenceAt (st .args .signed) (st .args .accumulate) (st .args .lane-bits)) {m = 9} (l-first .first .ensures) (omega arith) (l-difference-at .difference-at .ensures))) .sized, l-loop-test .loop-test .taken))), omega (arith, st .pre, (l-loop .loop .inv .2 _ (lanes-first (differenceAt (st .args .signed) (st .args .accumulate) (st .args .lane-bits)) {m = 9} (l-first .first .ensures) (omega arith) (l-difference-at .difference-at .ensures))) .sized, l-loop-test .loop-test .taken)))
 
 concat-requires : tie.Need-concat-requires Inv-loop μ-loop
 concat-requires c κs =
@@ -43,13 +48,14 @@ concat-requires c κs =
     let l-loop-test = l-difference-at2 .before .before in
     let l-loop = l-loop-test .before in
     let l-difference-at = l-loop .before .before .before in
-    let st = l-difference-at .before .before .before in
-    omega (arith, st .pre, (l-loop .loop .inv .2 _ (lanes-first (differenceAt (st .args .signed) (st .args .accumulate) (st .args .lane-bits)) {m = 9} (omega arith) (l-difference-at .difference-at .ensures))) .sized, l-difference-at2 .difference-at2 .ensures .sized, l-loop-test .loop-test .taken)
+    let l-first = l-difference-at .before in
+    let st = l-first .before .before .before in
+    omega (arith, st .pre, (l-loop .loop .inv .2 _ (lanes-first (differenceAt (st .args .signed) (st .args .accumulate) (st .args .lane-bits)) {m = 9} (l-first .first .ensures) (omega arith) (l-difference-at .difference-at .ensures))) .sized, l-difference-at2 .difference-at2 .ensures .sized, l-loop-test .loop-test .taken)
 
 add-i : tie.Need-add-i Inv-loop μ-loop
 add-i c =
     let l-loop-test = c .before .before .before .before .before .before .before .before in
-    let st = l-loop-test .before .before .before .before .before .before .before in
+    let st = l-loop-test .before .before .before .before .before .before .before .before in
     omega (arith, l-loop-test .loop-test .taken, st .fits .lanes)
 
 loop-less : tie.Need-loop-less Inv-loop μ-loop
@@ -63,15 +69,16 @@ loop-again c =
     let l-difference-at2 = l-concat .before .before .before .before in
     let l-loop-test = l-difference-at2 .before .before in
     let l-loop = l-loop-test .before in
-    let st = l-loop .before .before .before .before .before .before in
+    let st = l-loop .before .before .before .before .before .before .before in
     (omega arith, omega (arith, l-loop-test .loop-test .taken), λ old d. lanes-more (differenceAt (st .args .signed) (st .args .accumulate) (st .args .lane-bits)) (omega (arith, st .pre)) (l-loop .loop .inv .0) (omega (arith, st .pre, lane-fits (st .args .lane-bits) (l-loop .loop .i) (st .args .lanes) {w = 128} (l-loop-test .loop-test .taken) (omega (arith, st .pre)))) (omega arith) (l-loop .loop .inv .2 old d) (l-difference-at2 .difference-at2 .ensures) (l-concat .concat .ensures))
 
 same-length : tie.Need-same-length Inv-loop μ-loop
 same-length c =
     let l-loop = c .before in
     let l-difference-at = l-loop .before .before .before in
-    let st = l-difference-at .before .before .before in
-    omega (arith, (l-loop .loop .inv .2 _ (lanes-first (differenceAt (st .args .signed) (st .args .accumulate) (st .args .lane-bits)) {m = 9} (omega arith) (l-difference-at .difference-at .ensures))) .sized)
+    let l-first = l-difference-at .before in
+    let st = l-first .before .before .before in
+    omega (arith, (l-loop .loop .inv .2 _ (lanes-first (differenceAt (st .args .signed) (st .args .accumulate) (st .args .lane-bits)) {m = 9} (l-first .first .ensures) (omega arith) (l-difference-at .difference-at .ensures))) .sized)
 
 returns : tie.Need-returns Inv-loop μ-loop
 unfolding absoluteDifferenceLanes
@@ -79,9 +86,10 @@ returns c =
     let l-loop-test = c in
     let l-loop = l-loop-test .before in
     let l-difference-at = l-loop .before .before .before in
-    let st = l-difference-at .before .before .before in
+    let l-first = l-difference-at .before in
+    let st = l-first .before .before .before in
     let e : l-loop .loop .i ≡ st .args .lanes = omega (arith, l-loop .loop .inv .1, l-loop-test .loop-test .left) in
-    lanes-all (differenceAt (st .args .signed) (st .args .accumulate) (st .args .lane-bits)) 9 (st .args .lane-bits) e (l-loop .loop .inv .2 _ (lanes-first (differenceAt (st .args .signed) (st .args .accumulate) (st .args .lane-bits)) {m = 9} (omega arith) (l-difference-at .difference-at .ensures)))
+    lanes-all (differenceAt (st .args .signed) (st .args .accumulate) (st .args .lane-bits)) 9 (st .args .lane-bits) e (l-loop .loop .inv .2 _ (lanes-first (differenceAt (st .args .signed) (st .args .accumulate) (st .args .lane-bits)) {m = 9} (l-first .first .ensures) (omega arith) (l-difference-at .difference-at .ensures)))
 
 pub absolute-difference-lanes-spec : {M : Type 1} → statement M
 absolute-difference-lanes-spec =
@@ -89,6 +97,7 @@ absolute-difference-lanes-spec =
     (tie.spec
     Inv-loop
     μ-loop
+    first-requires
     difference-at-requires
     loop-holds
     difference-at-requires-2

@@ -16,14 +16,18 @@ Inv-loop pool₀ count destination-signed first d lane-bits lanes acc₀ i₀ po
 abbrev μ-loop : tie.MeasureT-loop
 μ-loop pool₀ count destination-signed first d lane-bits lanes acc₀ i₀ pool acc i = lanes - i
 
+first-requires : tie.Need-first-requires Inv-loop μ-loop
+first-requires c κs = tt
+
 mixed-at-requires : tie.Need-mixed-at-requires Inv-loop μ-loop
 mixed-at-requires c κs =
-    let st = c .before .before in
-    omega (arith, st .pre)
+    let l-first = c in
+    let st = l-first .before .before .before in
+    omega (arith, st .pre, l-first .first .ensures)
 
 loop-holds : tie.Need-loop-holds Inv-loop μ-loop
 loop-holds c =
-    let st = c .before .before .before .before .before in
+    let st = c .before .before .before .before .before .before in
     (omega arith, omega (arith, st .pre), λ old d. d)
 
 mixed-at-requires-2 : tie.Need-mixed-at-requires-2 Inv-loop μ-loop
@@ -31,8 +35,9 @@ mixed-at-requires-2 c κs =
     let l-loop-test = c .before in
     let l-loop = l-loop-test .before in
     let l-mixed-at = l-loop .before .before .before in
-    let st = l-mixed-at .before .before .before in
-    omega (arith, st .pre, (l-loop .loop .inv .2 _ (lanes-first (mixedAt (st .args .destination-signed) (st .args .lane-bits)) {m = 13} (omega arith) (l-mixed-at .mixed-at .ensures))) .sized, l-loop-test .loop-test .taken)
+    let l-first = l-mixed-at .before in
+    let st = l-first .before .before .before in
+    omega (arith, st .pre, (l-loop .loop .inv .2 _ (lanes-first (mixedAt (st .args .destination-signed) (st .args .lane-bits)) {m = 13} (l-first .first .ensures) (omega arith) (l-mixed-at .mixed-at .ensures))) .sized, l-loop-test .loop-test .taken)
 
 concat-requires : tie.Need-concat-requires Inv-loop μ-loop
 concat-requires c κs =
@@ -40,13 +45,14 @@ concat-requires c κs =
     let l-loop-test = l-mixed-at2 .before .before in
     let l-loop = l-loop-test .before in
     let l-mixed-at = l-loop .before .before .before in
-    let st = l-mixed-at .before .before .before in
-    omega (arith, st .pre, (l-loop .loop .inv .2 _ (lanes-first (mixedAt (st .args .destination-signed) (st .args .lane-bits)) {m = 13} (omega arith) (l-mixed-at .mixed-at .ensures))) .sized, l-mixed-at2 .mixed-at2 .ensures .sized, l-loop-test .loop-test .taken)
+    let l-first = l-mixed-at .before in
+    let st = l-first .before .before .before in
+    omega (arith, st .pre, (l-loop .loop .inv .2 _ (lanes-first (mixedAt (st .args .destination-signed) (st .args .lane-bits)) {m = 13} (l-first .first .ensures) (omega arith) (l-mixed-at .mixed-at .ensures))) .sized, l-mixed-at2 .mixed-at2 .ensures .sized, l-loop-test .loop-test .taken)
 
 add-i : tie.Need-add-i Inv-loop μ-loop
 add-i c =
     let l-loop-test = c .before .before .before .before .before .before .before .before in
-    let st = l-loop-test .before .before .before .before .before .before .before in
+    let st = l-loop-test .before .before .before .before .before .before .before .before in
     omega (arith, l-loop-test .loop-test .taken, st .fits .lanes)
 
 loop-less : tie.Need-loop-less Inv-loop μ-loop
@@ -60,15 +66,16 @@ loop-again c =
     let l-mixed-at2 = l-concat .before .before .before .before in
     let l-loop-test = l-mixed-at2 .before .before in
     let l-loop = l-loop-test .before in
-    let st = l-loop .before .before .before .before .before .before in
+    let st = l-loop .before .before .before .before .before .before .before in
     (omega arith, omega (arith, l-loop-test .loop-test .taken), λ old d. lanes-more (mixedAt (st .args .destination-signed) (st .args .lane-bits)) (omega (arith, st .pre)) (l-loop .loop .inv .0) (omega (arith, st .pre, lane-fits (st .args .lane-bits) (l-loop .loop .i) (st .args .lanes) {w = 128} (l-loop-test .loop-test .taken) (omega (arith, st .pre)))) (omega arith) (l-loop .loop .inv .2 old d) (l-mixed-at2 .mixed-at2 .ensures) (l-concat .concat .ensures))
 
 same-length : tie.Need-same-length Inv-loop μ-loop
 same-length c =
     let l-loop = c .before in
     let l-mixed-at = l-loop .before .before .before in
-    let st = l-mixed-at .before .before .before in
-    omega (arith, (l-loop .loop .inv .2 _ (lanes-first (mixedAt (st .args .destination-signed) (st .args .lane-bits)) {m = 13} (omega arith) (l-mixed-at .mixed-at .ensures))) .sized)
+    let l-first = l-mixed-at .before in
+    let st = l-first .before .before .before in
+    omega (arith, (l-loop .loop .inv .2 _ (lanes-first (mixedAt (st .args .destination-signed) (st .args .lane-bits)) {m = 13} (l-first .first .ensures) (omega arith) (l-mixed-at .mixed-at .ensures))) .sized)
 
 returns : tie.Need-returns Inv-loop μ-loop
 unfolding mixedSignAddLanes
@@ -76,9 +83,10 @@ returns c =
     let l-loop-test = c in
     let l-loop = l-loop-test .before in
     let l-mixed-at = l-loop .before .before .before in
-    let st = l-mixed-at .before .before .before in
+    let l-first = l-mixed-at .before in
+    let st = l-first .before .before .before in
     let e : l-loop .loop .i ≡ st .args .lanes = omega (arith, l-loop .loop .inv .1, l-loop-test .loop-test .left) in
-    lanes-all (mixedAt (st .args .destination-signed) (st .args .lane-bits)) 13 (st .args .lane-bits) e (l-loop .loop .inv .2 _ (lanes-first (mixedAt (st .args .destination-signed) (st .args .lane-bits)) {m = 13} (omega arith) (l-mixed-at .mixed-at .ensures)))
+    lanes-all (mixedAt (st .args .destination-signed) (st .args .lane-bits)) 13 (st .args .lane-bits) e (l-loop .loop .inv .2 _ (lanes-first (mixedAt (st .args .destination-signed) (st .args .lane-bits)) {m = 13} (l-first .first .ensures) (omega arith) (l-mixed-at .mixed-at .ensures)))
 
 pub mixed-sign-add-lanes-spec : {M : Type 1} → statement M
 mixed-sign-add-lanes-spec =
@@ -86,6 +94,7 @@ mixed-sign-add-lanes-spec =
     (tie.spec
     Inv-loop
     μ-loop
+    first-requires
     mixed-at-requires
     loop-holds
     mixed-at-requires-2

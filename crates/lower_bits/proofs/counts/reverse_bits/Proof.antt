@@ -1,6 +1,6 @@
 use native.Mathlib.Omega.{arith}
 use Prim.Native.Nat.{_-_, _≤_}
-use mathlib.Core.Path.{_≡_}
+use mathlib.Core.Path.{_≡_, refl}
 use mathlib.Core.List.{[], _∷_}
 use Rattle.lower.specs.Builds.{read, unread}
 use Rattle.lower.proofs.Lanes.{LanesKept, lanes-first, lanes-more}
@@ -43,7 +43,7 @@ extract-requires-2 c κs =
     let l-loop = l-loop-test .before in
     let l-extract = l-loop .before .before .before in
     let st = l-extract .before .before .before in
-    omega (arith, st .pre, (l-loop .loop .inv .2 _ (lanes-first (reversedAt (st .args .lane-bits)) {m = 2} (omega arith) (reversed-bit (st .args .lane-bits) 0 (st .pre .1 .1) (omega arith) (l-extract .extract .ensures)))) .sized, l-loop-test .loop-test .taken)
+    omega (arith, st .pre, (l-loop .loop .inv .2 _ (lanes-first (reversedAt (st .args .lane-bits)) {m = 2} refl (omega arith) (reversed-bit (st .args .lane-bits) 0 (st .pre .1 .1) (omega arith) (l-extract .extract .ensures)))) .sized, l-loop-test .loop-test .taken)
 
 concat-requires : tie.Need-concat-requires Inv-loop μ-loop
 concat-requires c κs =
@@ -52,7 +52,7 @@ concat-requires c κs =
     let l-loop = l-loop-test .before in
     let l-extract = l-loop .before .before .before in
     let st = l-extract .before .before .before in
-    omega (arith, st .pre, (l-loop .loop .inv .2 _ (lanes-first (reversedAt (st .args .lane-bits)) {m = 2} (omega arith) (reversed-bit (st .args .lane-bits) 0 (st .pre .1 .1) (omega arith) (l-extract .extract .ensures)))) .sized, l-extract2 .extract2 .ensures .sized, l-loop-test .loop-test .taken)
+    omega (arith, st .pre, (l-loop .loop .inv .2 _ (lanes-first (reversedAt (st .args .lane-bits)) {m = 2} refl (omega arith) (reversed-bit (st .args .lane-bits) 0 (st .pre .1 .1) (omega arith) (l-extract .extract .ensures)))) .sized, l-extract2 .extract2 .ensures .sized, l-loop-test .loop-test .taken)
 
 add-i : tie.Need-add-i Inv-loop μ-loop
 add-i c =
@@ -79,7 +79,7 @@ same-length c =
     let l-loop = c .before in
     let l-extract = l-loop .before .before .before in
     let st = l-extract .before .before .before in
-    omega (arith, (l-loop .loop .inv .2 _ (lanes-first (reversedAt (st .args .lane-bits)) {m = 2} (omega arith) (reversed-bit (st .args .lane-bits) 0 (st .pre .1 .1) (omega arith) (l-extract .extract .ensures)))) .sized)
+    omega (arith, (l-loop .loop .inv .2 _ (lanes-first (reversedAt (st .args .lane-bits)) {m = 2} refl (omega arith) (reversed-bit (st .args .lane-bits) 0 (st .pre .1 .1) (omega arith) (l-extract .extract .ensures)))) .sized)
 
 returns : tie.Need-returns Inv-loop μ-loop
 returns c =
@@ -88,7 +88,7 @@ returns c =
     let l-extract = l-loop .before .before .before in
     let st = l-extract .before .before .before in
     let e : l-loop .loop .i ≡ st .args .lane-bits = omega (arith, l-loop .loop .inv .1, l-loop-test .loop-test .left) in
-    reversed-all e (l-loop .loop .inv .2 _ (lanes-first (reversedAt (st .args .lane-bits)) {m = 2} (omega arith) (reversed-bit (st .args .lane-bits) 0 (st .pre .1 .1) (omega arith) (l-extract .extract .ensures))))
+    reversed-all e (l-loop .loop .inv .2 _ (lanes-first (reversedAt (st .args .lane-bits)) {m = 2} refl (omega arith) (reversed-bit (st .args .lane-bits) 0 (st .pre .1 .1) (omega arith) (l-extract .extract .ensures))))
 
 pub reverse-bits-spec : {M : Type 1} → statement M
 reverse-bits-spec =
