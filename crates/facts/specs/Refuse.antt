@@ -1,8 +1,7 @@
 -- Refusals in order: the first test that fails gives its number.
-use mathlib.Core.Bool.{Bool, true, false}
+use mathlib.Core.Bool.{Bool, cond}
 use Prim.Native.Nat.{ℕ}
 
 -- k where the test fails, else what follows
 abbrev pub unless : Bool → ℕ → ℕ → ℕ
-unless true k rest = rest
-unless false k rest = k
+unless holds k rest = cond holds rest k

@@ -12,9 +12,11 @@ ghost use Prim.Native.Nat.{_*_, _-_, _≤_, _<_, _^_};
 ghost use Rattle.terms.specs.Expr.{Const};
 ghost use Rattle.pool.specs.Node.{wide as wideWords};
 ghost use Rattle.pool.specs.Growth.{Room};
-ghost use Rattle.trees.specs.Arith.{clampBetween, clampBelow, clamp as clampTree, plusIf, shiftOp, keepLower};
+ghost use Rattle.trees.specs.Arith.{clampBetween, clampBelow, clamp as clampTree, plusIf, keepLower};
 ghost use Rattle.trees.specs.Simd.{extract};
 ghost use Rattle.lower.specs.Builds.{Builds1, BuildsIf, Below, readIf, withLower};
+ghost use mathlib.Core.Bool.{cond};
+ghost use Rattle.terms.specs.declared.BinOp.the-variants.{AShr, LShr};
 
 // `low` where `value` is signed less than it, else `high` where `value` is signed more than it, else `value`; of these the low
 // bits.
@@ -135,7 +137,7 @@ pub fn plus_if(
 
 // The right shift of a signed or an unsigned value.
 pub fn shift_op(signed: bool) -> BinOp
-    ensures { λ r. ⌜ r ≡ shiftOp signed ⌝ }
+    ensures { λ r. ⌜ r ≡ cond signed AShr LShr ⌝ }
 {
     if signed { BinOp::AShr } else { BinOp::LShr }
 }

@@ -1,7 +1,7 @@
 -- Mixed-sign sums and absolute differences, from what their calls build. Assumes nothing.
 use Prim.Native.Nat.{ℕ, _+_, _*_, _≤_, _<_}
 use mathlib.Core.Path.{_≡_, refl}
-use mathlib.Core.Bool.{Bool, true, false, not}
+use mathlib.Core.Bool.{Bool, true, false, not, cond}
 use mathlib.Core.List.{List, [], _∷_}
 use native.Mathlib.Omega.{arith}
 use Rattle.terms.specs.declared.BinOp.the-variants.{Add, Sub}
@@ -11,18 +11,20 @@ use Rattle.pool.specs.declared.Built.{Built}
 use Rattle.pool.specs.Builders.{MadeBv, MadeCompare, MadeIte}
 use Rattle.pool.proofs.Steps.{start, step, finish, given, spare}
 use Rattle.trees.specs.declared.SaturateTo.{SaturateTo}
-use Rattle.trees.specs.Arith.{clamp, mixedTo, mixedSignAddLane, lessOp, absoluteDifferenceLane}
+use Rattle.trees.specs.Arith.{clamp, mixedSignAddLane, absoluteDifferenceLane}
 use Rattle.simd.specs.Cut.{MadeLane}
 use Rattle.lower.specs.Builds.{Builds1, Builds2, Lowers, read, readIf, unread, MadeExtend}
 use Rattle.lower.proofs.Lanes.{lane-fits}
 use Rattle.lower_accumulate.specs.Lanes.{mixedAt, differenceAt}
+use Rattle.trees.specs.declared.SaturateTo.the-variants.{Signed, SignedToUnsigned}
+use Rattle.terms.specs.declared.CmpOp.the-variants.{Slt, Ult}
 
 pub mixed-lane : {w0 w1 w2 w3 w4 w5 w6 : List ℕ} {k : ℕ} {r1 r2 r3 r4 r5 r6 : Built} {first d : Node} {to : SaturateTo} {n lanes j : ℕ} (signed : Bool)
     → 1 ≤ n
     → n ≤ 64
     → j < lanes
     → n * lanes ≤ 128
-    → to ≡ mixedTo signed
+    → to ≡ cond signed Signed SignedToUnsigned
     → MadeLane w0 k w1 r1 d n j
     → MadeLane w1 (r1 .count) w2 r2 first n j
     → MadeExtend w2 (r2 .count) w3 r3 (r1 .node) (n + 2) signed
@@ -49,7 +51,7 @@ mixed-lane {first = first} {d = d} {n = n} {lanes = lanes} {j = j} signed l m h 
 pub difference-lane : {w0 w1 w2 w3 w4 : List ℕ} {k : ℕ} {r1 r2 r3 r4 : Built} {a b : Node} {op : CmpOp} {n : ℕ} (signed : Bool)
     → 1 ≤ n
     → n ≤ 64
-    → op ≡ lessOp signed
+    → op ≡ cond signed Slt Ult
     → MadeCompare w0 k w1 r1 op a b
     → MadeBv w1 (r1 .count) w2 r2 Sub b a
     → MadeBv w2 (r2 .count) w3 r3 Sub a b

@@ -1,7 +1,7 @@
 -- High halves of sums and differences, from what their calls build. Assumes nothing.
 use Prim.Native.Nat.{ℕ, _+_, _-_, _*_, _^_, _≤_, _<_}
 use mathlib.Core.Path.{_≡_, refl}
-use mathlib.Core.Bool.{Bool}
+use mathlib.Core.Bool.{Bool, cond}
 use mathlib.Core.List.{List, [], _∷_}
 use native.Mathlib.Omega.{arith}
 use lib.Pow.{pow-lt}
@@ -12,11 +12,12 @@ use Rattle.pool.specs.declared.Built.{Built}
 use Rattle.pool.specs.Builders.{MadeBv, MadeExtract}
 use Rattle.pool.proofs.Steps.{start, step, finish, given, spare}
 use Rattle.trees.specs.Arith.{plusIf}
-use Rattle.trees.specs.Width.{sumOp, highNarrowLane}
+use Rattle.trees.specs.Width.{highNarrowLane}
 use Rattle.simd.specs.Cut.{MadeLane}
 use Rattle.lower.specs.Builds.{Builds1, Builds2, Lowers, read, unread}
 use Rattle.lower.proofs.Lanes.{lane-fits}
 use Rattle.lower_high.specs.Lanes.{highAt}
+use Rattle.terms.specs.declared.BinOp.the-variants.{Add, Sub}
 
 -- half of the place above the dropped bits fits the source's lane
 pub half-fits : (n : ℕ) {p : ℕ} → 1 ≤ n → p ≡ 2 ^ (n - 1) → p < 2 ^ (n * 2)
@@ -25,7 +26,7 @@ half-fits n l e = rw e (pow-lt (omega arith))
 pub high-lane : {w0 w1 w2 w3 : List ℕ} {k : ℕ} {r1 r2 r3 : Built} {a b : Node} {op : BinOp} {p n : ℕ} (subtract rounding : Bool)
     → 1 ≤ n
     → n ≤ 64
-    → op ≡ sumOp subtract
+    → op ≡ cond subtract Sub Add
     → p ≡ 2 ^ (n - 1)
     → MadeBv w0 k w1 r1 op a b
     → Builds1 w1 (r1 .count) w2 r2 2 (r1 .node) (n * 2) (n * 2) (λ v. plusIf rounding v (Const p (n * 2))) ((r1 .node) .0 ∷ [])

@@ -9,12 +9,14 @@ ghost use mathlib.Core.List.{[], _∷_};
 ghost use Prim.Native.Nat.{_+_, _-_, _*_, _≤_, _<_};
 ghost use Rattle.pool.specs.Growth.{Room};
 ghost use Rattle.trees.specs.Simd.{concatLanes};
-ghost use Rattle.trees.specs.Width.{sumOp, highNarrowLane, highNarrowLanes};
+ghost use Rattle.trees.specs.Width.{highNarrowLane, highNarrowLanes};
 ghost use Rattle.lower.specs.Builds.{Builds2, Lowers, read, readIf, unread, withLower, Below};
 ghost use Rattle.lower_high.specs.Lanes.{highAt};
+ghost use mathlib.Core.Bool.{cond};
+ghost use Rattle.terms.specs.declared.BinOp.the-variants.{Add, Sub};
 
 fn sum_op(subtract: bool) -> BinOp
-    ensures { λ r. ⌜ r ≡ sumOp subtract ⌝ }
+    ensures { λ r. ⌜ r ≡ cond subtract Sub Add ⌝ }
 {
     if subtract { BinOp::Sub } else { BinOp::Add }
 }

@@ -1,19 +1,19 @@
 -- SLI and SRI, from what their calls build. Assumes nothing.
 use Prim.Native.Nat.{ℕ, _+_, _-_, _*_, _^_, _≤_, _<_}
 use mathlib.Core.Path.{_≡_, refl}
-use mathlib.Core.Bool.{Bool, true, false}
+use mathlib.Core.Bool.{Bool, true, false, cond}
 use mathlib.Core.List.{List, [], _∷_}
 use native.Mathlib.Omega.{arith}
 use lib.Pow.{pow-pos, pow-mono}
 use Rattle.facts.proofs.Numbers.{small}
 use Rattle.terms.specs.declared.BinOp.{BinOp}
-use Rattle.terms.specs.declared.BinOp.the-variants.{And, Or}
+use Rattle.terms.specs.declared.BinOp.the-variants.{And, Or, LShr, Shl}
 use Rattle.pool.specs.declared.Node.{Node}
 use Rattle.pool.specs.declared.Built.{Built}
 use Rattle.pool.specs.Builders.{MadeConst, MadeBv}
 use Rattle.pool.proofs.Steps.{start, step, finish, given, spare}
 use Rattle.trees.specs.Simd.{concatLanes}
-use Rattle.trees.specs.Arith.{insertOp, keptBits, shiftInsertLane, shiftInsertLanes}
+use Rattle.trees.specs.Arith.{keptBits, shiftInsertLane, shiftInsertLanes}
 use Rattle.simd.specs.Cut.{MadeLane}
 use Rattle.lower.specs.Builds.{Lowers, read, unread}
 use Rattle.lower.proofs.Lanes.{source-kept, lane-fits}
@@ -25,7 +25,7 @@ pub inserted : {w0 w1 w2 w3 w4 w5 w6 : List ℕ} {k : ℕ} {r1 r2 r3 r4 r5 r6 : 
     → j < lanes
     → n * lanes ≤ 128
     → kept < 2 ^ n
-    → op ≡ insertOp left
+    → op ≡ cond left Shl LShr
     → MadeLane w0 k w1 r1 first n j
     → MadeLane w1 (r1 .count) w2 r2 d n j
     → MadeBv w2 (r2 .count) w3 r3 op (r1 .node) amount

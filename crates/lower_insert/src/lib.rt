@@ -9,9 +9,11 @@ ghost use Prim.Native.Nat.{_+_, _*_, _-_, _≤_, _<_, _^_};
 ghost use Rattle.pool.specs.Growth.{Room};
 ghost use Rattle.trees.specs.Simd.{concatLanes};
 ghost use Rattle.trees.specs.Lower.{unsignedMax};
-ghost use Rattle.trees.specs.Arith.{insertOp, keptBits, shiftInsertLanes};
+ghost use Rattle.trees.specs.Arith.{keptBits, shiftInsertLanes};
 ghost use Rattle.lower.specs.Builds.{Lowers, read, unread};
 ghost use Rattle.lower_insert.specs.Lanes.{insertAt};
+ghost use mathlib.Core.Bool.{cond};
+ghost use Rattle.terms.specs.declared.BinOp.the-variants.{LShr, Shl};
 
 // A mask of the low bits, none for SLI by 0 and for SRI by the whole lane.
 fn low_bits(bits: u64) -> u64
@@ -36,7 +38,7 @@ fn kept_bits(left: bool, lane_bits: u64, shift: u64) -> u64
 }
 
 fn insert_op(left: bool) -> BinOp
-    ensures { λ r. ⌜ r ≡ insertOp left ⌝ }
+    ensures { λ r. ⌜ r ≡ cond left Shl LShr ⌝ }
 {
     if left { BinOp::Shl } else { BinOp::LShr }
 }

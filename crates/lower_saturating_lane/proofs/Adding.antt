@@ -1,13 +1,13 @@
 -- The sums, differences and opposites of one lane, from what their calls build. Assumes nothing.
 use Prim.Native.Nat.{ℕ, _+_, _-_, _^_, _≤_, _<_}
 use mathlib.Core.Path.{_≡_, refl}
-use mathlib.Core.Bool.{Bool, true, false}
+use mathlib.Core.Bool.{Bool, true, false, cond}
 use mathlib.Core.List.{List, [], _∷_}
 use native.Mathlib.Omega.{arith}
 use lib.Pow.{pow-pos}
 use Rattle.facts.proofs.Numbers.{small}
 use Rattle.terms.specs.declared.BinOp.{BinOp}
-use Rattle.terms.specs.declared.BinOp.the-variants.{Add, Sub}
+use Rattle.terms.specs.declared.BinOp.the-variants.{Add, Sub, AShr, LShr}
 use Rattle.terms.specs.declared.CmpOp.the-variants.{Slt}
 use Rattle.terms.specs.Expr.{Const}
 use Rattle.pool.specs.declared.Node.{Node}
@@ -17,7 +17,7 @@ use Rattle.pool.proofs.Steps.{start, step, finish, given}
 use Rattle.trees.specs.declared.SaturateTo.{SaturateTo}
 use Rattle.trees.specs.declared.SaturateTo.the-variants.{Signed}
 use Rattle.trees.specs.declared.SaturatingKind.the-variants.{AddSub, Halving, Unary}
-use Rattle.trees.specs.Arith.{clamp, plusIf, shiftOp, negated, saturatingLane}
+use Rattle.trees.specs.Arith.{clamp, plusIf, negated, saturatingLane}
 use Rattle.lower.specs.Builds.{Builds1, Builds2, MadeExtend}
 
 pub add-sub : {w0 w1 w2 w3 w4 : List ℕ} {k : ℕ} {r1 r2 r3 r4 : Built} {a b : Node} {op : BinOp} (to : SaturateTo) {n : ℕ} {signed : Bool}
@@ -47,7 +47,7 @@ one-fits w h = small 1 1 w (omega arith) h
 pub halving : {w0 w1 w2 w3 w4 w5 w6 w7 : List ℕ} {k : ℕ} {r1 r2 r3 r4 r5 r6 r7 : Built} {a b : Node} {op : BinOp} (rounding : Bool) {n : ℕ} {signed : Bool}
     → 1 ≤ n
     → n ≤ 64
-    → op ≡ shiftOp signed
+    → op ≡ cond signed AShr LShr
     → MadeExtend w0 k w1 r1 a (n + 1) signed
     → MadeExtend w1 (r1 .count) w2 r2 b (n + 1) signed
     → MadeBv w2 (r2 .count) w3 r3 Add (r1 .node) (r2 .node)

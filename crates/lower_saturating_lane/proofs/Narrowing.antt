@@ -1,7 +1,7 @@
 -- The narrowing shift of one lane, from what its calls build. Assumes nothing.
 use Prim.Native.Nat.{ℕ, _+_, _-_, _*_, _^_, _≤_, _<_}
 use mathlib.Core.Path.{_≡_}
-use mathlib.Core.Bool.{Bool}
+use mathlib.Core.Bool.{Bool, cond}
 use mathlib.Core.List.{List, [], _∷_}
 use native.Mathlib.Omega.{arith}
 use lib.Pow.{pow-lt}
@@ -16,8 +16,9 @@ use Rattle.trees.specs.declared.SaturateTo.{SaturateTo}
 use Rattle.trees.specs.declared.Saturate.{Saturate}
 use Rattle.trees.specs.declared.Saturate.the-variants.{Never, Into}
 use Rattle.trees.specs.declared.SaturatingKind.the-variants.{ShiftNarrow}
-use Rattle.trees.specs.Arith.{clamp, plusIf, shiftOp, narrowed, saturatingLane}
+use Rattle.trees.specs.Arith.{clamp, plusIf, narrowed, saturatingLane}
 use Rattle.lower.specs.Builds.{Builds1, MadeExtend}
+use Rattle.terms.specs.declared.BinOp.the-variants.{AShr, LShr}
 
 pub narrowed-never : {w0 w1 : List ℕ} {k : ℕ} {r : Built} {to : Saturate} {value : Node} {wide n : ℕ}
     → 1 ≤ n
@@ -48,7 +49,7 @@ pub shift-narrow : {w0 w1 w2 w3 w4 w5 : List ℕ} {k : ℕ} {r1 r2 r3 r4 r5 : Bu
     → shift ≤ n
     → n ≤ 32
     → half ≡ 2 ^ (shift - 1)
-    → op ≡ shiftOp signed
+    → op ≡ cond signed AShr LShr
     → MadeExtend w0 k w1 r1 a (n * 2 + 1) signed
     → Builds1 w1 (r1 .count) w2 r2 2 (r1 .node) (n * 2 + 1) (n * 2 + 1) (λ v. plusIf rounding v (Const half (n * 2 + 1))) ((r1 .node) .0 ∷ [])
     → MadeConst w2 (r2 .count) w3 r3 shift 0 (n * 2 + 1)

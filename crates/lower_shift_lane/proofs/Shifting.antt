@@ -1,7 +1,7 @@
 -- What the shifts of one lane build, from what their calls build. Assumes nothing.
 use Prim.Native.Nat.{ℕ, _+_, _-_, _^_, _≤_, _<_}
 use mathlib.Core.Path.{_≡_, refl}
-use mathlib.Core.Bool.{Bool, true, false}
+use mathlib.Core.Bool.{Bool, true, false, cond}
 use mathlib.Core.List.{List, [], _∷_}
 use mathlib.Core.Logic.{_⊎_, inl, inr}
 use native.Mathlib.Omega.{arith}
@@ -9,7 +9,7 @@ use lib.Pow.{pow-pos, ones-lt, pow-lt}
 use borrow.Author.Tests.{lt-ltb, le-ltb}
 use Rattle.facts.proofs.Numbers.{small}
 use Rattle.terms.specs.declared.BinOp.{BinOp}
-use Rattle.terms.specs.declared.BinOp.the-variants.{Add, Sub, Shl}
+use Rattle.terms.specs.declared.BinOp.the-variants.{Add, Sub, Shl, AShr, LShr}
 use Rattle.terms.specs.declared.CmpOp.the-variants.{Eq, Slt}
 use Rattle.terms.specs.Expr.{Expr, Const}
 use Rattle.pool.specs.declared.Node.{Node}
@@ -23,7 +23,7 @@ use Rattle.trees.specs.declared.Saturate.the-variants.{Never, Into}
 use Rattle.trees.specs.declared.ShiftKind.{ShiftKind}
 use Rattle.trees.specs.declared.ShiftKind.the-variants.{LeftImmediate, RightImmediate, Register}
 use Rattle.trees.specs.Lower.{unsignedMax}
-use Rattle.trees.specs.Arith.{clamp, shiftOp, roundingBits, shiftRight, shiftBound, saturatingShiftLeft, exactBits, leftImmediate, signedAmount, leftBy, registerShiftMax, shiftLane}
+use Rattle.trees.specs.Arith.{clamp, roundingBits, shiftRight, shiftBound, saturatingShiftLeft, leftImmediate, signedAmount, leftBy, registerShiftMax, shiftLane}
 use Rattle.lower.specs.Builds.{Builds1, Builds2, BuildsIf, MadeExtend}
 use Rattle.lower_shift_lane.specs.Amounts.{isRegister}
 
@@ -31,7 +31,7 @@ use Rattle.lower_shift_lane.specs.Amounts.{isRegister}
 pub rounded-shift : {w0 w1 w2 w3 w4 w5 w6 w7 w8 : List ℕ} {k : ℕ} {r1 r2 r3 r4 r5 r6 r7 r8 : Built} {value amount : Node} {op : BinOp} {n wide : ℕ} {signed : Bool} (most : ℕ)
     → 1 ≤ n
     → wide ≡ roundingBits n most
-    → op ≡ shiftOp signed
+    → op ≡ cond signed AShr LShr
     → n + 1 ≤ wide
     → wide ≤ 129
     → MadeZeroExtend w0 k w1 r1 amount wide
@@ -71,7 +71,7 @@ pub right-plain : {w0 w1 : List ℕ} {k : ℕ} {r1 : Built} {value amount : Node
     → 1 ≤ n
     → n ≤ 64
     → rounding ≡ false
-    → op ≡ shiftOp signed
+    → op ≡ cond signed AShr LShr
     → MadeBv w0 k w1 r1 op value amount
     → Builds2 w0 k w1 r1 8 value n amount n n (λ v a. shiftRight v a n signed rounding most) (value .0 ∷ amount .0 ∷ [])
 unfolding shiftRight
@@ -129,7 +129,7 @@ bound-unsigned {value = value} {n = n} l m q e e1 =
 pub saturating : {w0 w1 w2 w3 w4 w5 : List ℕ} {k : ℕ} {r1 r2 r3 r4 r5 : Built} {value amount : Node} {op : BinOp} {n : ℕ} (signed : Bool)
     → 1 ≤ n
     → n ≤ 64
-    → op ≡ shiftOp signed
+    → op ≡ cond signed AShr LShr
     → MadeBv w0 k w1 r1 Shl value amount
     → MadeBv w1 (r1 .count) w2 r2 op (r1 .node) amount
     → MadeCompare w2 (r2 .count) w3 r3 Eq (r2 .node) value
@@ -155,7 +155,7 @@ pub exact-left : {w0 w1 w2 w3 w4 : List ℕ} {k : ℕ} {r1 r2 r3 r4 : Built} {va
     → 1 ≤ n
     → shift < n
     → n ≤ 64
-    → wide ≡ exactBits n shift
+    → wide ≡ n + shift + 1
     → MadeSignExtend w0 k w1 r1 value wide
     → MadeConst w1 (r1 .count) w2 r2 shift 0 wide
     → MadeBv w2 (r2 .count) w3 r3 Shl (r1 .node) (r2 .node)

@@ -149,8 +149,6 @@ armLane RADDHN n i d a b = wrap (n * 2) (U a +ℤ U b +ℤ pos (2 ^ (n - 1))) / 
 armLane SUBHN n i d a b = wrap (n * 2) (U a -ℤ U b) / 2 ^ n
 armLane RSUBHN n i d a b = wrap (n * 2) (U a -ℤ U b +ℤ pos (2 ^ (n - 1))) / 2 ^ n
 
--- ---- whole results
-
 -- lane j of the result
 unfoldable pub armAt : Op → Arrangement → (i d a b j : ℕ) → ℕ
 armAt o v i d a b j =

@@ -100,8 +100,6 @@ form RADDHN = row Narrow None Not2D NM
 form SUBHN = row Narrow None Not2D NM
 form RSUBHN = row Narrow None Not2D NM
 
--- ---- arrangements
-
 abbrev pub inClass : Class → Arrangement → Bool
 inClass Every v = true
 inClass Not2D v = leb (laneBits v) 32
@@ -111,8 +109,6 @@ inClass Bytes v = eqb (laneBits v) 8
 
 abbrev pub hasForm : Op → Arrangement → Bool
 hasForm o v = inClass (form o .class) v
-
--- ---- immediates
 
 abbrev pub leastOf : Immediate → ℕ
 leastOf None = 0
@@ -142,8 +138,7 @@ least o = leastOf (form o .immediate)
 abbrev pub most : Op → ℕ → ℕ
 most o n = mostOf (form o .immediate) n
 
--- ---- registers: which are read, and how many bits of each
-
+-- whether m is read, and d
 abbrev pub mIn : Reads → Bool
 mIn N = false
 mIn NM = true
@@ -185,8 +180,6 @@ firstBits o v = bitsIf (firstFull (form o .lanes) (full v))
 abbrev pub secondBits : Op → Arrangement → ℕ
 secondBits o v = bitsIf (secondFull (form o .lanes) (byElement o) (full v))
 
--- ---- lanes
-
 -- the bits of a source lane
 abbrev pub sourceBits : Lanes → ℕ → ℕ
 sourceBits Same n = n
@@ -211,8 +204,6 @@ secondLane Same e k i j = j
 secondLane Narrow e k i j = j
 secondLane (Long u) e k i j = cond e i (cond u (j + k) j)
 
--- ---- the form code, one byte for each operation and arrangement: 0 where there is no such form
-
 abbrev pub flag : Bool → ℕ → ℕ
 flag b k = cond b k 0
 
@@ -222,6 +213,7 @@ immediateCode Left = 2
 immediateCode Right = 3
 immediateCode Element = 4
 
+-- one byte for each operation and arrangement, 0 where there is no such form
 unfoldable pub formCode : Op → Arrangement → ℕ
 formCode o v =
     flag (hasForm o v)

@@ -1,5 +1,5 @@
 -- The Arm run of a block (document 01, "Pool"): the records in order, each on the registers that the one before left.
-use mathlib.Core.Bool.{Bool, true, false, cond}
+use mathlib.Core.Bool.{Bool, cond}
 use mathlib.Core.List.{List, [], _∷_}
 use Prim.Native.Nat.{ℕ, _%_, _^_}
 use lib.Dec.{eqb}
@@ -14,8 +14,7 @@ update d x regs r = cond (eqb r d) x (regs r)
 
 -- a register as it is read: whole, or its low half
 abbrev pub readBits : Bool → ℕ → ℕ
-readBits true x = x
-readBits false x = x % 2 ^ 64
+readBits whole x = cond whole x (x % 2 ^ 64)
 
 -- n, m and d are read, then d takes the result; above one of 64 bits stand zeros
 unfoldable pub armStep : Instruction → (ℕ → ℕ) → ℕ → ℕ

@@ -6,11 +6,7 @@ use Prim.Native.Nat.{ℕ, zero, suc, _+_, _/_, _%_}
 use Prim.Native.String.{String, [], _∷_}
 use Prim.Native.Char.{code}
 use lib.Dec.{ltb}
-use Rattle.terms.specs.declared.BinOp.{BinOp}
-use Rattle.terms.specs.declared.BinOp.the-variants.{Add, Sub, Mul, And, Or, Xor, Shl, LShr, AShr}
-use Rattle.terms.specs.declared.CmpOp.{CmpOp}
-use Rattle.terms.specs.declared.CmpOp.the-variants.{Eq, Ult, Slt}
-use Rattle.terms.specs.Expr.{Expr, Var, Const, Bv, Compare, Ite, Extract, Concat, ZeroExtend, SignExtend}
+use Rattle.terms.specs.Expr.{BinOp, Add, Sub, Mul, And, Or, Xor, Shl, LShr, AShr, CmpOp, Eq, Ult, Slt, Expr, Var, Const, Bv, Compare, Ite, Extract, Concat, ZeroExtend, SignExtend}
 
 -- the bytes of an ASCII text
 abbrev pub bytes : String → List ℕ

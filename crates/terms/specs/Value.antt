@@ -1,14 +1,10 @@
 -- The value of a term: the SMT-LIB theory FixedSizeBitVectors, with the abbreviations of its logic QF_BV.
 -- A bit-vector of m bits is the natural number bv2nat of it, below 2 ^ m. A condition is 1 or 0.
-use mathlib.Core.Bool.{Bool, true, false, cond, _&&_, _||_}
+use mathlib.Core.Bool.{Bool, cond, _&&_, _||_}
 use Prim.Native.Nat.{ℕ, zero, suc, _+_, _-_, _*_, _/_, _%_, _^_}
 use lib.Dec.{ltb, eqb}
 use lib.Bits.{bitAnd, bitOr, bitXor}
-use Rattle.terms.specs.declared.BinOp.{BinOp}
-use Rattle.terms.specs.declared.BinOp.the-variants.{Add, Sub, Mul, And, Or, Xor, Shl, LShr, AShr}
-use Rattle.terms.specs.declared.CmpOp.{CmpOp}
-use Rattle.terms.specs.declared.CmpOp.the-variants.{Eq, Ult, Slt}
-use Rattle.terms.specs.Expr.{Expr, Var, Const, Bv, Compare, Ite, Extract, Concat, ZeroExtend, SignExtend, width}
+use Rattle.terms.specs.Expr.{BinOp, Add, Sub, Mul, And, Or, Xor, Shl, LShr, AShr, CmpOp, Eq, Ult, Slt, Expr, Var, Const, Bv, Compare, Ite, Extract, Concat, ZeroExtend, SignExtend, width}
 
 -- the most significant bit: extract m-1 m-1
 unfoldable pub msb : ℕ → ℕ → ℕ
@@ -74,8 +70,7 @@ holds Slt m s t = bvslt m s t
 
 -- a condition as a number, and the choice by it
 abbrev pub bit : Bool → ℕ
-bit true = 1
-bit false = 0
+bit c = cond c 1 0
 
 abbrev pub ite : ℕ → ℕ → ℕ → ℕ
 ite zero t e = e

@@ -3,27 +3,25 @@
 use mathlib.Core.Bool.{Bool, true, false, cond, not}
 use Prim.Native.Nat.{ℕ, zero, suc, max, _+_, _-_, _*_, _/_, _^_}
 use lib.Dec.{ltb}
-use Rattle.terms.specs.declared.BinOp.{BinOp}
-use Rattle.terms.specs.declared.BinOp.the-variants.{Add, Sub, Mul, And, Or, Xor, Shl, LShr, AShr}
-use Rattle.terms.specs.declared.CmpOp.{CmpOp}
-use Rattle.terms.specs.declared.CmpOp.the-variants.{Eq, Ult, Slt}
+pub use Rattle.terms.specs.declared.BinOp.{BinOp}
+pub use Rattle.terms.specs.declared.BinOp.the-variants.{Add, Sub, Mul, And, Or, Xor, Shl, LShr, AShr}
+pub use Rattle.terms.specs.declared.CmpOp.{CmpOp}
+pub use Rattle.terms.specs.declared.CmpOp.the-variants.{Eq, Ult, Slt}
 use Rattle.terms.specs.Expr.{Expr, Const, Bv, Compare, Ite, Concat, ZeroExtend, SignExtend}
-use Rattle.trees.specs.declared.SaturateTo.{SaturateTo}
-use Rattle.trees.specs.declared.SaturateTo.the-variants.{Signed, Unsigned, SignedToUnsigned}
-use Rattle.trees.specs.declared.Saturate.{Saturate}
-use Rattle.trees.specs.declared.Saturate.the-variants.{Never, Into}
-use Rattle.trees.specs.declared.ShiftKind.{ShiftKind}
-use Rattle.trees.specs.declared.ShiftKind.the-variants.{LeftImmediate, RightImmediate, Register}
-use Rattle.trees.specs.declared.SaturatingKind.{SaturatingKind}
-use Rattle.trees.specs.declared.SaturatingKind.the-variants.{AddSub, Halving, Narrow, ShiftNarrow, DoublingMultiplyHigh, Unary}
-use Rattle.trees.specs.declared.BitwiseUnary.{BitwiseUnary}
-use Rattle.trees.specs.declared.BitwiseUnary.the-variants.{PopulationCount, LeadingZeros, LeadingSignBits, ReverseBits}
-use Rattle.trees.specs.declared.Combine.{Combine}
-use Rattle.trees.specs.declared.Combine.the-variants.{Nothing, With}
+pub use Rattle.trees.specs.declared.SaturateTo.{SaturateTo}
+pub use Rattle.trees.specs.declared.SaturateTo.the-variants.{Signed, Unsigned, SignedToUnsigned}
+pub use Rattle.trees.specs.declared.Saturate.{Saturate}
+pub use Rattle.trees.specs.declared.Saturate.the-variants.{Never, Into}
+pub use Rattle.trees.specs.declared.ShiftKind.{ShiftKind}
+pub use Rattle.trees.specs.declared.ShiftKind.the-variants.{LeftImmediate, RightImmediate, Register}
+pub use Rattle.trees.specs.declared.SaturatingKind.{SaturatingKind}
+pub use Rattle.trees.specs.declared.SaturatingKind.the-variants.{AddSub, Halving, Narrow, ShiftNarrow, DoublingMultiplyHigh, Unary}
+pub use Rattle.trees.specs.declared.BitwiseUnary.{BitwiseUnary}
+pub use Rattle.trees.specs.declared.BitwiseUnary.the-variants.{PopulationCount, LeadingZeros, LeadingSignBits, ReverseBits}
+pub use Rattle.trees.specs.declared.Combine.{Combine}
+pub use Rattle.trees.specs.declared.Combine.the-variants.{Nothing, With}
 use Rattle.trees.specs.Simd.{extract, extractLane, concatLanes}
 use Rattle.trees.specs.Lower.{extend, unsignedMax}
-
--- ---- shared parts
 
 abbrev pub signedMax : ℕ → ℕ
 signedMax n = 2 ^ (n - 1) - 1
@@ -44,19 +42,12 @@ unfoldable pub clamp : (value : Expr) (wide n : ℕ) → SaturateTo → Expr
 clamp value wide n to = extract (clamped value wide n to) (n - 1) 0
 
 -- the closure `shift_by`: an arithmetic or a logical shift to the right
-abbrev pub shiftOp : Bool → BinOp
-shiftOp true = AShr
-shiftOp false = LShr
-
 abbrev pub shiftBy : Bool → Expr → Expr → Expr
-shiftBy signed v by = Bv (shiftOp signed) v by
+shiftBy signed v by = Bv (cond signed AShr LShr) v by
 
 -- with a constant added where rounding is asked
 abbrev pub plusIf : Bool → Expr → Expr → Expr
-plusIf true v c = Bv Add v c
-plusIf false v c = v
-
--- ---- `saturating_lane`
+plusIf rounding v c = cond rounding (Bv Add v c) v
 
 -- a rounding narrow needs one bit more than its source, and so does a doubled product
 abbrev pub narrowBits : ℕ → ℕ
@@ -70,9 +61,9 @@ narrowed value wide n Never = extract value (n - 1) 0
 narrowed value wide n (Into to) = clamp value wide n to
 
 abbrev pub negated : Bool → Expr → ℕ → Expr
-negated true value wide = Bv Sub (Const 0 wide) value
-negated false value wide = Ite (Compare Slt value (Const 0 wide)) (Bv Sub (Const 0 wide) value) value
+negated always value wide = let minus = Bv Sub (Const 0 wide) value in cond always minus (Ite (Compare Slt value (Const 0 wide)) minus value)
 
+-- `saturating_lane`
 unfoldable pub saturatingLane : SaturatingKind → (a b : Expr) (n : ℕ) (signed : Bool) → Expr
 saturatingLane (AddSub op to) a b n signed = clamp (Bv op (extend a (n + 1) signed) (extend b (n + 1) signed)) (n + 1) n to
 saturatingLane (Halving rounding) a b n signed =
@@ -88,8 +79,6 @@ saturatingLane (DoublingMultiplyHigh rounding) a b n signed =
     let doubled = Bv Shl (Bv Mul (extend a wide true) (extend b wide true)) (Const 1 wide) in
     clamp (Bv AShr (plusIf rounding doubled (Const (2 ^ (n - 1)) wide)) (Const n wide)) wide n Signed
 saturatingLane (Unary negate) a b n signed = clamp (negated negate (extend a (n + 1) true) (n + 1)) (n + 1) n Signed
-
--- ---- `shift_lane`
 
 -- `shift_right`: `most` is the largest amount, which sizes the sum of a rounding shift
 abbrev pub roundingBits : ℕ → ℕ → ℕ
@@ -116,16 +105,12 @@ saturatingShiftLeft value amount n signed =
 abbrev pub registerShiftMax : ℕ
 registerShiftMax = 128
 
--- SQSHLU: the exact product and one bit for its sign
-abbrev pub exactBits : ℕ → ℕ → ℕ
-exactBits n shift = n + shift + 1
-
 abbrev pub leftImmediate : (saturate : Saturate) (value : Expr) (shift n : ℕ) (signed : Bool) → Expr
 leftImmediate Never value shift n signed = Bv Shl value (Const shift n)
 leftImmediate (Into Signed) value shift n signed = saturatingShiftLeft value (Const shift n) n signed
 leftImmediate (Into Unsigned) value shift n signed = saturatingShiftLeft value (Const shift n) n signed
 leftImmediate (Into SignedToUnsigned) value shift n signed =
-    let wide = exactBits n shift in
+    let wide = n + shift + 1 in
     clamp (Bv Shl (SignExtend value wide) (Const shift wide)) wide n SignedToUnsigned
 
 -- the signed low byte of a register shift's amount
@@ -133,17 +118,15 @@ abbrev pub signedAmount : Expr → ℕ → Expr
 signedAmount raw n = cond (ltb 8 n) (SignExtend (extract raw 7 0) n) raw
 
 abbrev pub leftBy : (saturate : Bool) (value amount : Expr) (n : ℕ) (signed : Bool) → Expr
-leftBy true value amount n signed = saturatingShiftLeft value amount n signed
-leftBy false value amount n signed = Bv Shl value amount
+leftBy saturate value amount n signed = cond saturate (saturatingShiftLeft value amount n signed) (Bv Shl value amount)
 
+-- `shift_lane`
 unfoldable pub shiftLane : ShiftKind → (signed : Bool) (value amount : Expr) (n : ℕ) → Expr
 shiftLane (LeftImmediate shift saturate) signed value amount n = leftImmediate saturate value shift n signed
 shiftLane (RightImmediate shift rounding) signed value amount n = shiftRight value (Const shift n) n signed rounding shift
 shiftLane (Register rounding saturate) signed value amount n =
     let by = signedAmount amount n in
     Ite (Compare Slt by (Const 0 n)) (shiftRight value (Bv Sub (Const 0 n) by) n signed rounding registerShiftMax) (leftBy saturate value by n signed)
-
--- ---- `bitwise_unary_lane`
 
 -- `leading_zeros`, of the bits below k: the test of bit k - 1 stands outermost
 unfoldable pub leadingZeros : Expr → ℕ → ℕ → Expr
@@ -155,6 +138,7 @@ unfoldable pub populationCount : Expr → ℕ → ℕ → Expr
 populationCount v n zero = Const 0 n
 populationCount v n (suc k) = Bv Add (populationCount v n k) (ZeroExtend (extract v k k) n)
 
+-- `bitwise_unary_lane`
 unfoldable pub bitwiseUnaryLane : BitwiseUnary → Expr → ℕ → Expr
 bitwiseUnaryLane PopulationCount v n = populationCount v n n
 bitwiseUnaryLane LeadingZeros v n = leadingZeros v n n
@@ -163,39 +147,21 @@ bitwiseUnaryLane LeadingSignBits v n =
 bitwiseUnaryLane ReverseBits v n = concatLanes (n - 1) (λ j. extract v (n - 1 - j) (n - 1 - j))
 
 -- `absolute_difference_lane`
-abbrev pub lessOp : Bool → CmpOp
-lessOp true = Slt
-lessOp false = Ult
-
 unfoldable pub absoluteDifferenceLane : Bool → Expr → Expr → Expr
-absoluteDifferenceLane signed a b = Ite (Compare (lessOp signed) a b) (Bv Sub b a) (Bv Sub a b)
-
--- ---- lanes that the Rust builds inside its loops
+absoluteDifferenceLane signed a b = Ite (Compare (cond signed Slt Ult) a b) (Bv Sub b a) (Bv Sub a b)
 
 -- the bits of d that SLI and SRI keep: `low_bits(shift)`, and `unsigned_max(n) ^ low_bits(n - shift)`
 abbrev pub keptBits : Bool → ℕ → ℕ → ℕ
-keptBits true n shift = 2 ^ shift - 1
-keptBits false n shift = 2 ^ n - 2 ^ (n - shift)
-
-abbrev pub insertOp : Bool → BinOp
-insertOp true = Shl
-insertOp false = LShr
+keptBits left n shift = cond left (2 ^ shift - 1) (2 ^ n - 2 ^ (n - shift))
 
 unfoldable pub shiftInsertLane : (left : Bool) (d a : Expr) (shift n : ℕ) → Expr
-shiftInsertLane left d a shift n = Bv Or (Bv (insertOp left) a (Const shift n)) (Bv And d (Const (keptBits left n shift) n))
-
--- two bits more than a lane
-abbrev pub mixedBits : ℕ → ℕ
-mixedBits n = n + 2
+shiftInsertLane left d a shift n = Bv Or (Bv (cond left Shl LShr) a (Const shift n)) (Bv And d (Const (keptBits left n shift) n))
 
 -- a sum that can be negative is clamped into the unsigned range as a signed one
-abbrev pub mixedTo : Bool → SaturateTo
-mixedTo true = Signed
-mixedTo false = SignedToUnsigned
-
 unfoldable pub mixedSignAddLane : (signed : Bool) (d a : Expr) (n : ℕ) → Expr
 mixedSignAddLane signed d a n =
-    clamp (Bv Add (extend d (mixedBits n) signed) (extend a (mixedBits n) (not signed))) (mixedBits n) n (mixedTo signed)
+    let wide = n + 2 in
+    clamp (Bv Add (extend d wide signed) (extend a wide (not signed))) wide n (cond signed Signed SignedToUnsigned)
 
 unfoldable pub doublingProduct : (a b : Expr) (n : ℕ) → Expr
 doublingProduct a b n = clamp (Bv Shl (Bv Mul (extend a (n + 1) true) (extend b (n + 1) true)) (Const 1 (n + 1))) (n + 1) n Signed
@@ -209,12 +175,9 @@ unfoldable pub doublingLongLane : Combine → (d a b : Expr) (n : ℕ) → Expr
 doublingLongLane combine d a b n = combined combine d (doublingProduct a b n) n
 
 abbrev pub accumulated : Bool → Expr → Expr → Expr
-accumulated true d difference = Bv Add d difference
-accumulated false d difference = difference
+accumulated accumulate d difference = cond accumulate (Bv Add d difference) difference
 
--- ---- whole vectors of k lanes: first and second are the sources, d the old destination
-
--- `shift_lanes`
+-- `shift_lanes`, as all that follow on whole vectors of k lanes: first and second are the sources, d the old destination
 unfoldable pub shiftLanes : ShiftKind → (signed : Bool) (first second : Expr) (n k : ℕ) → Expr
 shiftLanes kind signed first second n k = concatLanes (k - 1) λ j. shiftLane kind signed (extractLane first n j) (extractLane second n j) n
 
@@ -247,8 +210,7 @@ narrowing (Unary negate) = false
 
 -- a narrowing "2" form keeps the lower half of d
 abbrev pub keepLower : (upper : Bool) (new d : Expr) (n k : ℕ) → Expr
-keepLower true new d n k = Concat new (extract d (n * k - 1) 0)
-keepLower false new d n k = new
+keepLower upper new d n k = cond upper (Concat new (extract d (n * k - 1) 0)) new
 
 unfoldable pub saturatingLanes : SaturatingKind → (signed upper : Bool) (first second d : Expr) (n k : ℕ) → Expr
 saturatingLanes kind signed upper first second d n k =

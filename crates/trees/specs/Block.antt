@@ -1,5 +1,5 @@
 -- The terms of a block's registers (document 01, "Pool"): how a record reads them, its term, and the map after it.
-use mathlib.Core.Bool.{Bool, true, false}
+use mathlib.Core.Bool.{Bool, cond}
 use mathlib.Core.List.{List, [], _∷_}
 use Prim.Native.Nat.{ℕ}
 use Rattle.terms.specs.Expr.{Expr, ZeroExtend}
@@ -12,13 +12,11 @@ use Rattle.trees.specs.Neon.{resultTree}
 
 -- a register as it is read: whole, or its low half
 abbrev pub readTree : Bool → Expr → Expr
-readTree true x = x
-readTree false x = extract x 63 0
+readTree whole x = cond whole x (extract x 63 0)
 
 -- a result of 64 bits is widened
 abbrev pub widenTree : Bool → Expr → Expr
-widenTree true x = x
-widenTree false x = ZeroExtend x 128
+widenTree whole x = cond whole x (ZeroExtend x 128)
 
 -- the term that a record writes, over the terms that the registers have
 unfoldable pub recordTree : Instruction → (ℕ → Expr) → Expr

@@ -17,8 +17,8 @@ use Rattle.terms.specs.Rules.{Good}
 use Rattle.neon.specs.Form.{most}
 use Rattle.trees.specs.Simd.{extractCollapsing, extractLane, concatLanes, joins}
 use Rattle.trees.specs.Lower.{extend}
-use Rattle.trees.specs.Arith.{clamp, shiftBy, plusIf, narrowed, negated, saturatingLane, shiftRight, shiftBound, saturatingShiftLeft, registerShiftMax, leftImmediate, signedAmount, leftBy, shiftLane, leadingZeros, populationCount, bitwiseUnaryLane, absoluteDifferenceLane, shiftInsertLane, mixedTo, mixedSignAddLane, doublingProduct, doublingLongLane}
-use Rattle.trees.specs.Width.{sumOp, highNarrowLane}
+use Rattle.trees.specs.Arith.{clamp, shiftBy, plusIf, narrowed, negated, saturatingLane, shiftRight, shiftBound, saturatingShiftLeft, registerShiftMax, leftImmediate, signedAmount, leftBy, shiftLane, leadingZeros, populationCount, bitwiseUnaryLane, absoluteDifferenceLane, shiftInsertLane, mixedSignAddLane, doublingProduct, doublingLongLane}
+use Rattle.trees.specs.Width.{highNarrowLane}
 use Rattle.trees.specs.declared.SaturateTo.the-variants.{Signed, Unsigned, SignedToUnsigned}
 use Rattle.trees.specs.declared.SaturateTo.{SaturateTo}
 use Rattle.trees.specs.declared.Saturate.the-variants.{Never, Into}
@@ -257,7 +257,7 @@ module _ (n : ℕ) (h8 : 8 ≤ n) (h64 : n ≤ 64) where
   pub fit-mixed : (s : Bool) {d a : Expr} → Fit d n → Fit a n → Fit (mixedSignAddLane s d a n) n
   unfolding mixedSignAddLane
   fit-mixed s o p =
-      fit-clamp (mixedTo s) n hn (omega arith) (omega arith)
+      fit-clamp (cond s Signed SignedToUnsigned) n hn (omega arith) (omega arith)
       (fit-bv Add (fit-extend s (n + 2) (omega arith) (omega arith) o) (fit-extend (not s) (n + 2) (omega arith) (omega arith) p))
 
   pub fit-product : {a b : Expr} → Fit a (n / 2) → Fit b (n / 2) → Fit (doublingProduct a b n) n
@@ -281,7 +281,7 @@ module _ (n : ℕ) (h8 : 8 ≤ n) (h64 : n ≤ 64) where
   pub fit-high : (subtract t : Bool) {a b : Expr} → Fit a (n * 2) → Fit b (n * 2) → Fit (highNarrowLane subtract t a b n) n
   unfolding highNarrowLane
   fit-high subtract t p q =
-      fit-as (omega arith) (fit-extract (n * 2 - 1) n (omega arith) (omega arith) (fit-plus t (2 ^ (n - 1)) (omega arith) (pow-lt (omega arith)) (fit-bv (sumOp subtract) p q)))
+      fit-as (omega arith) (fit-extract (n * 2 - 1) n (omega arith) (omega arith) (fit-plus t (2 ^ (n - 1)) (omega arith) (pow-lt (omega arith)) (fit-bv (cond subtract Sub Add) p q)))
 
 -- ---- lanes
 pub fit-concat-lanes : (n k : ℕ) (f : ℕ → Expr) → n * suc k ≤ 129 → ((j : ℕ) → j ≤ k → Fit (f j) n) → Fit (concatLanes k f) (n * suc k)

@@ -1,6 +1,6 @@
 -- The value of the Rust's tree for a lane is the Arm value, for each of the 67 operations and every even lane width n from 8 on. Assumes nothing.
 use mathlib.Core.Path.{_≡_, ap, subst}
-use mathlib.Core.Bool.{Bool, true, false}
+use mathlib.Core.Bool.{Bool, true, false, cond}
 use Prim.Native.Nat.{ℕ, _-_, _*_, _/_, _^_, _≤_, _<_}
 use native.Mathlib.Omega.{arith}
 use lib.IntN.{pos, _*ℤ_}
@@ -13,7 +13,7 @@ use Rattle.trees.specs.declared.NeonOp.{NeonOp}
 use Rattle.trees.specs.declared.NeonOp.the-variants.{Shift, ShiftInsert, MixedSignAdd, DoublingLong, Saturating, BitwiseUnary, AbsoluteDifference, HighNarrow}
 use Rattle.trees.specs.declared.Combine.the-variants.{With}
 use Rattle.trees.specs.Arith.{shiftLane, shiftInsertLane, mixedSignAddLane, doublingProduct, doublingLongLane, saturatingLane, bitwiseUnaryLane, accumulated, absoluteDifferenceLane}
-use Rattle.trees.specs.Width.{sumOp, highNarrowLane}
+use Rattle.trees.specs.Width.{highNarrowLane}
 use Rattle.trees.specs.Neon.{neonOp}
 use Rattle.value.proofs.Bv.{FitsS, FitsU}
 use Rattle.value.proofs.Is.{Is, Has, has-is, has-number, is-number, is-eq, is-add}
@@ -21,6 +21,7 @@ use Rattle.value.proofs.Clamp.{S-fits, is-reading}
 use Rattle.value.proofs.Register.{is-register, is-shl-immediate, is-sqshl-immediate, is-shr-immediate, is-rshr-immediate, is-sqshlu}
 use Rattle.value.proofs.Sat.{applyZ, is-halving, is-sqaddsub, is-dmulh, is-uqadd, is-uqsub, is-sqneg, is-sqabs, is-sqxtn, is-uqxtn, is-sqxtun, is-shrn, is-sqshrn, is-uqshrn, is-sqshrun, is-dmull, is-dmlal, is-suqadd, is-usqadd, is-abd}
 use Rattle.value.proofs.Bits.{ones-le, run-le, is-count, is-leading, is-signs, reverse-width, reverse-value, sli-value, sri-value, insert-width, high-width, high-value}
+use Rattle.terms.specs.declared.BinOp.the-variants.{Add, Sub}
 
 -- the term of one lane of a family: d is the old lane, a and b are the source lanes
 abbrev pub laneTree : NeonOp → (n : ℕ) (d a b : Expr) → Expr
@@ -97,9 +98,9 @@ module _ (r : ℕ → ℕ) (n i : ℕ) (d a b : Expr) (w x y : ℕ) (h8 : 8 ≤ 
       subst (λ (m : ℕ). Is r (doublingProduct a b m) m (cS m (S (n / 2) x *ℤ S (n / 2) y *ℤ pos 2))) even
       (is-dmull r a b (n / 2) (S (n / 2) x) (S (n / 2) y) (omega arith) (g .sx) (g .sy) (g .qa) (g .qb))
 
-  long-combined : (subtract : Bool) → Sources r a b x y (n / 2) → Is r (doublingLongLane (With (sumOp subtract)) d a b n) n (cS n (applyZ subtract (S n w) (doubled n x y)))
+  long-combined : (subtract : Bool) → Sources r a b x y (n / 2) → Is r (doublingLongLane (With (cond subtract Sub Add)) d a b n) n (cS n (applyZ subtract (S n w) (doubled n x y)))
   long-combined subtract g =
-      subst (λ (m : ℕ). FitsS m (S n w) → Is r d m (S n w) → Is r (doublingLongLane (With (sumOp subtract)) d a b m) m (cS m (applyZ subtract (S n w) (cS m (S (n / 2) x *ℤ S (n / 2) y *ℤ pos 2))))) even
+      subst (λ (m : ℕ). FitsS m (S n w) → Is r d m (S n w) → Is r (doublingLongLane (With (cond subtract Sub Add)) d a b m) m (cS m (applyZ subtract (S n w) (cS m (S (n / 2) x *ℤ S (n / 2) y *ℤ pos 2))))) even
       (is-dmlal r a b (n / 2) (S (n / 2) x) (S (n / 2) y) (omega arith) (g .sx) (g .sy) (g .qa) (g .qb) subtract d (S n w)) sw qd
 
   pub lane-is : (o : Op) → least o ≤ i → i ≤ most o n → Sources r a b x y (sourceBits (form o .lanes) n) → (upper : Bool) → Has r (laneTree (neonOp o i upper) n d a b) n (armLane o n i w x y)

@@ -12,7 +12,6 @@ use Rattle.terms.specs.declared.BinOp.the-variants.{Add, Sub, Mul, Shl}
 use Rattle.neon.specs.Arm.{cS, cU, floor}
 use Rattle.trees.specs.Lower.{extend}
 use Rattle.trees.specs.Arith.{shiftBy, plusIf, saturatingLane, absoluteDifferenceLane, mixedSignAddLane, doublingProduct, doublingLongLane}
-use Rattle.trees.specs.Width.{sumOp}
 use Rattle.trees.specs.declared.SaturateTo.the-variants.{Signed, Unsigned, SignedToUnsigned}
 use Rattle.trees.specs.declared.Saturate.the-variants.{Never, Into}
 use Rattle.trees.specs.declared.SaturatingKind.the-variants.{AddSub, Halving, Narrow, ShiftNarrow, DoublingMultiplyHigh, Unary}
@@ -106,7 +105,7 @@ module _ (r : ℕ → ℕ) where
         (is-plus rounding 1 (omega (arith, next n hn)) (is-add r (is-extend r s hn one-more f p) (is-extend r s hn one-more g q)))
         (by-const r 1 (n + 1)))
 
-  pub is-apply : (subtract : Bool) {a b : Expr} {w : ℕ} {x y : ℤ} → Is r a w x → Is r b w y → Is r (Bv (sumOp subtract) a b) w (applyZ subtract x y)
+  pub is-apply : (subtract : Bool) {a b : Expr} {w : ℕ} {x y : ℤ} → Is r a w x → Is r b w y → Is r (Bv (cond subtract Sub Add) a b) w (applyZ subtract x y)
   is-apply false p q = is-add r p q
   is-apply true p q = is-sub r p q
 
@@ -116,7 +115,7 @@ module _ (r : ℕ → ℕ) where
 
   -- two signed lanes
   module _ (a b : Expr) (n : ℕ) (x y : ℤ) (hn : 0 < n) (f : FitsS n x) (g : FitsS n y) (p : Is r a n x) (q : Is r b n y) where
-    pub is-sqaddsub : (subtract : Bool) → Is r (saturatingLane (AddSub (sumOp subtract) Signed) a b n true) n (cS n (applyZ subtract x y))
+    pub is-sqaddsub : (subtract : Bool) → Is r (saturatingLane (AddSub (cond subtract Sub Add) Signed) a b n true) n (cS n (applyZ subtract x y))
     unfolding saturatingLane
     is-sqaddsub subtract =
         is-clampS r hn (omega arith) (apply-fits subtract hn f g) (is-apply subtract (is-extend r true hn (omega arith) f p) (is-extend r true hn (omega arith) g q))
@@ -266,7 +265,7 @@ module _ (r : ℕ → ℕ) where
         (is-doubled a b h x y hh f g p q (h * 2 + 1) (omega arith))
 
     pub is-dmlal : (subtract : Bool) (d : Expr) (z : ℤ) → FitsS (h * 2) z → Is r d (h * 2) z
-        → Is r (doublingLongLane (With (sumOp subtract)) d a b (h * 2)) (h * 2) (cS (h * 2) (applyZ subtract z (cS (h * 2) (x *ℤ y *ℤ pos 2))))
+        → Is r (doublingLongLane (With (cond subtract Sub Add)) d a b (h * 2)) (h * 2) (cS (h * 2) (applyZ subtract z (cS (h * 2) (x *ℤ y *ℤ pos 2))))
     unfolding doublingLongLane
     is-dmlal subtract d z k o =
         is-clampS r (omega arith) (omega arith) (apply-fits subtract (omega arith) k (clamp-fits (h * 2) (x *ℤ y *ℤ pos 2)))
