@@ -1,11 +1,10 @@
--- Numbers in columns (document 01, "Text and program"): right-justified decimals in fields of 4 characters, and a line of six of them.
+-- Numbers in columns (document 01, "Text and program"): right-justified decimals in fields of 4 characters.
 use mathlib.Core.Bool.{Bool, true, false, cond, _&&_}
 use mathlib.Core.List.{List, [], _∷_, _++_}
 use Prim.Native.Nat.{ℕ, _+_, _-_, _*_, _%_}
 use lib.Dec.{leb, eqb}
 use lib.ListN.{length, getD, take, drop, replicate}
 use Rattle.terms.specs.Display.{decimal}
-use Rattle.neon.specs.declared.Instruction.{Instruction}
 
 -- x in 4 columns: its decimal, which has no leading zeros, and blanks to the left
 unfoldable pub columns : ℕ → List ℕ
@@ -33,23 +32,3 @@ same (x ∷ xs) (y ∷ ys) = eqb x y && same xs ys
 -- those characters are that number in columns
 unfoldable pub isField : List ℕ → ℕ → Bool
 isField line at = same (take 4 (drop at line)) (columns (fieldAt line at))
-
--- 24 characters, six fields
-unfoldable pub inColumns : List ℕ → Bool
-inColumns line =
-    eqb (length line) 24
-    && (isField line 0 && (isField line 4 && (isField line 8 && (isField line 12 && (isField line 16 && isField line 20)))))
-
-abbrev pub fields : List ℕ → List ℕ
-fields line = fieldAt line 0 ∷ fieldAt line 4 ∷ fieldAt line 8 ∷ fieldAt line 12 ∷ fieldAt line 16 ∷ fieldAt line 20 ∷ []
-
-abbrev pub recordOf : List ℕ → Instruction
-recordOf line =
-    record {
-      operation = fieldAt line 0;
-      arrangement = fieldAt line 4;
-      i = fieldAt line 8;
-      d = fieldAt line 12;
-      n = fieldAt line 16;
-      m = fieldAt line 20;
-    }

@@ -4,7 +4,7 @@ ghost use mathlib.Core.Path.{_≡_};
 ghost use Prim.Native.Nat.{_+_, _≤_, _<_};
 ghost use lib.ListN.{length};
 ghost use Rattle.digits.specs.Writing.{Room, Wrote};
-ghost use Rattle.columns.specs.Columns.{columns, characterOf, shown, fieldAt, isField, inColumns, fields};
+ghost use Rattle.columns.specs.Columns.{columns, characterOf, shown, fieldAt, isField};
 
 // The digit that a character shows.
 fn digit(b: u8) -> u64
@@ -20,7 +20,7 @@ fn digit(b: u8) -> u64
 }
 
 // The number that a field shows.
-fn field(line: &[u8], at: usize) -> u64
+pub fn field(line: &[u8], at: usize) -> u64
     requires { ⌜ at + 4 ≤ length (now line) ⌝ }
     ensures { λ r. ⌜ (r ≡ fieldAt (now (line .entry)) at) × (r < 10000) ⌝ }
 {
@@ -56,7 +56,7 @@ fn written(x: u64) -> [u8; 4]
 }
 
 // Whether the 4 characters are a number in columns.
-fn is_field(line: &[u8], at: usize) -> bool
+pub fn is_field(line: &[u8], at: usize) -> bool
     requires { ⌜ at + 4 ≤ length (now line) ⌝ }
     ensures { λ r. ⌜ r ≡ isField (now (line .entry)) at ⌝ }
 {
@@ -71,46 +71,6 @@ fn is_field(line: &[u8], at: usize) -> bool
         return false;
     }
     line[at + 3] == w[3]
-}
-
-// Whether a line is six fields.
-pub fn in_columns(line: &[u8]) -> bool
-    ensures { λ r. ⌜ r ≡ inColumns (now (line .entry)) ⌝ }
-{
-    if line.len() != 24 {
-        return false;
-    }
-    if !is_field(line, 0) {
-        return false;
-    }
-    if !is_field(line, 4) {
-        return false;
-    }
-    if !is_field(line, 8) {
-        return false;
-    }
-    if !is_field(line, 12) {
-        return false;
-    }
-    if !is_field(line, 16) {
-        return false;
-    }
-    is_field(line, 20)
-}
-
-// The six numbers of a line.
-pub fn fields_of(line: &[u8]) -> [u64; 6]
-    requires { ⌜ 24 ≤ length (now line) ⌝ }
-    ensures { λ r. ⌜ r ≡ fields (now (line .entry)) ⌝ }
-{
-    [
-        field(line, 0),
-        field(line, 4),
-        field(line, 8),
-        field(line, 12),
-        field(line, 16),
-        field(line, 20),
-    ]
 }
 
 // Writes a number in columns.

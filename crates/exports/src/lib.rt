@@ -1,16 +1,14 @@
 // The public operations for C and Rust to link, by `rt staticlib exports`; include/neon_terms.h declares them. A slice is a
 // pointer and a length. No call requires anything of its numbers: what it cannot do it refuses by number.
-use register_map::RegisterMap;
+use block_results::put_results;
 ghost use mathlib.Core.Path.{_≡_};
-ghost use Prim.Native.Nat.{_≤_};
-ghost use lib.ListN.{length};
 ghost use Rattle.neon.specs.Form.{formCodeAt};
 ghost use Rattle.pool.specs.Rules.{poolOk};
 ghost use Rattle.text.specs.Answer.{Answered as TextAnswered};
 ghost use Rattle.text_length.specs.Answer.{Measured};
 ghost use Rattle.instruction.specs.Lowering.{Answers};
 ghost use Rattle.block_check.specs.Records.{recordsOf};
-ghost use Rattle.exports.specs.Results.{Told, put};
+ghost use Rattle.exports.specs.Results.{Told};
 
 // The words that `neon_lower_block` gives back: 32 nodes, the count and the position.
 const RESULTS: usize = 34;
@@ -53,21 +51,6 @@ pub extern "C" fn neon_lower_instruction(
     *node = lowered.node;
     *after = lowered.count;
     lowered.number
-}
-
-// Writes the nodes of the 32 registers, the count and the position.
-fn put_results(results: &mut [u64], map: RegisterMap, position: usize)
-    requires { ⌜ 34 ≤ length (now results) ⌝ }
-    ensures { λ _. ⌜ now (results .exit) ≡ put (now (results .entry)) map position ⌝ }
-{
-    let mut r: usize = 0;
-    while r < 32 {
-        let node = map.get(r as u64);
-        results[r] = node.0 as u64;
-        r += 1;
-    }
-    results[32] = map.count as u64;
-    results[33] = position as u64;
 }
 
 // Returns the number; the map, the count and the position go to `results`. Where that is too short, nothing is lowered.

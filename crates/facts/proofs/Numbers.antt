@@ -24,6 +24,10 @@ below (suc n) = omega (arith, below n, pow-suc 2 n)
 pub small : (n k w : ℕ) → k ≤ n → n ≤ w → k < 2 ^ w
 small n k w h l = omega (arith, below n, pow-mono l)
 
+-- half of 2 ^ i fits in i bits and more
+pub half-fits : (i w : ℕ) → 1 ≤ i → i ≤ w → 2 ^ (i - 1) < 2 ^ w
+half-fits i w h l = pow-lt (omega arith)
+
 -- 1 << k in a word
 pub shifted : (k : ℕ) → k < 64 → (1 * 2 ^ k) % 18446744073709551616 ≡ 2 ^ k
 shifted k h = rw (one-mul (2 ^ k)) (mod-eq-of-lt (pow-lt {j = 64} h))

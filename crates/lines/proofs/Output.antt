@@ -9,7 +9,7 @@ use lib.ListN.{length, take, drop}
 use lib.Seq.{take-all, length-take-le}
 use borrow.Author.Tests.{leb-true, leb-false, ne-eqb}
 use Rattle.facts.proofs.Tests.{false≢true}
-use Rattle.columns.specs.Columns.{inColumns}
+use Rattle.line_fields.specs.Fields.{inColumns}
 use Rattle.line_pieces.specs.declared.Gathered.{Gathered}
 use Rattle.line_pieces.specs.Pieces.{upTo, ends, one, Gathers}
 use Rattle.lines.specs.Line.{answer}

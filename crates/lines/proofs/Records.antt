@@ -24,7 +24,8 @@ use Rattle.block_check.proofs.Refusals.{block-legal}
 use Rattle.register_map.specs.Map.{nodeOf}
 use Rattle.block.specs.declared.BlockAnswer.{BlockAnswer}
 use Rattle.block.specs.Block.{Answered}
-use Rattle.columns.specs.Columns.{columns, inColumns, fields, recordOf}
+use Rattle.columns.specs.Columns.{columns}
+use Rattle.line_fields.specs.Fields.{inColumns, fields, recordOf}
 use Rattle.line_answers.specs.Answer.{answerRoom, roomNumber, written}
 use Rattle.lines.specs.Line.{recordText, oneNumber, answer, answerIn}
 

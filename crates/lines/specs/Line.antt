@@ -12,7 +12,7 @@ use Rattle.neon.specs.Refusal.{blockRefusal}
 use Rattle.trees.specs.Block.{treeRun}
 use Rattle.block.specs.declared.BlockAnswer.{BlockAnswer}
 use Rattle.block.specs.Block.{Answered}
-use Rattle.columns.specs.Columns.{inColumns, recordOf}
+use Rattle.line_fields.specs.Fields.{inColumns, recordOf}
 use Rattle.line_answers.specs.Answer.{answerRoom, roomNumber, written}
 
 -- the text of register d after a block of one

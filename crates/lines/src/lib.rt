@@ -1,10 +1,10 @@
 // A line of the program `lanes`: what it means and what is written for it (document 01, "Text and program"). The Rust has no
 // counterpart.
-use columns::fields_of;
-use columns::in_columns;
 use line_answers::ANSWER_ROOM;
 use line_answers::put_number;
 use line_answers::put_term;
+use line_fields::fields_of;
+use line_fields::in_columns;
 ghost use Prim.Native.Nat.{_-_};
 ghost use lib.ListN.{length};
 ghost use Rattle.pool.specs.Node.{places};

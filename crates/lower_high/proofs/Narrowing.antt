@@ -4,7 +4,6 @@ use mathlib.Core.Path.{_≡_, refl}
 use mathlib.Core.Bool.{Bool, cond}
 use mathlib.Core.List.{List, [], _∷_}
 use native.Mathlib.Omega.{arith}
-use lib.Pow.{pow-lt}
 use Rattle.terms.specs.declared.BinOp.{BinOp}
 use Rattle.terms.specs.Expr.{Const}
 use Rattle.pool.specs.declared.Node.{Node}
@@ -20,9 +19,6 @@ use Rattle.lower_high.specs.Lanes.{highAt}
 use Rattle.terms.specs.declared.BinOp.the-variants.{Add, Sub}
 
 -- half of the place above the dropped bits fits the source's lane
-pub half-fits : (n : ℕ) {p : ℕ} → 1 ≤ n → p ≡ 2 ^ (n - 1) → p < 2 ^ (n * 2)
-half-fits n l e = rw e (pow-lt (omega arith))
-
 pub high-lane : {w0 w1 w2 w3 : List ℕ} {k : ℕ} {r1 r2 r3 : Built} {a b : Node} {op : BinOp} {p n : ℕ} (subtract rounding : Bool)
     → 1 ≤ n
     → n ≤ 64

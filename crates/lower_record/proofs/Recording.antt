@@ -5,15 +5,13 @@ use mathlib.Core.Bool.{Bool, true, false, cond}
 use mathlib.Core.List.{List, [], _∷_}
 use mathlib.Core.Logic.{⊎-elim, _⊎_, inl, inr}
 use native.Mathlib.Omega.{arith}
-use native.Mathlib.Nat.{not-le-of-lt}
 use lib.Dec.{eqb}
 use lib.ListN.{length, length-set}
 use borrow.Author.Tests.{eq-eqb}
 use Rattle.facts.proofs.Numbers.{before-or-from}
-use Rattle.facts.proofs.Tests.{false≢true}
 use Rattle.terms.specs.Expr.{Expr}
 use Rattle.neon.specs.declared.Instruction.{Instruction}
-use Rattle.neon.specs.Op.{Op, opAt, Arrangement, arrangementAt, full, bitsIf, view}
+use Rattle.neon.specs.Op.{Op, opAt, Arrangement, arrangementAt, full, view}
 use Rattle.neon.specs.Form.{form, hasSecond, readsD, byElement, firstFull, secondFull, firstBits, secondBits}
 use Rattle.neon.specs.Refusal.{Legal}
 use Rattle.neon.proofs.Legal.{accepted, m-le}
@@ -21,84 +19,16 @@ use Rattle.trees.specs.Neon.{resultTree}
 use Rattle.trees.specs.Block.{readTree, widenTree, recordTree, treeStep}
 use Rattle.pool.specs.declared.Node.{Node}
 use Rattle.pool.specs.declared.Built.{Built}
-use Rattle.pool.specs.Node.{kindAt, kinds}
 use Rattle.pool.specs.Rules.{Valid}
-use Rattle.pool.specs.Growth.{Room, Reach, Grown, NodeIs}
-use Rattle.pool.specs.Builders.{MadeExtract, MadeZeroExtend}
-use Rattle.pool.proofs.Laws.{grown-refl, grown-trans, cell-kept, is-kept, reach-kept, reach-trans, packed, appended}
-use Rattle.pool.proofs.Steps.{stay}
+use Rattle.pool.specs.Growth.{Reach, Grown, NodeIs}
+use Rattle.pool.proofs.Laws.{grown-trans, cell-kept, is-kept, reach-kept, reach-trans}
 use Rattle.lower.specs.Builds.{Builds1, Lowers, read, readIf}
 use Rattle.register_map.specs.declared.RegisterMap.{RegisterMap}
 use Rattle.register_map.specs.Map.{node, nodeOf, written}
 use Rattle.register_map.proofs.Nodes.{written-is}
 use Rattle.lower_neon.specs.Family.{mostNodes}
-use Rattle.lower_record.specs.Step.{LowHalf, Reads, MapOk, MapIs, ReadsHalf, RegisterRead, StepMade, Steps}
-
--- ---- a read
-
-module _ {ws : List ℕ} {k : ℕ} {r : Built} {used whole : Bool} {register : Node} (e : r .count ≡ k) where
-  -- no node is added
-  pub read-none : used ≡ false → Reads ws k ws r used whole register
-  read-none q =
-      record {
-        long = refl;
-        more = omega (arith, e);
-        most = omega (arith, e);
-        under = λ p. absurd (false≢true (sym q ∙ p));
-        made = λ v h. record {
-          grown = rw e (grown-refl ws k);
-          valid = rw e v;
-          is = λ p. absurd (false≢true (sym q ∙ p));
-          halves = λ x l g. absurd (not-le-of-lt g (omega (arith, e)));
-        };
-      }
-
-  pub read-whole : whole ≡ true → r .node .0 ≡ register .0 → register .0 < k → Reads ws k ws r used whole register
-  read-whole q f b =
-      record {
-        long = refl;
-        more = omega (arith, e);
-        most = omega (arith, e);
-        under = λ p. omega (arith, e, f, b);
-        made = λ v h. record {
-          grown = rw e (grown-refl ws k);
-          valid = rw e v;
-          is = λ p. rw (q, e, f) h;
-          halves = λ x l g. absurd (not-le-of-lt g (omega (arith, e)));
-        };
-      }
-
-half-cell : {old : List ℕ} {k : ℕ} {new : List ℕ} {r : Built} {register : Node} → Room old k 1 → register .0 < k → MadeExtract old k new r register 63 0
-    → (x : ℕ) → k ≤ x → x < r .count → LowHalf new (register .0) x
-unfolding kindAt kinds
-half-cell {old} {k} {new} {r} {register} m b d x l h =
-    let a = appended m (d .words) (packed 16 64 (register .0) 0 0 63 0 (omega arith) (omega (arith, m .numbers)) (omega arith)) in
-    let q : k ≡ x = omega (arith, a .next) in
-    subst (λ (y : ℕ). LowHalf new (register .0) y) q (a .cell-is)
-
-pub read-half : {old : List ℕ} {k : ℕ} {new : List ℕ} {r : Built} {used whole : Bool} {register : Node} → Room old k 1 → register .0 < k → used ≡ true → whole ≡ false
-    → MadeExtract old k new r register 63 0
-    → Reads old k new r used whole register
-read-half m b u q d =
-    record {
-      long = d .sized .long;
-      more = d .sized .more;
-      most = d .sized .most;
-      under = λ p. d .sized .under;
-      made = λ v h.
-          let x = d .made {u = 64} v (omega arith) refl h in
-          record { grown = x .grown; valid = x .valid; is = λ p. rw q (x .is); halves = λ y l g. (u, q, half-cell m b d y l g) };
-    }
-
--- ---- the widening
-
-pub widen-none : {ws : List ℕ} {k : ℕ} {r : Built} {whole : Bool} {a : Node} → whole ≡ true → a .0 < k → r .node .0 ≡ a .0 → r .count ≡ k
-    → Builds1 ws k ws r 1 a (bitsIf whole) 128 (widenTree whole) (a .0 ∷ [])
-widen-none q b e f = rw q (record { sized = omega (arith, b, e, f); made = λ v x. rw (e, f) (stay v x) })
-
-pub widen-some : {old : List ℕ} {k : ℕ} {new : List ℕ} {r : Built} {whole : Bool} {a : Node} → whole ≡ false → MadeZeroExtend old k new r a 128
-    → Builds1 old k new r 1 a (bitsIf whole) 128 (widenTree whole) (a .0 ∷ [])
-widen-some q d = rw q (record { sized = omega (arith, d .sized); made = λ v x. d .made v (omega arith) (omega arith) (omega arith) x })
+use Rattle.register_reads.specs.Reads.{LowHalf, Reads}
+use Rattle.lower_record.specs.Step.{MapOk, MapIs, ReadsHalf, RegisterRead, StepMade, Steps}
 
 -- ---- the record
 
@@ -192,18 +122,6 @@ module _ (m : RegisterMap) (ok : MapOk m) (c : Instruction) (hd : c .d < 32) (hn
         map-is = rw after-at refl;
         made = λ {t} val h. made t val h;
       }
-
--- ---- flags that are known by an equation
-
-pub read-flags : {old : List ℕ} {k : ℕ} {new : List ℕ} {r : Built} {used used′ whole whole′ : Bool} {register : Node} → used ≡ used′ → whole ≡ whole′
-    → Reads old k new r used whole register
-    → Reads old k new r used′ whole′ register
-read-flags p q h = rw (← p, ← q) h
-
-pub widen-flag : {old : List ℕ} {k : ℕ} {new : List ℕ} {r : Built} {whole whole′ : Bool} {a : Node} → whole ≡ whole′
-    → Builds1 old k new r 1 a (bitsIf whole) 128 (widenTree whole) (a .0 ∷ [])
-    → Builds1 old k new r 1 a (bitsIf whole′) 128 (widenTree whole′) (a .0 ∷ [])
-widen-flag q h = rw (← q) h
 
 -- ---- the registers of an accepted record, and their nodes
 

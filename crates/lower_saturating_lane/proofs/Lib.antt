@@ -1,4 +1,3 @@
 pub mod Adding
 pub mod Narrowing
-pub mod Doubling
 pub mod Choosing

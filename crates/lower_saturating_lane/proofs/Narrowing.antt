@@ -4,7 +4,6 @@ use mathlib.Core.Path.{_≡_}
 use mathlib.Core.Bool.{Bool, cond}
 use mathlib.Core.List.{List, [], _∷_}
 use native.Mathlib.Omega.{arith}
-use lib.Pow.{pow-lt}
 use Rattle.facts.proofs.Numbers.{small}
 use Rattle.terms.specs.declared.BinOp.{BinOp}
 use Rattle.terms.specs.Expr.{Const}
@@ -41,9 +40,6 @@ pub narrowed-into : {w0 w1 : List ℕ} {k : ℕ} {r : Built} {to : Saturate} {ta
 narrowed-into q e = rw q e
 
 -- half a unit of the shift fits the width, and so does the amount
-pub half-fits : (i w : ℕ) → 1 ≤ i → i ≤ w → 2 ^ (i - 1) < 2 ^ w
-half-fits i w h l = pow-lt (omega arith)
-
 pub shift-narrow : {w0 w1 w2 w3 w4 w5 : List ℕ} {k : ℕ} {r1 r2 r3 r4 r5 : Built} {a : Node} {op : BinOp} {half shift n : ℕ} {signed : Bool} (rounding : Bool) (to : Saturate)
     → 1 ≤ shift
     → shift ≤ n

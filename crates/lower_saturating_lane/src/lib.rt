@@ -9,7 +9,6 @@ ghost use Rattle.trees.specs.Arith.{saturatingLane};
 ghost use Rattle.lower.specs.Builds.{BuildsIf};
 ghost use Rattle.lower_saturating_lane.specs.Kinds.{usesSecond, sourceBits, KindIn};
 
-pub mod multiply;
 pub mod narrow;
 pub mod sum;
 pub mod unary;
@@ -45,7 +44,7 @@ pub fn saturating_lane(
             to,
         } => { narrow::shift_narrow_lane(pool, count, shift, rounding, to, a, lane_bits, signed) }
         SaturatingKind::DoublingMultiplyHigh { rounding } => {
-            multiply::multiply_high_lane(pool, count, rounding, a, b, lane_bits)
+            lower_multiply_high::multiply_high_lane(pool, count, rounding, a, b, lane_bits)
         }
         SaturatingKind::Unary { negate } => { unary::unary_lane(pool, count, negate, a, lane_bits) }
     }

@@ -11,7 +11,7 @@ use node_fields::third;
 use node_fields::width_of;
 use pool::Node;
 use pool_check::pool_check;
-use text_parts::infix_length;
+use text_operators::infix_length;
 ghost use mathlib.Core.Path.{_≡_};
 ghost use Prim.Native.Nat.{_-_};
 ghost use lib.ListN.{length};

@@ -13,7 +13,8 @@ use Rattle.pool.specs.Unfold.{shapeOf, earlier, unfoldAt}
 use Rattle.pool.proofs.Laws.{unfold-step}
 use Rattle.node_rules.proofs.Numbers.{within}
 use Rattle.node_fields.specs.Fields.{kindNumber, opA, opB, opC}
-use Rattle.text_parts.specs.Text.{text, infixOf, infixText, extendOf, extendText, rangeText, widthText, Ready}
+use Rattle.text_operators.specs.Infix.{infixOf, infixText}
+use Rattle.text_parts.specs.Text.{text, extendOf, extendText, rangeText, widthText, Ready}
 use Rattle.text_parts.proofs.Operands.{kind-below, bin-a, bin-b, ite-a, ite-b, ite-c, extract-a, concat-a, concat-b, extend-a}
 
 -- ---- by the number κ of the kind

@@ -2,7 +2,7 @@
 use mathlib.Core.List.{List, [], _++_}
 use Prim.Native.Nat.{ℕ, _+_, _*_, _<_}
 use lib.ListN.{length}
-use Rattle.terms.specs.Display.{bytes, operator, comparison, decimal, display}
+use Rattle.terms.specs.Display.{bytes, decimal, display}
 use Rattle.pool.specs.Node.{Kind, bad, var, const, bv, compare, ite, extract, concat, zext, sext, kindAt}
 use Rattle.pool.specs.Rules.{Valid}
 use Rattle.pool.specs.Unfold.{unfoldAt}
@@ -10,22 +10,6 @@ use Rattle.pool.specs.Unfold.{unfoldAt}
 -- the text of node n
 unfoldable pub text : List ℕ → ℕ → List ℕ
 text ws n = display (unfoldAt ws n)
-
--- what stands between the operands of the kinds 3 to 14
-abbrev pub infixOf : Kind → List ℕ
-infixOf bad = []
-infixOf var = []
-infixOf const = []
-infixOf (bv o) = operator o
-infixOf (compare o) = comparison o
-infixOf ite = []
-infixOf extract = []
-infixOf concat = []
-infixOf zext = []
-infixOf sext = []
-
-unfoldable pub infixText : ℕ → List ℕ
-infixText k = infixOf (kindAt k)
 
 -- what an extension begins with, 18 or 19
 abbrev pub extendOf : Kind → List ℕ

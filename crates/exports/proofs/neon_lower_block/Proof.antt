@@ -3,34 +3,24 @@ use mathlib.Core.Path.{refl}
 use borrow.Author.Needs.{needs}
 use Rattle.exports.proofs.neon_lower_block.Statement.{statement}
 use Rattle.exports.proofs.neon_lower_block.Tie as tie
-use Rattle.exports.proofs.neon_lower_block.Reads as reads
-use Rattle.exports.proofs.neon_lower_block.Lts as lts
-use Rattle.block.proofs.lower_block.Reads as lower-block-reads
-use Rattle.exports.proofs.put_results.Reads as put-results-reads
 
--- src/lib.rt:78:9
 returns : tie.Need-returns
 returns c =
     let l-if1 = c in
     record { short = λ h. (refl, refl, refl); told = λ h. absurd (omega (arith, h, l-if1 .if1 .taken)) }
 
--- src/lib.rt:80:9
 lower-block-requires : tie.Need-lower-block-requires
 lower-block-requires c κs = search needs
 
--- src/lib.rt:82:5
 put-results-requires : tie.Need-put-results-requires
 put-results-requires c κs = search needs
 
--- src/lib.rt:73:1
 same-length : tie.Need-same-length
 same-length c = search needs
 
--- src/lib.rt:73:1
 same-length-2 : tie.Need-same-length-2
 same-length-2 c = search needs
 
--- src/lib.rt:73:1
 returns-2 : tie.Need-returns-2
 returns-2 c =
     let l-put-results = c .before .before in

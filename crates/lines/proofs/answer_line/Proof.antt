@@ -7,7 +7,7 @@ use lib.ListN.{getD}
 use borrow.Author.Tests.{not-true, not-false}
 use Rattle.pool.specs.Node.{places}
 use Rattle.register_map.specs.Map.{nodeOf}
-use Rattle.columns.specs.Columns.{recordOf}
+use Rattle.line_fields.specs.Fields.{recordOf}
 use Rattle.lines.proofs.Records.{block-low, answered-one, long, low-d, node-under, no-room, little-room, other, refused, done}
 use borrow.Author.Needs.{needs}
 use Rattle.lines.proofs.answer_line.Statement.{statement}

@@ -1,4 +1,5 @@
-use Rattle.lower_record.proofs.Recording.{recorded, read-flags, widen-flag, registers-in, nodes-in}
+use Rattle.lower_record.proofs.Recording.{recorded, registers-in, nodes-in}
+use Rattle.register_reads.proofs.Reading.{read-flags, widen-flag}
 use native.Mathlib.Omega.{arith}
 use mathlib.Core.Path.{_≡_, refl, _∙_}
 use Rattle.neon.specs.Op.{opAt, arrangementAt}

@@ -12,7 +12,7 @@ use Rattle.text_length.proofs.+measure.Lts-measure as measure-lts
 use Rattle.digits.proofs.decimal_length.Reads as decimal-length-reads
 use Rattle.node_fields.proofs.first.Reads as first-reads
 use Rattle.node_fields.proofs.high.Reads as high-reads
-use Rattle.text_parts.proofs.infix_length.Reads as infix-length-reads
+use Rattle.text_operators.proofs.infix_length.Reads as infix-length-reads
 use Rattle.node_fields.proofs.kind_of.Reads as kind-of-reads
 use Rattle.digits.proofs.less.Reads as less-reads
 use Rattle.digits.proofs.less_hex.Reads as less-hex-reads

@@ -19,7 +19,7 @@ use Rattle.node_fields.proofs.low.Reads as low-reads
 use Rattle.digits.proofs.put.Reads as put-reads
 use Rattle.text_parts.proofs.put_const.Reads as put-const-reads
 use Rattle.text_parts.proofs.put_extend.Reads as put-extend-reads
-use Rattle.text_parts.proofs.put_infix.Reads as put-infix-reads
+use Rattle.text_operators.proofs.put_infix.Reads as put-infix-reads
 use Rattle.text_parts.proofs.put_range.Reads as put-range-reads
 use Rattle.text_parts.proofs.put_var.Reads as put-var-reads
 use Rattle.text_parts.proofs.put_width.Reads as put-width-reads

@@ -1,6 +1,7 @@
 use native.Mathlib.Omega.{arith}
 use Prim.Native.Nat.{_+_, _*_}
-use Rattle.lower_saturating_lane.proofs.Narrowing.{half-fits, shift-narrow}
+use Rattle.lower_saturating_lane.proofs.Narrowing.{shift-narrow}
+use Rattle.facts.proofs.Numbers.{half-fits}
 use borrow.Author.Needs.{needs}
 use Rattle.lower_saturating_lane.proofs.narrow.shift_narrow_lane.Statement.{statement}
 use Rattle.lower_saturating_lane.proofs.narrow.shift_narrow_lane.Tie as tie

@@ -1,0 +1,45 @@
+-- The words of a block's answer, put one by one to the front of a list. Assumes nothing.
+use mathlib.Core.Path.{_≡_, refl, sym, ap, _∙_}
+use mathlib.Core.List.{List, [], _∷_, _++_, append-assoc}
+use Prim.Native.Nat.{ℕ, zero, suc, _+_, _≤_}
+use native.Mathlib.Nat.{add-zero, zero-add, add-suc, suc-add}
+use native.Mathlib.Omega.{arith}
+use lib.ListN.{length, set, drop, length-append}
+use lib.Seq.{sets, sets-eq}
+use Rattle.register_map.specs.declared.RegisterMap.{RegisterMap}
+use Rattle.register_map.specs.Map.{nodeOf}
+use Rattle.digits.proofs.Laws.{sets-append}
+use Rattle.block_results.specs.Words.{nodesOf, put}
+
+nodes-length : (m : RegisterMap) (r k : ℕ) → length (nodesOf m r k) ≡ k
+unfolding nodesOf
+nodes-length m r zero = refl
+nodes-length m r (suc k) = ap suc (nodes-length m (suc r) k)
+
+nodes-more : (m : RegisterMap) (r k : ℕ) → nodesOf m r (suc k) ≡ nodesOf m r k ++ (nodeOf m (r + k) ∷ [])
+unfolding nodesOf
+nodes-more m r zero = ap (λ (j : ℕ). nodeOf m j ∷ []) (sym (add-zero r))
+nodes-more m r (suc k) = ap (λ (l : List ℕ). nodeOf m r ∷ l) (nodes-more m (suc r) k ∙ ap (λ (j : ℕ). nodesOf m (suc r) k ++ (nodeOf m j ∷ [])) (suc-add r k ∙ sym (add-suc r k)))
+
+put-one : (l xs : List ℕ) (k v : ℕ) → length xs ≡ k → set (sets l 0 xs) k v ≡ sets l 0 (xs ++ (v ∷ []))
+put-one l xs k v e = ap (λ (j : ℕ). set (sets l 0 xs) j v) (sym e ∙ sym (zero-add (length xs))) ∙ sym (sets-append l 0 xs (v ∷ []))
+
+-- one more register's node
+pub put-node : (l : List ℕ) (m : RegisterMap) (k : ℕ) → set (sets l 0 (nodesOf m 0 k)) k (nodeOf m k) ≡ sets l 0 (nodesOf m 0 (k + 1))
+put-node l m k =
+    put-one l (nodesOf m 0 k) k (nodeOf m k) (nodes-length m 0 k)
+    ∙ ap (λ (xs : List ℕ). sets l 0 xs)
+    (ap (λ (j : ℕ). nodesOf m 0 k ++ (nodeOf m j ∷ [])) (sym (zero-add k)) ∙ sym (nodes-more m 0 k) ∙ ap (λ (j : ℕ). nodesOf m 0 j) (omega arith))
+
+-- the count and the position, after the nodes of all registers
+pub put-all : (l : List ℕ) (m : RegisterMap) (position : ℕ) → 34 ≤ length l → set (set (sets l 0 (nodesOf m 0 32)) 32 (m .count)) 33 position ≡ put l m position
+put-all l m position h =
+    let ns = nodesOf m 0 32 in
+    let words = ns ++ (m .count ∷ position ∷ []) in
+    let long : length words ≡ 34 = length-append ns (m .count ∷ position ∷ []) ∙ ap (λ (j : ℕ). j + 2) (nodes-length m 0 32) in
+    ap (λ (xs : List ℕ). set xs 33 position) (put-one l ns 32 (m .count) (nodes-length m 0 32))
+    ∙ put-one l (ns ++ (m .count ∷ [])) 33 position (length-append ns (m .count ∷ []) ∙ ap (λ (j : ℕ). j + 1) (nodes-length m 0 32))
+    ∙ ap (λ (xs : List ℕ). sets l 0 xs) (append-assoc ns (m .count ∷ []) (position ∷ []))
+    ∙ sets-eq words l 0 (omega (arith, long))
+    ∙ ap (λ (j : ℕ). words ++ drop j l) (zero-add (length words) ∙ long)
+    ∙ append-assoc ns (m .count ∷ position ∷ []) (drop 34 l)
