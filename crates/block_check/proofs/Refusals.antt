@@ -13,10 +13,10 @@ use Rattle.facts.specs.Refuse.{unless}
 use Rattle.neon.specs.declared.Instruction.{Instruction}
 use Rattle.neon.specs.Op.{opAt, arrangementAt, isOperation, isArrangement, laneBits}
 use Rattle.neon.specs.Form.{hasForm, hasSecond, least, most}
-use Rattle.neon.specs.Refusal.{formNumber, mostM, registersOk, recordNumber, Legal, AllLegal, refusal, recordsRefusal, blockRefusal}
+use Rattle.neon.specs.Refusal.{formNumber, mostM, registersOk, recordNumber, Legal, AllLegal, refusal, recordsRefusal, sizeNumber, blockRefusal}
 use Rattle.neon.proofs.Legal.{m-le, form-rest, form-first}
 use Rattle.pool.specs.Node.{placesIn}
-use Rattle.block_check.specs.Records.{recordAt, recordsFrom, recordsOf, sizeNumber}
+use Rattle.block_check.specs.Records.{recordAt, recordsFrom, recordsOf}
 
 -- ---- one record
 
@@ -101,23 +101,13 @@ module _ (words count : ℕ) where
 module _ (p : ℕ) (cs : List Instruction) where
   -- refused for its size
   pub by-size : 0 < sizeNumber p (length cs) → blockRefusal p cs ≡ refusal (sizeNumber p (length cs)) 0
-  unfolding blockRefusal sizeNumber
-  by-size h = go (leb (length cs) 63) (leb (32 + 1024 * length cs) p) h
-    where
-      go : (a b : Bool) → 0 < unless a 8 (unless b 6 0) → cond a (cond b (recordsRefusal 0 cs) (refusal 6 0)) (refusal 8 0) ≡ refusal (unless a 8 (unless b 6 0)) 0
-      go true true l = absurd (omega arith)
-      go true false l = refl
-      go false b l = refl
+  unfolding blockRefusal
+  by-size h = rw (ne-eqb (sizeNumber p (length cs)) 0 (λ e. omega arith))
 
   -- the size is accepted: the records decide
   pub by-records : sizeNumber p (length cs) ≤ 0 → blockRefusal p cs ≡ recordsRefusal 0 cs
-  unfolding blockRefusal sizeNumber
-  by-records h = go (leb (length cs) 63) (leb (32 + 1024 * length cs) p) h
-    where
-      go : (a b : Bool) → unless a 8 (unless b 6 0) ≤ 0 → cond a (cond b (recordsRefusal 0 cs) (refusal 6 0)) (refusal 8 0) ≡ recordsRefusal 0 cs
-      go true true l = refl
-      go true false l = absurd (omega arith)
-      go false b l = absurd (omega arith)
+  unfolding blockRefusal
+  by-records h = rw (eq-eqb (sizeNumber p (length cs)) 0 (omega arith))
 
 -- ---- what is accepted
 
@@ -146,20 +136,25 @@ all-legal p (c ∷ cs) e = go (λ z. all-legal (suc p) cs z) (eqb (recordNumber 
     go f true q z = (eqb-true (recordNumber c) 0 q, f z)
     go f false q z = absurd (eqb-false (recordNumber c) 0 q z)
 
+-- a size that is accepted
+size-legal : (p n : ℕ) → sizeNumber p n ≡ 0 → (n ≤ 63) × (32 + 1024 * n ≤ p)
+unfolding sizeNumber
+size-legal p n e = go (leb n 63) (leb (32 + 1024 * n) p) refl refl e
+  where
+    go : (a b : Bool) → leb n 63 ≡ a → leb (32 + 1024 * n) p ≡ b → unless a 8 (unless b 6 0) ≡ 0 → (n ≤ 63) × (32 + 1024 * n ≤ p)
+    go true true q r z = (leb-true _ _ q, leb-true _ _ r)
+    go true false q r z = absurd (omega arith)
+    go false b q r z = absurd (omega arith)
+
 -- a block that is accepted: its records fit and are accepted
 pub block-legal : (p : ℕ) (cs : List Instruction) → blockRefusal p cs .number ≡ 0 → (length cs ≤ 63) × (32 + 1024 * length cs ≤ p) × AllLegal cs
 unfolding blockRefusal
-block-legal p cs e = long (leb (length cs) 63) refl e
+block-legal p cs e = go (eqb (sizeNumber p (length cs)) 0) refl e
   where
-    room : length cs ≤ 63 → (b : Bool) → leb (32 + 1024 * length cs) p ≡ b → cond b (recordsRefusal 0 cs) (refusal 6 0) .number ≡ 0
+    go : (b : Bool) → eqb (sizeNumber p (length cs)) 0 ≡ b → cond b (recordsRefusal 0 cs) (refusal (sizeNumber p (length cs)) 0) .number ≡ 0
         → (length cs ≤ 63) × (32 + 1024 * length cs ≤ p) × AllLegal cs
-    room h true q z = (h, leb-true _ _ q, all-legal 0 cs z)
-    room h false q z = absurd (omega arith)
-
-    long : (b : Bool) → leb (length cs) 63 ≡ b → cond b (cond (leb (32 + 1024 * length cs) p) (recordsRefusal 0 cs) (refusal 6 0)) (refusal 8 0) .number ≡ 0
-        → (length cs ≤ 63) × (32 + 1024 * length cs ≤ p) × AllLegal cs
-    long true q z = room (leb-true _ _ q) (leb (32 + 1024 * length cs) p) refl z
-    long false q z = absurd (omega arith)
+    go true q z = let s = size-legal p (length cs) (eqb-true _ 0 q) in (s .0, s .1, all-legal 0 cs z)
+    go false q z = absurd (eqb-false _ 0 q z)
 
 -- record j + n of records that are accepted
 pub legal-at : (flat : List ℕ) (j k n : ℕ) → AllLegal (recordsFrom flat j k) → n < k → Legal (recordAt flat (j + n))

@@ -1,12 +1,10 @@
--- A block's records as flat numbers, six each, its size, and the answer that refuses it.
+-- A block's records as flat numbers, six each, and the answer that refuses it.
 use mathlib.Core.List.{List, [], _∷_}
 use mathlib.Core.Path.{_≡_}
 use Prim.Native.Nat.{ℕ, zero, suc, _+_, _*_, _/_}
-use lib.Dec.{leb}
 use lib.ListN.{length, getD}
 use Rattle.neon.specs.declared.Instruction.{Instruction}
-use Rattle.facts.specs.Refuse.{unless}
-use Rattle.neon.specs.Refusal.{Refusal, reserve, mostRecords}
+use Rattle.neon.specs.Refusal.{Refusal}
 use Rattle.block_check.specs.declared.Refused.{Refused}
 
 abbrev pub instruction : (operation arrangement i d n m : ℕ) → Instruction
@@ -25,10 +23,6 @@ recordsFrom flat j (suc k) = recordAt flat j ∷ recordsFrom flat (suc j) k
 -- all whole records
 abbrev pub recordsOf : List ℕ → List Instruction
 recordsOf flat = recordsFrom flat 0 (length flat / 6)
-
--- 8 or 6: more records than a block may have, or than so many places hold; else 0
-unfoldable pub sizeNumber : (places count : ℕ) → ℕ
-sizeNumber places count = unless (leb count mostRecords) 8 (unless (leb (32 + reserve * count) places) 6 0)
 
 abbrev pub Refuses : Refused → Refusal → Type 0
 Refuses r x = (r .number ≡ x .number) × (r .position ≡ x .position)

@@ -1,9 +1,9 @@
 // The refusals of a block (document 01, "The numbers"). A record is six numbers: operation, arrangement, i, d, n, m; numbers after the
 // last whole record are not read. The Rust has no counterpart: it lowers one instruction at a time.
 ghost use mathlib.Core.Path.{_≡_};
-ghost use Rattle.neon.specs.Refusal.{recordNumber, recordsRefusal, blockRefusal};
+ghost use Rattle.neon.specs.Refusal.{recordNumber, recordsRefusal, sizeNumber, blockRefusal};
 ghost use Rattle.pool.specs.Node.{places, placesIn};
-ghost use Rattle.block_check.specs.Records.{instruction, recordsOf, sizeNumber, Refuses};
+ghost use Rattle.block_check.specs.Records.{instruction, recordsOf, Refuses};
 
 // 0 and 0, or the number and the position that refuse a block.
 pub struct Refused {

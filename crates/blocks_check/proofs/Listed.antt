@@ -8,9 +8,9 @@ use lib.ListN.{length, getD, drop, drop-of-length-le}
 use lib.Seq.{drop-cons}
 use borrow.Author.Tests.{eq-eqb, ne-eqb}
 use Rattle.neon.specs.declared.Instruction.{Instruction}
-use Rattle.neon.specs.Refusal.{Refusal, recordNumber, refusal, recordsRefusal, blockRefusal}
+use Rattle.neon.specs.Refusal.{Refusal, recordNumber, refusal, recordsRefusal, sizeNumber, blockRefusal}
 use Rattle.block_check.specs.declared.Refused.{Refused}
-use Rattle.block_check.specs.Records.{instruction, sizeNumber, Refuses}
+use Rattle.block_check.specs.Records.{instruction, Refuses}
 use Rattle.block_check.proofs.Refusals.{by-size, by-records}
 
 -- what stands past the end of a list

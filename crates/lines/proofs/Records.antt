@@ -13,7 +13,7 @@ use Rattle.facts.proofs.Tests.{and-both}
 use Rattle.neon.specs.declared.Instruction.{Instruction}
 use Rattle.neon.specs.Op.{isOperation, opAt, isArrangement, arrangementAt, laneBits}
 use Rattle.neon.specs.Form.{hasForm, least, most}
-use Rattle.neon.specs.Refusal.{Refusal, refusal, reserve, registersOk, recordNumber, recordsRefusal, blockRefusal}
+use Rattle.neon.specs.Refusal.{Refusal, refusal, reserve, mostRecords, registersOk, recordNumber, recordsRefusal, sizeNumber, blockRefusal}
 use Rattle.neon.proofs.Legal.{accepted}
 use Rattle.pool.specs.Node.{places}
 use Rattle.digits.specs.Writing.{Wrote}
@@ -51,11 +51,15 @@ record-low c =
     all-low (isOperation (c .operation)) (isArrangement (c .arrangement) && hasForm o v) (leb (least o) (c .i) && leb (c .i) (most o (laneBits v)))
     (registersOk c)
 
+size-low : (p n : ℕ) → sizeNumber p n ≤ 8
+unfolding sizeNumber
+size-low p n = unless-le (leb n mostRecords) 8 _ 8 (omega arith) (unless-le (leb (32 + reserve * n) p) 6 0 8 (omega arith) (omega arith))
+
 pub block-low : (p : ℕ) (c : Instruction) → blockRefusal p (c ∷ []) .number ≤ 8
 unfolding blockRefusal recordsRefusal
 block-low p c =
-    cond-le (leb (32 + reserve * 1) p) (recordsRefusal 0 (c ∷ [])) (refusal 6 0) 8
-    (cond-le (eqb (recordNumber c) 0) (refusal 0 0) (refusal (recordNumber c) 0) 8 (omega arith) (record-low c)) (omega arith)
+    cond-le (eqb (sizeNumber p 1) 0) (recordsRefusal 0 (c ∷ [])) (refusal (sizeNumber p 1) 0) 8
+    (cond-le (eqb (recordNumber c) 0) (refusal 0 0) (refusal (recordNumber c) 0) 8 (omega arith) (record-low c)) (size-low p 1)
 
 -- ---- a line's record
 

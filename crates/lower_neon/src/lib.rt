@@ -1,4 +1,12 @@
 // The Rust's neon/lower.rs: neon_value, which hands an operation to the function of its family; and the lowering of a legal form.
+use lower_accumulate::difference::absolute_difference_lanes;
+use lower_accumulate::mixed::mixed_sign_add_lanes;
+use lower_bits::bitwise_unary_lanes;
+use lower_doubling::doubling_long_lanes;
+use lower_high::high_narrow_lanes;
+use lower_insert::shift_insert_lanes;
+use lower_saturating::saturating_lanes;
+use lower_shift::shift_lanes;
 use neon::Lane;
 use pool::Built;
 use pool::Node;
@@ -37,105 +45,61 @@ pub fn neon_value(
     let n = shape.lane_bits;
     let lanes = shape.lanes;
     match op {
-        NeonOp::Shift { kind, signed } => lower_shift::shift_lanes(
-            pool,
-            count,
-            kind,
-            signed,
-            first,
-            second,
-            n,
-            lanes,
-        ),
-        NeonOp::ShiftInsert { left, shift } => lower_insert::shift_insert_lanes(
-            pool,
-            count,
-            left,
-            shift,
-            first,
-            d,
-            n,
-            lanes,
-        ),
-        NeonOp::MixedSignAdd { destination_signed } =>
-            lower_accumulate::mixed::mixed_sign_add_lanes(
-                pool,
-                count,
-                destination_signed,
-                first,
-                d,
-                n,
-                lanes,
-            ),
+        NeonOp::Shift { kind, signed } => {
+            shift_lanes(pool, count, kind, signed, first, second, n, lanes)
+        }
+        NeonOp::ShiftInsert { left, shift } => {
+            shift_insert_lanes(pool, count, left, shift, first, d, n, lanes)
+        }
+        NeonOp::MixedSignAdd { destination_signed } => {
+            mixed_sign_add_lanes(pool, count, destination_signed, first, d, n, lanes)
+        }
         NeonOp::DoublingLong {
             combine,
             upper,
             by_element,
-        } => lower_doubling::doubling_long_lanes(
-            pool,
-            count,
-            combine,
-            upper,
-            by_element,
-            Lane(shape.source_index),
-            first,
-            second,
-            d,
-            n,
-            lanes,
-        ),
-        NeonOp::Saturating {
-            kind,
-            signed_sources,
-            upper,
-        } => lower_saturating::saturating_lanes(
-            pool,
-            count,
-            kind,
-            signed_sources,
-            upper,
-            first,
-            second,
-            d,
-            n,
-            lanes,
-        ),
-        NeonOp::BitwiseUnary(kind) => lower_bits::bitwise_unary_lanes(
-            pool,
-            count,
-            kind,
-            first,
-            n,
-            lanes,
-        ),
-        NeonOp::AbsoluteDifference { signed, accumulate } =>
-            lower_accumulate::difference::absolute_difference_lanes(
+        } => {
+            doubling_long_lanes(
                 pool,
                 count,
-                signed,
-                accumulate,
+                combine,
+                upper,
+                by_element,
+                Lane(shape.source_index),
                 first,
                 second,
                 d,
                 n,
                 lanes,
-            ),
+            )
+        }
+        NeonOp::Saturating {
+            kind,
+            signed_sources: signed,
+            upper,
+        } => { saturating_lanes(pool, count, kind, signed, upper, first, second, d, n, lanes) }
+        NeonOp::BitwiseUnary(kind) => bitwise_unary_lanes(pool, count, kind, first, n, lanes),
+        NeonOp::AbsoluteDifference { signed, accumulate } => {
+            absolute_difference_lanes(pool, count, signed, accumulate, first, second, d, n, lanes)
+        }
         NeonOp::HighNarrow {
             subtract,
             rounding,
             upper,
-        } => lower_high::high_narrow_lanes(
-            pool,
-            count,
-            subtract,
-            rounding,
-            upper,
-            first,
-            second,
-            d,
-            n,
-            lanes,
-        ),
+        } => {
+            high_narrow_lanes(
+                pool,
+                count,
+                subtract,
+                rounding,
+                upper,
+                first,
+                second,
+                d,
+                n,
+                lanes,
+            )
+        }
     }
 }
 

@@ -55,7 +55,10 @@ unfoldable pub recordsRefusal : ℕ → List Instruction → Refusal
 recordsRefusal p [] = refusal 0 0
 recordsRefusal p (c ∷ cs) = cond (eqb (recordNumber c) 0) (recordsRefusal (suc p) cs) (refusal (recordNumber c) p)
 
+-- 8, 6: more records than a block may have, or than so many places hold; else 0
+unfoldable pub sizeNumber : (places count : ℕ) → ℕ
+sizeNumber places count = unless (leb count mostRecords) 8 (unless (leb (32 + reserve * count) places) 6 0)
+
 -- a block for a pool of so many places
 unfoldable pub blockRefusal : ℕ → List Instruction → Refusal
-blockRefusal places cs =
-    cond (leb (length cs) mostRecords) (cond (leb (32 + reserve * length cs) places) (recordsRefusal 0 cs) (refusal 6 0)) (refusal 8 0)
+blockRefusal places cs = let k = sizeNumber places (length cs) in cond (eqb k 0) (recordsRefusal 0 cs) (refusal k 0)

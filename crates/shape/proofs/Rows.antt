@@ -1,81 +1,48 @@
--- What each operation's family says is what its row says. Assumes nothing.
-use mathlib.Core.Path.{_≡_, refl, sym}
-use mathlib.Core.Bool.{Bool, true, false}
-use Prim.Native.Nat.{ℕ}
+-- Which operations narrow, by number; and the bits that are made. Assumes nothing.
+use mathlib.Core.Path.{_≡_, refl, sym, ap, _∙_}
+use mathlib.Core.Bool.{Bool, true, false, _&&_, _||_}
+use mathlib.Core.List.{List}
+use Prim.Native.Nat.{ℕ, _≤_, _<_}
+use native.Mathlib.Omega.{arith}
+use lib.Dec.{leb}
+use lib.ListN.{getD}
+use borrow.Author.Tests.{le-leb, lt-leb}
 use Rattle.facts.proofs.Tests.{false≢true}
-use Rattle.neon.specs.Op.{Op, bitsIf, SHL, SQSHLI, UQSHLI, SQSHLU, SSHR, USHR, SRSHR, URSHR, SSHL, USHL, SRSHL, URSHL, SQSHL, UQSHL, SQRSHL, UQRSHL, SLI, SRI, SQADD, UQADD, SQSUB, UQSUB, SHADD, UHADD, SRHADD, URHADD, SQXTN, UQXTN, SQXTUN, SHRN, RSHRN, SQSHRN, SQRSHRN, UQSHRN, UQRSHRN, SQSHRUN, SQRSHRUN, SQABS, SQNEG, SQDMULH, SQRDMULH, SQDMULL, SQDMLAL, SQDMLSL, SQDMULL2, SQDMLAL2, SQDMLSL2, SQDMULLE, SQDMLALE, SQDMLSLE, SQDMULL2E, SQDMLAL2E, SQDMLSL2E, SUQADD, USQADD, SABD, UABD, SABA, UABA, CNT, CLZ, CLS, RBIT, ADDHN, RADDHN, SUBHN, RSUBHN}
-use Rattle.neon.specs.Form.{Lanes, Same, Narrow, Long, form, isNarrow, madeBits}
-use Rattle.trees.specs.Neon.{neonOp}
-use Rattle.shape.specs.Family.{lanesOf}
+use Rattle.facts.proofs.Table.{tabulate, entry}
+use Rattle.neon.specs.Op.{opAt, operations, bitsIf}
+use Rattle.neon.specs.Form.{Lanes, Same, Narrow, Long, form, isNarrow, madeBits, flag}
 
-pub lanes-are : (o : Op) (i : ℕ) (upper : Bool) → lanesOf (neonOp o i upper) ≡ form o .lanes
-lanes-are SHL i upper = refl
-lanes-are SQSHLI i upper = refl
-lanes-are UQSHLI i upper = refl
-lanes-are SQSHLU i upper = refl
-lanes-are SSHR i upper = refl
-lanes-are USHR i upper = refl
-lanes-are SRSHR i upper = refl
-lanes-are URSHR i upper = refl
-lanes-are SSHL i upper = refl
-lanes-are USHL i upper = refl
-lanes-are SRSHL i upper = refl
-lanes-are URSHL i upper = refl
-lanes-are SQSHL i upper = refl
-lanes-are UQSHL i upper = refl
-lanes-are SQRSHL i upper = refl
-lanes-are UQRSHL i upper = refl
-lanes-are SLI i upper = refl
-lanes-are SRI i upper = refl
-lanes-are SQADD i upper = refl
-lanes-are UQADD i upper = refl
-lanes-are SQSUB i upper = refl
-lanes-are UQSUB i upper = refl
-lanes-are SHADD i upper = refl
-lanes-are UHADD i upper = refl
-lanes-are SRHADD i upper = refl
-lanes-are URHADD i upper = refl
-lanes-are SQXTN i upper = refl
-lanes-are UQXTN i upper = refl
-lanes-are SQXTUN i upper = refl
-lanes-are SHRN i upper = refl
-lanes-are RSHRN i upper = refl
-lanes-are SQSHRN i upper = refl
-lanes-are SQRSHRN i upper = refl
-lanes-are UQSHRN i upper = refl
-lanes-are UQRSHRN i upper = refl
-lanes-are SQSHRUN i upper = refl
-lanes-are SQRSHRUN i upper = refl
-lanes-are SQABS i upper = refl
-lanes-are SQNEG i upper = refl
-lanes-are SQDMULH i upper = refl
-lanes-are SQRDMULH i upper = refl
-lanes-are SQDMULL i upper = refl
-lanes-are SQDMLAL i upper = refl
-lanes-are SQDMLSL i upper = refl
-lanes-are SQDMULL2 i upper = refl
-lanes-are SQDMLAL2 i upper = refl
-lanes-are SQDMLSL2 i upper = refl
-lanes-are SQDMULLE i upper = refl
-lanes-are SQDMLALE i upper = refl
-lanes-are SQDMLSLE i upper = refl
-lanes-are SQDMULL2E i upper = refl
-lanes-are SQDMLAL2E i upper = refl
-lanes-are SQDMLSL2E i upper = refl
-lanes-are SUQADD i upper = refl
-lanes-are USQADD i upper = refl
-lanes-are SABD i upper = refl
-lanes-are UABD i upper = refl
-lanes-are SABA i upper = refl
-lanes-are UABA i upper = refl
-lanes-are CNT i upper = refl
-lanes-are CLZ i upper = refl
-lanes-are CLS i upper = refl
-lanes-are RBIT i upper = refl
-lanes-are ADDHN i upper = refl
-lanes-are RADDHN i upper = refl
-lanes-are SUBHN i upper = refl
-lanes-are RSUBHN i upper = refl
+abbrev narrow : ℕ → Bool
+narrow k = isNarrow (form (opAt k) .lanes)
+
+-- 27 to 37, and from 64 on
+abbrev numbered : ℕ → Bool
+numbered k = leb 27 k && leb k 37 || leb 64 k
+
+flag-inj : (a b : Bool) → flag a 1 ≡ flag b 1 → a ≡ b
+flag-inj true true e = refl
+flag-inj true false e = absurd (omega arith)
+flag-inj false true e = absurd (omega arith)
+flag-inj false false e = refl
+
+narrow-number : (k : ℕ) → k ≤ 67 → narrow k ≡ numbered k
+unfolding tabulate opAt operations
+narrow-number k h =
+    let same : tabulate (λ j. flag (narrow j) 1) 0 68 ≡ tabulate (λ j. flag (numbered j) 1) 0 68 = refl in
+    flag-inj (narrow k) (numbered k)
+    (sym (entry (λ j. flag (narrow j) 1) 68 k (omega arith))
+    ∙ ap (λ (l : List ℕ). getD l k 0) same
+    ∙ entry (λ j. flag (numbered j) 1) 68 k (omega arith))
+
+module _ (k : ℕ) (h : k ≤ 67) where
+  pub low : k < 27 → false ≡ narrow k
+  low l = sym (narrow-number k h ∙ rw (lt-leb 27 k l, lt-leb 64 k (omega arith)))
+
+  pub middle : 27 ≤ k → k < 38 → true ≡ narrow k
+  middle l u = sym (narrow-number k h ∙ rw (le-leb 27 k l, le-leb k 37 (omega arith)))
+
+  pub high : 38 ≤ k → leb 64 k ≡ narrow k
+  high l = sym (narrow-number k h ∙ rw (le-leb 27 k (omega arith), lt-leb k 37 (omega arith)))
 
 pub made-half : (l : Lanes) (full : Bool) → isNarrow l ≡ true → madeBits l full ≡ 64
 made-half Same full e = absurd (false≢true e)

@@ -2,9 +2,9 @@ use native.Mathlib.Omega.{arith}
 use mathlib.Core.Path.{_≡_, sym, ap, _∙_}
 use Prim.Native.Nat.{ℕ, _/_}
 use lib.ListN.{length}
-use Rattle.neon.specs.Refusal.{Refusal}
+use Rattle.neon.specs.Refusal.{Refusal, sizeNumber}
 use Rattle.pool.specs.Node.{places}
-use Rattle.block_check.specs.Records.{recordsOf, sizeNumber}
+use Rattle.block_check.specs.Records.{recordsOf}
 use Rattle.block_check.proofs.Refusals.{from-length, by-size, by-records}
 use borrow.Author.Needs.{needs}
 use Rattle.block_check.proofs.block_refusal.Statement.{statement}

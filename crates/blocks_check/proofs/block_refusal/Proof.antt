@@ -48,10 +48,10 @@ use denote.Triple.Table.{entered, cited}
 use denote.Triple.Walked.{says, Stays, stay-none, stay-none-slice, walkOf, AllGo, goes-none, goes-none-slice, Walks, ends-at, walked, walk-meets}
 use denote.Exit.{yes}
 use Rattle.neon.specs.declared.Instruction.{Instruction}
-use Rattle.neon.specs.Refusal.{recordNumber, blockRefusal}
+use Rattle.neon.specs.Refusal.{recordNumber, sizeNumber, blockRefusal}
 use Rattle.block_check.specs.declared.Refused.{Refused}
 use Rattle.pool.specs.Node.{placesIn}
-use Rattle.block_check.specs.Records.{sizeNumber, Refuses}
+use Rattle.block_check.specs.Records.{Refuses}
 use Rattle.neon.proofs.Instruction as T₁
 use Rattle.neon.proofs.Instruction.Laws as T₁′
 use Rattle.block_check.proofs.Refused as T

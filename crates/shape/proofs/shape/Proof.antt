@@ -1,8 +1,7 @@
 use native.Mathlib.Omega.{arith}
 use mathlib.Core.Path.{refl}
-use Rattle.neon.specs.Op.{opAt, arrangementAt, full}
+use Rattle.neon.specs.Op.{arrangementAt}
 use Rattle.neon.proofs.Geometry.{sized}
-use Rattle.shape.proofs.Rows.{lanes-are}
 use borrow.Author.Needs.{needs}
 use Rattle.shape.proofs.shape.Statement.{statement}
 use Rattle.shape.proofs.shape.Tie as tie
@@ -32,7 +31,7 @@ returns c =
     let l-neon-op = l-lane-bits .before in
     let l-is-full = l-neon-op .before in
     let st = l-is-full .before in
-    rw (l-made-bits .made-bits .ensures, l-neon-op .neon-op .ensures, l-is-full .is-full .ensures, l-lane-bits .lane-bits .ensures, lanes-are (opAt (st .args .operation)) (st .args .i) (full (arrangementAt (st .args .arrangement)))) refl
+    rw (l-made-bits .made-bits .ensures, l-neon-op .neon-op .ensures, l-is-full .is-full .ensures, l-lane-bits .lane-bits .ensures) refl
 
 pub shape-spec : {M : Type 1} → statement M
 shape-spec =
