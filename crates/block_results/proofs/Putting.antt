@@ -1,10 +1,10 @@
 -- The words of a block's answer, put one by one to the front of a list. Assumes nothing.
 use mathlib.Core.Path.{_≡_, refl, sym, ap, _∙_}
 use mathlib.Core.List.{List, [], _∷_, _++_, append-assoc}
-use Prim.Native.Nat.{ℕ, zero, suc, _+_, _≤_}
+use Prim.Native.Nat.{ℕ, zero, suc, _+_, _≤_, _<_}
 use native.Mathlib.Nat.{add-zero, zero-add, add-suc, suc-add}
 use native.Mathlib.Omega.{arith}
-use lib.ListN.{length, set, drop, length-append}
+use lib.ListN.{length, set, drop, length-append, length-set}
 use lib.Seq.{sets, sets-eq}
 use Rattle.register_map.specs.declared.RegisterMap.{RegisterMap}
 use Rattle.register_map.specs.Map.{nodeOf}
@@ -20,6 +20,13 @@ nodes-more : (m : RegisterMap) (r k : ℕ) → nodesOf m r (suc k) ≡ nodesOf m
 unfolding nodesOf
 nodes-more m r zero = ap (λ (j : ℕ). nodeOf m j ∷ []) (sym (add-zero r))
 nodes-more m r (suc k) = ap (λ (l : List ℕ). nodeOf m r ∷ l) (nodes-more m (suc r) k ∙ ap (λ (j : ℕ). nodesOf m (suc r) k ++ (nodeOf m j ∷ [])) (suc-add r k ∙ sym (add-suc r k)))
+
+-- an entry of a list stays one when another is set
+pub in-set : (l : List ℕ) (i v k : ℕ) → k < length l → k < length (set l i v)
+in-set l i v k h = rw (length-set l i v) h
+
+pub length-two : (l : List ℕ) (i v j w : ℕ) → length (set (set l i v) j w) ≡ length l
+length-two l i v j w = length-set (set l i v) j w ∙ length-set l i v
 
 put-one : (l xs : List ℕ) (k v : ℕ) → length xs ≡ k → set (sets l 0 xs) k v ≡ sets l 0 (xs ++ (v ∷ []))
 put-one l xs k v e = ap (λ (j : ℕ). set (sets l 0 xs) j v) (sym e ∙ sym (zero-add (length xs))) ∙ sym (sets-append l 0 xs (v ∷ []))

@@ -2,10 +2,10 @@ use native.Mathlib.Omega.{arith}
 use Prim.Native.Nat.{ℕ, _-_, _≤_}
 use mathlib.Core.Path.{_≡_, refl, ap, _∙_}
 use mathlib.Core.List.{List}
-use lib.ListN.{length, set, length-set}
+use lib.ListN.{length, set}
 use lib.Seq.{sets, length-sets}
 use Rattle.block_results.specs.Words.{nodesOf}
-use Rattle.block_results.proofs.Putting.{put-node, put-all}
+use Rattle.block_results.proofs.Putting.{in-set, length-two, put-node, put-all}
 use Rattle.block_results.proofs.put_results.Statement.{statement}
 use Rattle.block_results.proofs.put_results.Tie as tie
 
@@ -64,13 +64,13 @@ slice-write-results-3 : tie.Need-slice-write-results-3 Inv-loop μ-loop
 slice-write-results-3 c =
     let l-loop = c .before in
     let st = l-loop .before .before in
-    omega (arith, st .pre, ap length (l-loop .loop .inv .1) ∙ length-sets (st .args .results .now) 0 (nodesOf (st .args .map) 0 (l-loop .loop .r)), length-set (l-loop .loop .results) 32 (st .args .map .count))
+    in-set (l-loop .loop .results) 32 _ 33 (omega (arith, st .pre, ap length (l-loop .loop .inv .1) ∙ length-sets (st .args .results .now) 0 (nodesOf (st .args .map) 0 (l-loop .loop .r))))
 
 same-length : tie.Need-same-length Inv-loop μ-loop
 same-length c =
     let l-loop = c .before in
     let st = l-loop .before .before in
-    length-set (set (l-loop .loop .results) 32 (st .args .map .count)) 33 (st .args .position) ∙ length-set (l-loop .loop .results) 32 (st .args .map .count) ∙ ap length (l-loop .loop .inv .1) ∙ length-sets (st .args .results .now) 0 (nodesOf (st .args .map) 0 (l-loop .loop .r))
+    length-two (l-loop .loop .results) 32 _ 33 _ ∙ ap length (l-loop .loop .inv .1) ∙ length-sets (st .args .results .now) 0 (nodesOf (st .args .map) 0 (l-loop .loop .r))
 
 returns : tie.Need-returns Inv-loop μ-loop
 returns c =

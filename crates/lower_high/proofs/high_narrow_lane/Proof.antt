@@ -1,5 +1,4 @@
 use native.Mathlib.Omega.{arith}
-use Prim.Native.Nat.{_*_}
 use Rattle.lower_high.proofs.Narrowing.{high-lane}
 use Rattle.facts.proofs.Numbers.{half-fits}
 use borrow.Author.Needs.{needs}
@@ -26,7 +25,7 @@ plus-if-requires c κs =
     let l-bv = c .before .before .before in
     let l-power = l-bv .before .before in
     let st = l-power .before .before .before in
-    (omega (arith, st .pre, l-bv .bv .ensures .sized), (omega (arith, st .pre, l-bv .bv .ensures .sized), omega (arith, st .pre), omega (arith, st .pre), rw (l-power .power .ensures) (half-fits (st .args .lane-bits) (st .args .lane-bits * 2) (st .pre .1 .2) (omega arith))))
+    (omega (arith, st .pre, l-bv .bv .ensures .sized), (omega (arith, st .pre, l-bv .bv .ensures .sized), omega (arith, st .pre), omega (arith, st .pre), rw (l-power .power .ensures) (half-fits (st .args .lane-bits) _ (st .pre .1 .2) (omega arith))))
 
 sub-t13 : tie.Need-sub-t13
 sub-t13 c = search needs

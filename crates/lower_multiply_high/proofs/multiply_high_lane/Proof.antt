@@ -50,7 +50,7 @@ plus-if-requires c κs =
     let l-extend = l-extend2 .before .before .before .before in
     let l-power = l-extend .before .before in
     let st = l-power .before .before in
-    omega (arith, st .pre, l-extend .extend .ensures .sized, l-extend2 .extend2 .ensures .sized, l-bv .bv .ensures .sized, l-konst .konst .ensures .sized, l-bv2 .bv2 .ensures .sized, half-fits (st .args .lane-bits) (st .args .lane-bits * 2 + 1) (st .pre .1 .2) (omega (arith, st .pre)), l-power .power .ensures)
+    (omega (arith, st .pre, l-extend .extend .ensures .sized, l-extend2 .extend2 .ensures .sized, l-bv .bv .ensures .sized, l-konst .konst .ensures .sized, l-bv2 .bv2 .ensures .sized), (omega (arith, st .pre, l-extend .extend .ensures .sized, l-extend2 .extend2 .ensures .sized, l-bv .bv .ensures .sized, l-konst .konst .ensures .sized, l-bv2 .bv2 .ensures .sized), omega (arith, st .pre), omega (arith, st .pre), rw (l-power .power .ensures) (half-fits (st .args .lane-bits) _ (st .pre .1 .2) (omega (arith, st .pre)))))
 
 konst-requires-2 : tie.Need-konst-requires-2
 konst-requires-2 c κs =
