@@ -10,6 +10,6 @@ unfoldable pub nodesOf : RegisterMap → ℕ → ℕ → List ℕ
 nodesOf m r zero = []
 nodesOf m r (suc k) = nodeOf m r ∷ nodesOf m (suc r) k
 
--- the results as they were, with the 34 words of an answer in front
+-- the first 34 words are an answer's; those after them are as they were
 abbrev pub put : List ℕ → RegisterMap → (position : ℕ) → List ℕ
 put old m position = nodesOf m 0 32 ++ (m .count ∷ position ∷ drop 34 old)

@@ -8,7 +8,7 @@ ghost use Rattle.text.specs.Answer.{Answered as TextAnswered};
 ghost use Rattle.text_length.specs.Answer.{Measured};
 ghost use Rattle.instruction.specs.Lowering.{Answers};
 ghost use Rattle.block_check.specs.Records.{recordsOf};
-ghost use Rattle.exports.specs.Results.{Told};
+ghost use Rattle.exports.specs.Results.{BlockGiven};
 
 // The words that `neon_lower_block` gives back: 32 nodes, the count and the position.
 const RESULTS: usize = 34;
@@ -56,7 +56,7 @@ pub extern "C" fn neon_lower_instruction(
 // Returns the number; the map, the count and the position go to `results`. Where that is too short, nothing is lowered.
 #[no_mangle]
 pub extern "C" fn neon_lower_block(pool: &mut [u64], records: &[u64], results: &mut [u64]) -> u64
-    ensures { λ r. ⌜ Told (now (pool .entry)) (recordsOf (now (records .entry))) (now (results .entry)) (now (pool .exit)) (now (results .exit)) r ⌝ }
+    ensures { λ r. ⌜ BlockGiven (now (pool .entry)) (recordsOf (now (records .entry))) (now (results .entry)) (now (pool .exit)) (now (results .exit)) r ⌝ }
 {
     if results.len() < RESULTS {
         return SHORT_RESULTS;

@@ -9,7 +9,7 @@ use lib.ListN.{length}
 use borrow.Author.Tests.{le-leb, lt-leb, eqb-true}
 use Rattle.terms.specs.Display.{display}
 use Rattle.facts.specs.Refuse.{unless}
-use Rattle.facts.proofs.Tests.{and-both}
+use Rattle.facts.proofs.Tests.{and-both, false≢true}
 use Rattle.neon.specs.declared.Instruction.{Instruction}
 use Rattle.neon.specs.Op.{isOperation, opAt, isArrangement, arrangementAt, laneBits}
 use Rattle.neon.specs.Form.{hasForm, least, most}
@@ -27,7 +27,7 @@ use Rattle.block.specs.Block.{Answered}
 use Rattle.columns.specs.Columns.{columns}
 use Rattle.line_fields.specs.Fields.{inColumns, fields, recordOf}
 use Rattle.line_answers.specs.Answer.{answerRoom, roomNumber, written}
-use Rattle.lines.specs.Line.{recordText, oneNumber, answer, answerIn}
+use Rattle.lines.specs.Line.{recordText, oneNumber, answer, answerIn, PoolAfter}
 
 -- ---- numbers
 
@@ -110,6 +110,25 @@ module _ (line : List ℕ) {old new : List ℕ} {a : BlockAnswer} (b : Answered 
 -- ---- what is written
 
 module _ (old line out : List ℕ) (at : ℕ) where
+  -- the pool is left as it was, or the block of one is lowered
+  abbrev looks : Bool
+  looks = leb answerRoom (length out - at) && inColumns line
+
+  left : looks ≡ false → PoolAfter old line (length out - at) old
+  left q = record { lowered = λ e. absurd (false≢true (sym q ∙ e)); kept = λ e. refl }
+
+  pub left-little : length out - at < answerRoom → PoolAfter old line (length out - at) old
+  left-little h = left (rw (lt-leb answerRoom (length out - at) h))
+
+  pub left-other : answerRoom ≤ length out - at → inColumns line ≡ false → PoolAfter old line (length out - at) old
+  left-other h e = left (rw (le-leb answerRoom (length out - at) h) e)
+
+  pub lowered-one : {new : List ℕ} {a : BlockAnswer} → answerRoom ≤ length out - at → inColumns line ≡ true → Answered old (recordOf line ∷ []) new a
+      → PoolAfter old line (length out - at) new
+  lowered-one {a = a} h e b =
+      let q : looks ≡ true = rw (le-leb answerRoom (length out - at) h) e in
+      record { lowered = λ t. (a, b); kept = λ t. absurd (false≢true (sym t ∙ q)) }
+
   -- no room
   pub no-room : length out < at → Wrote out at (answerIn (length out - at) (places old) line) at out
   no-room h = wrote-as (rw (lt-leb answerRoom (length out - at) (omega arith))) (wrote-none out at)

@@ -1,7 +1,6 @@
 -- What the line program writes for a line (document 01, "Text and program"), as a function of the line's bytes.
-use mathlib.Core.Bool.{true, cond}
+use mathlib.Core.Bool.{true, false, cond, _&&_}
 use mathlib.Core.List.{List, [], _∷_}
-use mathlib.Core.Logic.{_⊎_}
 use mathlib.Core.Path.{_≡_}
 use Prim.Native.Nat.{ℕ, zero, suc}
 use lib.Dec.{leb}
@@ -39,6 +38,7 @@ answer places line = cond (inColumns line) (recordAnswer places (recordOf line))
 abbrev pub answerIn : (room places : ℕ) → List ℕ → List ℕ
 answerIn room places line = cond (leb answerRoom room) (answer places line) []
 
--- the pool after a line: as it was, or, for a line in columns, as the block of one leaves it
-abbrev pub PoolAfter : (old line new : List ℕ) → Type 0
-PoolAfter old line new = (new ≡ old) ⊎ ((inColumns line ≡ true) × ((a : BlockAnswer) × Answered old (recordOf line ∷ []) new a))
+-- the pool after a line: as the block of one leaves it, where there is room and the line is in columns; else as it was
+pub record PoolAfter (old line : List ℕ) (room : ℕ) (new : List ℕ) : Type 0 where
+  pub lowered : (leb answerRoom room && inColumns line) ≡ true → (a : BlockAnswer) × Answered old (recordOf line ∷ []) new a
+  pub kept : (leb answerRoom room && inColumns line) ≡ false → new ≡ old

@@ -20,7 +20,7 @@ pub const LINE_ROOM: usize = 25;
 // Writes the answer to a line, at `at`. Where fewer bytes are left than the longest answer has, nothing is written.
 pub fn answer_line(pool: &mut [u64], line: &[u8], out: &mut [u8], at: usize) -> usize
     ensures { λ r. ⌜ Wrote (now (out .entry)) at (answerIn (length (now (out .entry)) - at) (places (now (pool .entry))) (now (line .entry))) r (now (out .exit)) ⌝ }
-    ensures { λ _. ⌜ PoolAfter (now (pool .entry)) (now (line .entry)) (now (pool .exit)) ⌝ }
+    ensures { λ _. ⌜ PoolAfter (now (pool .entry)) (now (line .entry)) (length (now (out .entry)) - at) (now (pool .exit)) ⌝ }
 {
     if out.len() < at {
         return at;

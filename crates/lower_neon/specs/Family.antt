@@ -8,7 +8,7 @@ use Rattle.lower_shift_lane.specs.Amounts.{isRegister, AmountIn}
 use Rattle.lower_doubling.specs.Elements.{accumulates, factorBits, secondFactorBits}
 use Rattle.lower_saturating_lane.specs.Kinds.{usesSecond, sourceBits, KindIn}
 
--- the most nodes that a form adds
+-- a bound on the nodes that a form adds
 abbrev pub mostNodes : ℕ
 mostNodes = 760
 

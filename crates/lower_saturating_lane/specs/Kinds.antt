@@ -16,7 +16,7 @@ usesSecond (Unary negate) = false
 abbrev pub sourceBits : SaturatingKind → ℕ → ℕ
 sourceBits kind n = cond (narrowing kind) (n * 2) n
 
--- a lane of n bits: at most 32 where the lane is computed at 2n + 1, and a shift of 1 to n
+-- a lane of n bits: at most 32 where the lane is computed at 2n bits or more, and a shift of 1 to n
 abbrev pub KindIn : SaturatingKind → ℕ → Type 0
 KindIn (AddSub op to) n = n ≤ 64
 KindIn (Halving rounding) n = n ≤ 64

@@ -1,4 +1,4 @@
--- One lane of the loops over lanes: d, a and b are the whole sources, j is the lane.
+-- One lane of the loop over lanes: a and b are the whole sources, d is not read, and j is the lane.
 use mathlib.Core.Bool.{Bool}
 use Prim.Native.Nat.{ℕ}
 use Rattle.terms.specs.Expr.{Expr}

@@ -25,7 +25,7 @@ formNumber operation arrangement i rest =
     unless (isOperation operation) 2
     (unless (isArrangement arrangement && hasForm o v) 3 (unless (leb (least o) i && leb i (most o (laneBits v))) 4 rest))
 
--- the registers that m may name: all, or 0 where there is no second source
+-- the registers that m may name: all, or 0 where there is no second source; at every arrangement (document 02 may change that)
 abbrev pub mostM : Op → Arrangement → ℕ
 mostM o v = cond (hasSecond o) 31 0
 
@@ -43,7 +43,6 @@ abbrev pub AllLegal : List Instruction → Type 0
 AllLegal [] = Unit {0}
 AllLegal (c ∷ cs) = Legal c × AllLegal cs
 
--- the first bad record's number and position, counted from p; 0 and 0 where all are accepted
 pub record Refusal : Type 0 where
   pub number : ℕ
   pub position : ℕ
@@ -51,6 +50,7 @@ pub record Refusal : Type 0 where
 abbrev pub refusal : ℕ → ℕ → Refusal
 refusal k p = record { number = k; position = p }
 
+-- the first bad record's number and position, counted from p; 0 and 0 where all are accepted
 unfoldable pub recordsRefusal : ℕ → List Instruction → Refusal
 recordsRefusal p [] = refusal 0 0
 recordsRefusal p (c ∷ cs) = cond (eqb (recordNumber c) 0) (recordsRefusal (suc p) cs) (refusal (recordNumber c) p)

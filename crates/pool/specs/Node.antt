@@ -50,7 +50,7 @@ kindOf w0 = w0 % 65536
 abbrev pub widthOf : ℕ → ℕ
 widthOf w0 = w0 / 65536
 
--- word 1: A + 2^16 × B + 2^32 × C. C takes all that lies above bit 32, so that no bit goes unread.
+-- word 1: A + 2^16 × B + 2^32 × C. C takes all from bit 32 on, so that no bit goes unread.
 abbrev pub operandWord : ℕ → ℕ → ℕ → ℕ
 operandWord a b c = a + 65536 * b + 4294967296 * c
 

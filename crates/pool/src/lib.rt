@@ -2,7 +2,7 @@
 use terms::BinOp;
 use terms::CmpOp;
 ghost use mathlib.Core.Path.{_≡_};
-ghost use Prim.Native.Nat.{_+_, _*_, _≤_, _<_, _%_};
+ghost use Prim.Native.Nat.{_*_, _≤_, _<_, _%_};
 ghost use lib.ListN.{length};
 ghost use Rattle.pool.specs.Node.{kindWord, operandWord, widthAt, none, places, bvCode, compareCode};
 ghost use Rattle.pool.specs.Growth.{Room, Pushed};

@@ -8,13 +8,12 @@ use trees::SaturateTo;
 use trees::SaturatingKind;
 use trees::ShiftKind;
 ghost use mathlib.Core.Path.{_≡_};
-ghost use mathlib.Core.Bool.{Bool, true, false};
+ghost use mathlib.Core.Bool.{Bool, false};
 ghost use Prim.Native.Nat.{ℕ, _≤_};
 ghost use Rattle.neon.specs.Op.{opAt};
 ghost use Rattle.trees.specs.declared.NeonOp.{NeonOp};
 ghost use Rattle.trees.specs.declared.ShiftKind.{ShiftKind};
 ghost use Rattle.trees.specs.declared.SaturatingKind.{SaturatingKind};
-ghost use Rattle.trees.specs.declared.Saturate.{Saturate};
 ghost use Rattle.trees.specs.Neon.{neonOp};
 
 fn left(shift: u64, saturate: Saturate, signed: bool) -> NeonOp

@@ -26,7 +26,6 @@ use Rattle.trees.specs.Lower.{extend, unsignedMax}
 abbrev pub signedMax : ℕ → ℕ
 signedMax n = 2 ^ (n - 1) - 1
 
--- `clamp`: value, of wide bits, brought into the range of n bits that `to` names
 abbrev pub clampBetween : (value low high : Expr) → Expr
 clampBetween value low high = Ite (Compare Slt value low) low (Ite (Compare Slt high value) high value)
 
@@ -38,6 +37,7 @@ clamped value wide n Signed = clampBetween value (Const (2 ^ wide - 2 ^ (n - 1))
 clamped value wide n Unsigned = clampBelow value (Const (unsignedMax n) wide)
 clamped value wide n SignedToUnsigned = clampBetween value (Const 0 wide) (Const (unsignedMax n) wide)
 
+-- `clamp`: value, of wide bits, brought into the range of n bits that `to` names
 unfoldable pub clamp : (value : Expr) (wide n : ℕ) → SaturateTo → Expr
 clamp value wide n to = extract (clamped value wide n to) (n - 1) 0
 
@@ -49,7 +49,7 @@ shiftBy signed v by = Bv (cond signed AShr LShr) v by
 abbrev pub plusIf : Bool → Expr → Expr → Expr
 plusIf rounding v c = cond rounding (Bv Add v c) v
 
--- a rounding narrow needs one bit more than its source, and so does a doubled product
+-- a rounding narrow is computed with one bit more than its source, and a doubled product with one more than the product
 abbrev pub narrowBits : ℕ → ℕ
 narrowBits n = n * 2 + 1
 

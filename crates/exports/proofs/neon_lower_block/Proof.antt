@@ -7,7 +7,7 @@ use Rattle.exports.proofs.neon_lower_block.Tie as tie
 returns : tie.Need-returns
 returns c =
     let l-if1 = c in
-    record { short = λ h. (refl, refl, refl); told = λ h. absurd (omega (arith, h, l-if1 .if1 .taken)) }
+    record { short = λ h. (refl, refl, refl); enough = λ h. absurd (omega (arith, h, l-if1 .if1 .taken)) }
 
 lower-block-requires : tie.Need-lower-block-requires
 lower-block-requires c κs = search needs
@@ -26,7 +26,7 @@ returns-2 c =
     let l-put-results = c .before .before in
     let l-lower-block = l-put-results .before .before .before .before .before in
     let l-if1 = l-lower-block .before .before in
-    record { short = λ h. absurd (omega (arith, h, l-if1 .if1 .left)); told = λ h. (l-lower-block .lower-block .result, l-lower-block .lower-block .ensures, refl, l-put-results .put-results .ensures) }
+    record { short = λ h. absurd (omega (arith, h, l-if1 .if1 .left)); enough = λ h. (l-lower-block .lower-block .result, l-lower-block .lower-block .ensures, refl, l-put-results .put-results .ensures) }
 
 pub neon-lower-block-spec : {M : Type 1} → statement M
 neon-lower-block-spec =

@@ -1,6 +1,5 @@
 use native.Mathlib.Omega.{arith}
 use mathlib.Core.List.{List}
-use mathlib.Core.Logic.{inl, inr}
 use mathlib.Core.Path.{_≡_, refl, sym, ap, _∙_}
 use Prim.Native.Nat.{ℕ}
 use lib.ListN.{getD}
@@ -8,7 +7,7 @@ use borrow.Author.Tests.{not-true, not-false}
 use Rattle.pool.specs.Node.{places}
 use Rattle.register_map.specs.Map.{nodeOf}
 use Rattle.line_fields.specs.Fields.{recordOf}
-use Rattle.lines.proofs.Records.{block-low, answered-one, long, low-d, node-under, no-room, little-room, other, refused, done}
+use Rattle.lines.proofs.Records.{block-low, answered-one, long, low-d, node-under, left-little, left-other, lowered-one, no-room, little-room, other, refused, done}
 use borrow.Author.Needs.{needs}
 use Rattle.lines.proofs.answer_line.Statement.{statement}
 use Rattle.lines.proofs.answer_line.Tie as tie
@@ -17,7 +16,7 @@ returns : tie.Need-returns
 returns c =
     let l-if1 = c in
     let st = l-if1 .before .before .before .before in
-    (no-room (st .args .pool .now) (st .args .line .now) (st .args .out .now) (st .args .at) (l-if1 .if1 .taken), inl refl)
+    (no-room (st .args .pool .now) (st .args .line .now) (st .args .out .now) (st .args .at) (l-if1 .if1 .taken), left-little (st .args .pool .now) (st .args .line .now) (st .args .out .now) (st .args .at) (omega (arith, l-if1 .if1 .taken)))
 
 sub-if2 : tie.Need-sub-if2
 sub-if2 c = search needs
@@ -26,7 +25,7 @@ returns-2 : tie.Need-returns-2
 returns-2 c =
     let l-if2 = c in
     let st = l-if2 .before .before .before .before .before in
-    (little-room (st .args .pool .now) (st .args .line .now) (st .args .out .now) (st .args .at) (l-if2 .if2 .taken), inl refl)
+    (little-room (st .args .pool .now) (st .args .line .now) (st .args .out .now) (st .args .at) (l-if2 .if2 .taken), left-little (st .args .pool .now) (st .args .line .now) (st .args .out .now) (st .args .at) (l-if2 .if2 .taken))
 
 in-columns-requires : tie.Need-in-columns-requires
 in-columns-requires c κs = search needs
@@ -44,7 +43,7 @@ returns-3 c =
     let l-in-columns = l-if3 .before in
     let l-if2 = l-in-columns .before in
     let st = l-if2 .before .before .before .before .before in
-    (other (st .args .pool .now) (st .args .line .now) (st .args .out .now) (st .args .at) (l-if2 .if2 .left) (sym (l-in-columns .in-columns .ensures) ∙ not-true _ (l-if3 .if3 .taken)) (l-put-number .put-number .ensures), inl refl)
+    (other (st .args .pool .now) (st .args .line .now) (st .args .out .now) (st .args .at) (l-if2 .if2 .left) (sym (l-in-columns .in-columns .ensures) ∙ not-true _ (l-if3 .if3 .taken)) (l-put-number .put-number .ensures), left-other (st .args .pool .now) (st .args .line .now) (st .args .out .now) (st .args .at) (l-if2 .if2 .left) (sym (l-in-columns .in-columns .ensures) ∙ not-true _ (l-if3 .if3 .taken)))
 
 fields-of-requires : tie.Need-fields-of-requires
 fields-of-requires c κs =
@@ -84,7 +83,7 @@ returns-4 c =
     let l-in-columns = l-if3 .before in
     let l-if2 = l-in-columns .before in
     let st = l-if2 .before .before .before .before .before in
-    (refused (st .args .pool .now) (st .args .line .now) (st .args .out .now) (st .args .at) (l-if2 .if2 .left) (sym (l-in-columns .in-columns .ensures) ∙ not-false _ (l-if3 .if3 .left)) (answered-one (st .args .line .now) (l-fields-of .fields-of .ensures) (l-lower-block .lower-block .ensures)) (l-if4 .if4 .taken) (l-put-number2 .put-number2 .ensures), inr (sym (l-in-columns .in-columns .ensures) ∙ not-false _ (l-if3 .if3 .left), (l-lower-block .lower-block .result, answered-one (st .args .line .now) (l-fields-of .fields-of .ensures) (l-lower-block .lower-block .ensures))))
+    (refused (st .args .pool .now) (st .args .line .now) (st .args .out .now) (st .args .at) (l-if2 .if2 .left) (sym (l-in-columns .in-columns .ensures) ∙ not-false _ (l-if3 .if3 .left)) (answered-one (st .args .line .now) (l-fields-of .fields-of .ensures) (l-lower-block .lower-block .ensures)) (l-if4 .if4 .taken) (l-put-number2 .put-number2 .ensures), lowered-one (st .args .pool .now) (st .args .line .now) (st .args .out .now) (st .args .at) (l-if2 .if2 .left) (sym (l-in-columns .in-columns .ensures) ∙ not-false _ (l-if3 .if3 .left)) (answered-one (st .args .line .now) (l-fields-of .fields-of .ensures) (l-lower-block .lower-block .ensures)))
 
 array-read-get : tie.Need-array-read-get
 array-read-get c = search needs
@@ -125,7 +124,7 @@ returns-5 c =
     let l-in-columns = l-if3 .before in
     let l-if2 = l-in-columns .before in
     let st = l-if2 .before .before .before .before .before in
-    (done (st .args .pool .now) (st .args .line .now) (st .args .out .now) (st .args .at) _ (l-if2 .if2 .left) (sym (l-in-columns .in-columns .ensures) ∙ not-false _ (l-if3 .if3 .left)) (answered-one (st .args .line .now) (l-fields-of .fields-of .ensures) (l-lower-block .lower-block .ensures)) (omega (arith, l-if4 .if4 .left)) (l-get .get .ensures ∙ ap (nodeOf (l-lower-block .lower-block .result .map)) (ap (λ (z : List ℕ). getD z 3 0) (l-fields-of .fields-of .ensures))) (l-put-term .put-term .ensures), inr (sym (l-in-columns .in-columns .ensures) ∙ not-false _ (l-if3 .if3 .left), (l-lower-block .lower-block .result, answered-one (st .args .line .now) (l-fields-of .fields-of .ensures) (l-lower-block .lower-block .ensures))))
+    (done (st .args .pool .now) (st .args .line .now) (st .args .out .now) (st .args .at) _ (l-if2 .if2 .left) (sym (l-in-columns .in-columns .ensures) ∙ not-false _ (l-if3 .if3 .left)) (answered-one (st .args .line .now) (l-fields-of .fields-of .ensures) (l-lower-block .lower-block .ensures)) (omega (arith, l-if4 .if4 .left)) (l-get .get .ensures ∙ ap (nodeOf (l-lower-block .lower-block .result .map)) (ap (λ (z : List ℕ). getD z 3 0) (l-fields-of .fields-of .ensures))) (l-put-term .put-term .ensures), lowered-one (st .args .pool .now) (st .args .line .now) (st .args .out .now) (st .args .at) (l-if2 .if2 .left) (sym (l-in-columns .in-columns .ensures) ∙ not-false _ (l-if3 .if3 .left)) (answered-one (st .args .line .now) (l-fields-of .fields-of .ensures) (l-lower-block .lower-block .ensures)))
 
 pub answer-line-spec : {M : Type 1} → statement M
 answer-line-spec =

@@ -1,5 +1,4 @@
 use native.Mathlib.Omega.{arith}
-use Prim.Native.Nat.{_+_, _*_}
 use Rattle.facts.proofs.Numbers.{half-fits}
 use Rattle.lower_multiply_high.proofs.Doubling.{multiply-high}
 use borrow.Author.Needs.{needs}

@@ -1,4 +1,3 @@
-use native.Mathlib.Omega.{arith}
 use Rattle.shape.proofs.Rows.{low, middle, high}
 use Rattle.shape.proofs.narrows.Statement.{statement}
 use Rattle.shape.proofs.narrows.Tie as tie
