@@ -62,12 +62,12 @@ fn registers(pool: &mut [u64])
 {
     let mut r = 0;
     while r < 32 {
-        pool::var(pool, r, r as u64);
+        nodes::var(pool, r, r as u64);
         r += 1;
     }
-    pool::extract(pool, 32, Node(0), Bit(63), Bit(0));
-    pool::extract(pool, 33, Node(1), Bit(63), Bit(0));
-    pool::extract(pool, 34, Node(2), Bit(63), Bit(0));
+    nodes::extract(pool, 32, Node(0), Bit(63), Bit(0));
+    nodes::extract(pool, 33, Node(1), Bit(63), Bit(0));
+    nodes::extract(pool, 34, Node(2), Bit(63), Bit(0));
 }
 
 fn print(number: u64, end: &[u8]) {

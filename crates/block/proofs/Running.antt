@@ -17,7 +17,7 @@ use Rattle.pool.specs.declared.Built.{Built}
 use Rattle.pool.specs.Node.{Cell, decode, kindAt, kinds, places}
 use Rattle.pool.specs.Rules.{Valid, okPool}
 use Rattle.pool.specs.Growth.{Room, Grown}
-use Rattle.pool.specs.Builders.{MadeVar}
+use Rattle.nodes.specs.Builders.{MadeVar}
 use Rattle.pool.proofs.Laws.{grown-refl, grown-trans, cell-kept, reach-kept, packed, appended, unfold-step}
 use Rattle.register_map.specs.declared.RegisterMap.{RegisterMap}
 use Rattle.register_map.specs.Map.{nodesFrom, firstMap, written}

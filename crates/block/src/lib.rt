@@ -24,7 +24,7 @@ pub fn start_pool(pool: &mut [u64]) -> RegisterMap
 {
     let mut r: usize = 0;
     while r < 32 {
-        pool::var(pool, r, r as u64);
+        nodes::var(pool, r, r as u64);
         r += 1;
     }
     RegisterMap::initial()

@@ -10,7 +10,7 @@ use Rattle.terms.specs.Expr.{Expr, Concat}
 use Rattle.pool.specs.declared.Node.{Node}
 use Rattle.pool.specs.declared.Built.{Built}
 use Rattle.pool.specs.Growth.{Grown, Reach, AllReached, Made}
-use Rattle.pool.specs.Builders.{MadeConcat, MadeExtract}
+use Rattle.nodes.specs.Builders.{MadeConcat, MadeExtract}
 use Rattle.pool.proofs.Laws.{is-kept, reach-kept, reach-trans, grown-trans}
 use Rattle.pool.proofs.Steps.{start, step, finish, forget, stay, given}
 use Rattle.trees.specs.Simd.{concatLanes}

@@ -59,8 +59,8 @@ pub fn extend(pool: &mut [u64], count: usize, value: Node, to: u64, signed: bool
     ensures { λ r. ⌜ MadeExtend (now (pool .entry)) count (now (pool .exit)) r value to signed ⌝ }
 {
     if signed {
-        pool::sign_ext(pool, count, value, to)
+        nodes::sign_ext(pool, count, value, to)
     } else {
-        pool::zero_ext(pool, count, value, to)
+        nodes::zero_ext(pool, count, value, to)
     }
 }

@@ -8,7 +8,7 @@ use Rattle.terms.specs.declared.BinOp.the-variants.{Add, Sub}
 use Rattle.terms.specs.declared.CmpOp.{CmpOp}
 use Rattle.pool.specs.declared.Node.{Node}
 use Rattle.pool.specs.declared.Built.{Built}
-use Rattle.pool.specs.Builders.{MadeBv, MadeCompare, MadeIte}
+use Rattle.nodes.specs.Builders.{MadeBv, MadeCompare, MadeIte}
 use Rattle.pool.proofs.Steps.{start, step, finish, given, spare}
 use Rattle.trees.specs.declared.SaturateTo.{SaturateTo}
 use Rattle.trees.specs.Arith.{clamp, mixedSignAddLane, absoluteDifferenceLane}

@@ -34,10 +34,10 @@ fn absolute_difference_lane(
         (λ a b. absoluteDifferenceLane signed a b) (a .0 ∷ b .0 ∷ []) ⌝ }
 {
     let op = less_op(signed);
-    let less = pool::compare(pool, count, op, a, b);
-    let up = pool::bv(pool, less.count, BinOp::Sub, b, a);
-    let down = pool::bv(pool, up.count, BinOp::Sub, a, b);
-    pool::ite(pool, down.count, less.node, up.node, down.node)
+    let less = nodes::compare(pool, count, op, a, b);
+    let up = nodes::bv(pool, less.count, BinOp::Sub, b, a);
+    let down = nodes::bv(pool, up.count, BinOp::Sub, a, b);
+    nodes::ite(pool, down.count, less.node, up.node, down.node)
 }
 
 // Lane `index` of the difference, added to the old destination's where `accumulate` asks it.
@@ -64,7 +64,7 @@ fn difference_at(
     let difference = absolute_difference_lane(pool, b.count, signed, a.node, b.node, lane_bits);
     if accumulate {
         let previous = simd::extract_lane(pool, difference.count, d, lane_bits, index);
-        return pool::bv(
+        return nodes::bv(
             pool,
             previous.count,
             BinOp::Add,
@@ -118,7 +118,7 @@ pub fn absolute_difference_lanes(
             lanes,
             Lane(i),
         );
-        acc = pool::concat(pool, lane.count, lane.node, acc.node);
+        acc = nodes::concat(pool, lane.count, lane.node, acc.node);
         i += 1;
     }
     acc

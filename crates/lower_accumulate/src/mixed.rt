@@ -53,7 +53,7 @@ fn mixed_at(
         wide,
         !destination_signed,
     );
-    let sum = pool::bv(
+    let sum = nodes::bv(
         pool,
         wide_addend.count,
         BinOp::Add,
@@ -107,7 +107,7 @@ pub fn mixed_sign_add_lanes(
             lanes,
             Lane(i),
         );
-        acc = pool::concat(pool, lane.count, lane.node, acc.node);
+        acc = nodes::concat(pool, lane.count, lane.node, acc.node);
         i += 1;
     }
     acc

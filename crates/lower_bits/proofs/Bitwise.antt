@@ -8,7 +8,7 @@ use Rattle.facts.proofs.Tests.{false≢true}
 use Rattle.terms.specs.declared.BinOp.the-variants.{Xor}
 use Rattle.pool.specs.declared.Node.{Node}
 use Rattle.pool.specs.declared.Built.{Built}
-use Rattle.pool.specs.Builders.{Makes, MadeBv, MadeExtract, MadeZeroExtend}
+use Rattle.nodes.specs.Builders.{Makes, MadeBv, MadeExtract, MadeZeroExtend}
 use Rattle.pool.proofs.Steps.{start, step, finish, given, spare}
 use Rattle.trees.specs.declared.BitwiseUnary.{BitwiseUnary}
 use Rattle.trees.specs.declared.BitwiseUnary.the-variants.{PopulationCount, LeadingZeros, LeadingSignBits, ReverseBits}

@@ -11,7 +11,7 @@ use Rattle.terms.specs.declared.CmpOp.the-variants.{Eq}
 use Rattle.terms.specs.Expr.{Expr, Const}
 use Rattle.pool.specs.declared.Node.{Node}
 use Rattle.pool.specs.declared.Built.{Built}
-use Rattle.pool.specs.Builders.{MadeConst, MadeBv, MadeCompare, MadeIte, MadeExtract, MadeZeroExtend}
+use Rattle.nodes.specs.Builders.{MadeConst, MadeBv, MadeCompare, MadeIte, MadeExtract, MadeZeroExtend}
 use Rattle.pool.proofs.Steps.{start, step, finish, forget, given}
 use Rattle.trees.specs.Arith.{leadingZeros, populationCount}
 use Rattle.lower.specs.Builds.{Builds1, Builds2}

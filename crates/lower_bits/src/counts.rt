@@ -19,11 +19,11 @@ fn zeros_at(pool: &mut [u64], count: usize, value: Node, rest: Node, bits: u64, 
     ensures { λ r. ⌜ Builds2 (now (pool .entry)) count (now (pool .exit)) r 5 value bits rest bits bits (λ v t. zerosAt bits v (bit .0) t)
         (value .0 ∷ rest .0 ∷ []) ⌝ }
 {
-    let tested = pool::extract(pool, count, value, bit, bit);
-    let one = pool::konst(pool, tested.count, 1, 0, 1);
-    let set = pool::compare(pool, one.count, CmpOp::Eq, tested.node, one.node);
-    let zeros = pool::konst(pool, set.count, bits - 1 - bit.0, 0, bits);
-    pool::ite(pool, zeros.count, set.node, zeros.node, rest)
+    let tested = nodes::extract(pool, count, value, bit, bit);
+    let one = nodes::konst(pool, tested.count, 1, 0, 1);
+    let set = nodes::compare(pool, one.count, CmpOp::Eq, tested.node, one.node);
+    let zeros = nodes::konst(pool, set.count, bits - 1 - bit.0, 0, bits);
+    nodes::ite(pool, zeros.count, set.node, zeros.node, rest)
 }
 
 // How many leading bits are zero. The tests begin with the lowest bit, so that that of the highest stands outermost.
@@ -32,7 +32,7 @@ pub fn leading_zeros(pool: &mut [u64], count: usize, value: Node, bits: u64) -> 
     requires { ⌜ (value .0 < count) × (1 ≤ bits) × (bits ≤ 64) ⌝ }
     ensures { λ r. ⌜ Builds1 (now (pool .entry)) count (now (pool .exit)) r (5 * bits + 1) value bits bits (λ v. leadingZeros v bits bits) (value .0 ∷ []) ⌝ }
 {
-    let mut acc = pool::konst(pool, count, bits, 0, bits);
+    let mut acc = nodes::konst(pool, count, bits, 0, bits);
     let mut i = 0;
     while i < bits {
         acc = zeros_at(pool, acc.count, value, acc.node, bits, Bit(i));
@@ -55,9 +55,9 @@ fn count_at(
     ensures { λ r. ⌜ Builds2 (now (pool .entry)) count (now (pool .exit)) r 3 value «lane_bits» rest «lane_bits» «lane_bits»
         (λ v t. countAt «lane_bits» v (bit .0) t) (value .0 ∷ rest .0 ∷ []) ⌝ }
 {
-    let one = pool::extract(pool, count, value, bit, bit);
-    let wide = pool::zero_ext(pool, one.count, one.node, lane_bits);
-    pool::bv(pool, wide.count, BinOp::Add, rest, wide.node)
+    let one = nodes::extract(pool, count, value, bit, bit);
+    let wide = nodes::zero_ext(pool, one.count, one.node, lane_bits);
+    nodes::bv(pool, wide.count, BinOp::Add, rest, wide.node)
 }
 
 // How many bits are set.
@@ -67,7 +67,7 @@ pub fn population_count(pool: &mut [u64], count: usize, value: Node, lane_bits: 
     ensures { λ r. ⌜ Builds1 (now (pool .entry)) count (now (pool .exit)) r (3 * «lane_bits» + 1) value «lane_bits» «lane_bits»
         (λ v. populationCount v «lane_bits» «lane_bits») (value .0 ∷ []) ⌝ }
 {
-    let mut acc = pool::konst(pool, count, 0, 0, lane_bits);
+    let mut acc = nodes::konst(pool, count, 0, 0, lane_bits);
     let mut i = 0;
     while i < lane_bits {
         acc = count_at(pool, acc.count, value, acc.node, lane_bits, Bit(i));
@@ -85,11 +85,11 @@ pub fn leading_sign_bits(pool: &mut [u64], count: usize, value: Node, lane_bits:
         (λ v. bitwiseUnaryLane LeadingSignBits v «lane_bits») (value .0 ∷ []) ⌝ }
 {
     let width = lane_bits - 1;
-    let high = pool::extract(pool, count, value, Bit(lane_bits - 1), Bit(1));
-    let low = pool::extract(pool, high.count, value, Bit(width - 1), Bit(0));
-    let folded = pool::bv(pool, low.count, BinOp::Xor, high.node, low.node);
+    let high = nodes::extract(pool, count, value, Bit(lane_bits - 1), Bit(1));
+    let low = nodes::extract(pool, high.count, value, Bit(width - 1), Bit(0));
+    let folded = nodes::bv(pool, low.count, BinOp::Xor, high.node, low.node);
     let zeros = leading_zeros(pool, folded.count, folded.node, width);
-    pool::zero_ext(pool, zeros.count, zeros.node, lane_bits)
+    nodes::zero_ext(pool, zeros.count, zeros.node, lane_bits)
 }
 
 // The bits from the top down, the first of them lowest.
@@ -100,12 +100,12 @@ pub fn reverse_bits(pool: &mut [u64], count: usize, value: Node, lane_bits: u64)
         (λ v. bitwiseUnaryLane ReverseBits v «lane_bits») (value .0 ∷ []) ⌝ }
 {
     let top = lane_bits - 1;
-    let mut acc = pool::extract(pool, count, value, Bit(top), Bit(top));
+    let mut acc = nodes::extract(pool, count, value, Bit(top), Bit(top));
     let mut i = 1;
     while i < lane_bits {
         let at = top - i;
-        let bit = pool::extract(pool, acc.count, value, Bit(at), Bit(at));
-        acc = pool::concat(pool, bit.count, bit.node, acc.node);
+        let bit = nodes::extract(pool, acc.count, value, Bit(at), Bit(at));
+        acc = nodes::concat(pool, bit.count, bit.node, acc.node);
         i += 1;
     }
     acc

@@ -11,7 +11,7 @@ use Rattle.terms.specs.declared.BinOp.{BinOp}
 use Rattle.terms.specs.declared.BinOp.the-variants.{Mul, Shl}
 use Rattle.pool.specs.declared.Node.{Node}
 use Rattle.pool.specs.declared.Built.{Built}
-use Rattle.pool.specs.Builders.{MadeConst, MadeBv}
+use Rattle.nodes.specs.Builders.{MadeConst, MadeBv}
 use Rattle.pool.proofs.Steps.{start, step, finish, stay, given, spare}
 use Rattle.trees.specs.declared.SaturateTo.the-variants.{Signed}
 use Rattle.trees.specs.declared.Combine.{Combine}

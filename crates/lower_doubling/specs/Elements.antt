@@ -6,7 +6,7 @@ use Rattle.terms.specs.Expr.{Expr}
 use Rattle.pool.specs.declared.Built.{Built}
 use Rattle.pool.specs.Rules.{Valid}
 use Rattle.pool.specs.Growth.{NodeIs}
-use Rattle.pool.specs.Builders.{Takes, Makes}
+use Rattle.nodes.specs.Builders.{Takes, Makes}
 use Rattle.trees.specs.declared.Combine.{Combine}
 use Rattle.trees.specs.declared.Combine.the-variants.{Nothing, With}
 use Rattle.trees.specs.Simd.{extractLane}

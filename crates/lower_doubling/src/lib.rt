@@ -31,9 +31,9 @@ fn doubling_product(pool: &mut [u64], count: usize, a: Node, b: Node, lane_bits:
     let wide = lane_bits + 1;
     let wide_a = lower::extend(pool, count, a, wide, true);
     let wide_b = lower::extend(pool, wide_a.count, b, wide, true);
-    let product = pool::bv(pool, wide_b.count, BinOp::Mul, wide_a.node, wide_b.node);
-    let one = pool::konst(pool, product.count, 1, 0, wide);
-    let doubled = pool::bv(pool, one.count, BinOp::Shl, product.node, one.node);
+    let product = nodes::bv(pool, wide_b.count, BinOp::Mul, wide_a.node, wide_b.node);
+    let one = nodes::konst(pool, product.count, 1, 0, wide);
+    let doubled = nodes::bv(pool, one.count, BinOp::Shl, product.node, one.node);
     lower::arith::clamp(
         pool,
         doubled.count,
@@ -71,7 +71,7 @@ fn combine_at(
             let prior = simd::extract_lane(pool, count, d, lane_bits, index);
             let wide_prior = lower::extend(pool, prior.count, prior.node, wide, true);
             let wide_product = lower::extend(pool, wide_prior.count, product, wide, true);
-            let sum = pool::bv(
+            let sum = nodes::bv(
                 pool,
                 wide_product.count,
                 op,
@@ -195,7 +195,7 @@ fn doubled_lanes(
             lanes,
             Lane(i),
         );
-        acc = pool::concat(pool, lane.count, lane.node, acc.node);
+        acc = nodes::concat(pool, lane.count, lane.node, acc.node);
         i += 1;
     }
     acc

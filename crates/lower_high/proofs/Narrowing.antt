@@ -8,7 +8,7 @@ use Rattle.terms.specs.declared.BinOp.{BinOp}
 use Rattle.terms.specs.Expr.{Const}
 use Rattle.pool.specs.declared.Node.{Node}
 use Rattle.pool.specs.declared.Built.{Built}
-use Rattle.pool.specs.Builders.{MadeBv, MadeExtract}
+use Rattle.nodes.specs.Builders.{MadeBv, MadeExtract}
 use Rattle.pool.proofs.Steps.{start, step, finish, given, spare}
 use Rattle.trees.specs.Arith.{plusIf}
 use Rattle.trees.specs.Width.{highNarrowLane}

@@ -39,9 +39,9 @@ fn high_narrow_lane(
     let source_bits = lane_bits * 2;
     let op = sum_op(subtract);
     let half = lower::power(lane_bits - 1);
-    let sum = pool::bv(pool, count, op, a, b);
+    let sum = nodes::bv(pool, count, op, a, b);
     let value = lower::arith::plus_if(pool, sum.count, rounding, sum.node, half, source_bits);
-    pool::extract(
+    nodes::extract(
         pool,
         value.count,
         value.node,
@@ -116,7 +116,7 @@ fn narrowed_lanes(
             lanes,
             Lane(i),
         );
-        acc = pool::concat(pool, lane.count, lane.node, acc.node);
+        acc = nodes::concat(pool, lane.count, lane.node, acc.node);
         i += 1;
     }
     acc

@@ -10,7 +10,7 @@ use Rattle.terms.specs.declared.BinOp.{BinOp}
 use Rattle.terms.specs.declared.BinOp.the-variants.{And, Or, LShr, Shl}
 use Rattle.pool.specs.declared.Node.{Node}
 use Rattle.pool.specs.declared.Built.{Built}
-use Rattle.pool.specs.Builders.{MadeConst, MadeBv}
+use Rattle.nodes.specs.Builders.{MadeConst, MadeBv}
 use Rattle.pool.proofs.Steps.{start, step, finish, given, spare}
 use Rattle.trees.specs.Simd.{concatLanes}
 use Rattle.trees.specs.Arith.{keptBits, shiftInsertLane, shiftInsertLanes}

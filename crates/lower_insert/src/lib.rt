@@ -65,10 +65,10 @@ fn insert_at(
     let a = simd::extract_lane(pool, count, first, lane_bits, index);
     let previous = simd::extract_lane(pool, a.count, d, lane_bits, index);
     let op = insert_op(left);
-    let shifted = pool::bv(pool, previous.count, op, a.node, amount);
-    let mask = pool::konst(pool, shifted.count, kept, 0, lane_bits);
-    let rest = pool::bv(pool, mask.count, BinOp::And, previous.node, mask.node);
-    pool::bv(pool, rest.count, BinOp::Or, shifted.node, rest.node)
+    let shifted = nodes::bv(pool, previous.count, op, a.node, amount);
+    let mask = nodes::konst(pool, shifted.count, kept, 0, lane_bits);
+    let rest = nodes::bv(pool, mask.count, BinOp::And, previous.node, mask.node);
+    nodes::bv(pool, rest.count, BinOp::Or, shifted.node, rest.node)
 }
 
 fn insert_lanes(
@@ -114,7 +114,7 @@ fn insert_lanes(
             lanes,
             Lane(i),
         );
-        acc = pool::concat(pool, lane.count, lane.node, acc.node);
+        acc = nodes::concat(pool, lane.count, lane.node, acc.node);
         i += 1;
     }
     acc
@@ -137,7 +137,7 @@ pub fn shift_insert_lanes(
     ensures { λ r. ⌜ Lowers (now (pool .entry)) count (now (pool .exit)) r (7 * lanes + 1) («lane_bits» * lanes) (read d («lane_bits» * lanes))
         (read first («lane_bits» * lanes)) unread (λ d a b. shiftInsertLanes left shift a d «lane_bits» lanes) [] ⌝ }
 {
-    let amount = pool::konst(pool, count, shift, 0, lane_bits);
+    let amount = nodes::konst(pool, count, shift, 0, lane_bits);
     let kept = kept_bits(left, lane_bits, shift);
     insert_lanes(
         pool,

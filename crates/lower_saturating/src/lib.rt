@@ -136,7 +136,7 @@ fn made_lanes(
             lanes,
             Lane(i),
         );
-        acc = pool::concat(pool, lane.count, lane.node, acc.node);
+        acc = nodes::concat(pool, lane.count, lane.node, acc.node);
         i += 1;
     }
     acc

@@ -25,7 +25,7 @@ fn narrowed(
         (λ v. narrowedTree v wide «lane_bits» to) (value .0 ∷ []) ⌝ }
 {
     match to {
-        Saturate::Never => pool::extract(pool, count, value, Bit(lane_bits - 1), Bit(0)),
+        Saturate::Never => nodes::extract(pool, count, value, Bit(lane_bits - 1), Bit(0)),
         Saturate::Into(target) => lower::arith::clamp(pool, count, value, wide, lane_bits, target),
     }
 }
@@ -50,8 +50,8 @@ pub fn shift_narrow_lane(
     let half = lower::power(shift - 1);
     let wide_a = lower::extend(pool, count, a, wide, signed);
     let value = lower::arith::plus_if(pool, wide_a.count, rounding, wide_a.node, half, wide);
-    let by = pool::konst(pool, value.count, shift, 0, wide);
+    let by = nodes::konst(pool, value.count, shift, 0, wide);
     let op = lower::arith::shift_op(signed);
-    let shifted = pool::bv(pool, by.count, op, value.node, by.node);
+    let shifted = nodes::bv(pool, by.count, op, value.node, by.node);
     narrowed(pool, shifted.count, to, shifted.node, wide, lane_bits)
 }

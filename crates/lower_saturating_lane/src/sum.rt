@@ -30,7 +30,7 @@ pub fn add_sub_lane(
     let wide = lane_bits + 1;
     let wide_a = lower::extend(pool, count, a, wide, signed);
     let wide_b = lower::extend(pool, wide_a.count, b, wide, signed);
-    let value = pool::bv(pool, wide_b.count, op, wide_a.node, wide_b.node);
+    let value = nodes::bv(pool, wide_b.count, op, wide_a.node, wide_b.node);
     lower::arith::clamp(pool, value.count, value.node, wide, lane_bits, to)
 }
 
@@ -52,10 +52,10 @@ pub fn halving_lane(
     let wide = lane_bits + 1;
     let wide_a = lower::extend(pool, count, a, wide, signed);
     let wide_b = lower::extend(pool, wide_a.count, b, wide, signed);
-    let sum = pool::bv(pool, wide_b.count, BinOp::Add, wide_a.node, wide_b.node);
+    let sum = nodes::bv(pool, wide_b.count, BinOp::Add, wide_a.node, wide_b.node);
     let rounded = lower::arith::plus_if(pool, sum.count, rounding, sum.node, 1, wide);
-    let one = pool::konst(pool, rounded.count, 1, 0, wide);
+    let one = nodes::konst(pool, rounded.count, 1, 0, wide);
     let op = lower::arith::shift_op(signed);
-    let halved = pool::bv(pool, one.count, op, rounded.node, one.node);
-    pool::extract(pool, halved.count, halved.node, Bit(lane_bits - 1), Bit(0))
+    let halved = nodes::bv(pool, one.count, op, rounded.node, one.node);
+    nodes::extract(pool, halved.count, halved.node, Bit(lane_bits - 1), Bit(0))
 }

@@ -22,13 +22,13 @@ fn shift_bound(pool: &mut [u64], count: usize, value: Node, lane_bits: u64, sign
 {
     if signed {
         let magnitude = lower::power(lane_bits - 1);
-        let zero = pool::konst(pool, count, 0, 0, lane_bits);
-        let negative = pool::compare(pool, zero.count, CmpOp::Slt, value, zero.node);
-        let low = pool::konst(pool, negative.count, magnitude, 0, lane_bits);
-        let high = pool::konst(pool, low.count, magnitude - 1, 0, lane_bits);
-        return pool::ite(pool, high.count, negative.node, low.node, high.node);
+        let zero = nodes::konst(pool, count, 0, 0, lane_bits);
+        let negative = nodes::compare(pool, zero.count, CmpOp::Slt, value, zero.node);
+        let low = nodes::konst(pool, negative.count, magnitude, 0, lane_bits);
+        let high = nodes::konst(pool, low.count, magnitude - 1, 0, lane_bits);
+        return nodes::ite(pool, high.count, negative.node, low.node, high.node);
     }
-    pool::konst(pool, count, lower::unsigned_max(lane_bits), 0, lane_bits)
+    nodes::konst(pool, count, lower::unsigned_max(lane_bits), 0, lane_bits)
 }
 
 pub fn saturating_shift_left(
@@ -44,12 +44,12 @@ pub fn saturating_shift_left(
     ensures { λ r. ⌜ Builds2 (now (pool .entry)) count (now (pool .exit)) r 9 value «lane_bits» amount «lane_bits» «lane_bits»
         (λ v a. saturatingShiftLeft v a «lane_bits» signed) (value .0 ∷ amount .0 ∷ []) ⌝ }
 {
-    let shifted = pool::bv(pool, count, BinOp::Shl, value, amount);
+    let shifted = nodes::bv(pool, count, BinOp::Shl, value, amount);
     let op = lower::arith::shift_op(signed);
-    let restored = pool::bv(pool, shifted.count, op, shifted.node, amount);
-    let same = pool::compare(pool, restored.count, CmpOp::Eq, restored.node, value);
+    let restored = nodes::bv(pool, shifted.count, op, shifted.node, amount);
+    let same = nodes::compare(pool, restored.count, CmpOp::Eq, restored.node, value);
     let bound = shift_bound(pool, same.count, value, lane_bits, signed);
-    pool::ite(pool, bound.count, same.node, shifted.node, bound.node)
+    nodes::ite(pool, bound.count, same.node, shifted.node, bound.node)
 }
 
 // SQSHLU: the exact product, clamped into the unsigned range.
@@ -66,9 +66,9 @@ fn exact_shift_left(
         (λ v. leftImmediate (Saturate.Into SaturateTo.SignedToUnsigned) v shift «lane_bits» true) (value .0 ∷ []) ⌝ }
 {
     let wide = lane_bits + shift + 1;
-    let wide_value = pool::sign_ext(pool, count, value, wide);
-    let by = pool::konst(pool, wide_value.count, shift, 0, wide);
-    let exact = pool::bv(pool, by.count, BinOp::Shl, wide_value.node, by.node);
+    let wide_value = nodes::sign_ext(pool, count, value, wide);
+    let by = nodes::konst(pool, wide_value.count, shift, 0, wide);
+    let exact = nodes::bv(pool, by.count, BinOp::Shl, wide_value.node, by.node);
     lower::arith::clamp(
         pool,
         exact.count,
@@ -97,7 +97,7 @@ fn saturated_left(
     if let SaturateTo::SignedToUnsigned = to {
         return exact_shift_left(pool, count, value, shift, lane_bits);
     }
-    let by = pool::konst(pool, count, shift, 0, lane_bits);
+    let by = nodes::konst(pool, count, shift, 0, lane_bits);
     saturating_shift_left(pool, by.count, value, by.node, lane_bits, signed)
 }
 
@@ -117,8 +117,8 @@ pub fn left_immediate(
 {
     match saturate {
         Saturate::Never => {
-            let by = pool::konst(pool, count, shift, 0, lane_bits);
-            pool::bv(pool, by.count, BinOp::Shl, value, by.node)
+            let by = nodes::konst(pool, count, shift, 0, lane_bits);
+            nodes::bv(pool, by.count, BinOp::Shl, value, by.node)
         }
         Saturate::Into(to) => saturated_left(pool, count, to, value, shift, lane_bits, signed),
     }
@@ -142,5 +142,5 @@ pub fn left_by(
     if saturate {
         return saturating_shift_left(pool, count, value, amount, lane_bits, signed);
     }
-    pool::bv(pool, count, BinOp::Shl, value, amount)
+    nodes::bv(pool, count, BinOp::Shl, value, amount)
 }

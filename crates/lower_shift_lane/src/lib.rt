@@ -23,8 +23,8 @@ fn signed_amount(pool: &mut [u64], count: usize, raw: Node, lane_bits: u64) -> B
     ensures { λ r. ⌜ Builds1 (now (pool .entry)) count (now (pool .exit)) r 2 raw «lane_bits» «lane_bits» (λ a. signedAmount a «lane_bits») (raw .0 ∷ []) ⌝ }
 {
     if 8 < lane_bits {
-        let byte = pool::extract(pool, count, raw, Bit(7), Bit(0));
-        return pool::sign_ext(pool, byte.count, byte.node, lane_bits);
+        let byte = nodes::extract(pool, count, raw, Bit(7), Bit(0));
+        return nodes::sign_ext(pool, byte.count, byte.node, lane_bits);
     }
     Built { node: raw, count }
 }
@@ -55,8 +55,8 @@ fn shift_register(
         lane_bits,
         signed,
     );
-    let zero = pool::konst(pool, left.count, 0, 0, lane_bits);
-    let negated = pool::bv(pool, zero.count, BinOp::Sub, zero.node, amount.node);
+    let zero = nodes::konst(pool, left.count, 0, 0, lane_bits);
+    let negated = nodes::bv(pool, zero.count, BinOp::Sub, zero.node, amount.node);
     let right = right::shift_right(
         pool,
         negated.count,
@@ -67,8 +67,8 @@ fn shift_register(
         rounding,
         Lane::REGISTER_SHIFT_MAX,
     );
-    let negative = pool::compare(pool, right.count, CmpOp::Slt, amount.node, zero.node);
-    pool::ite(pool, negative.count, negative.node, right.node, left.node)
+    let negative = nodes::compare(pool, right.count, CmpOp::Slt, amount.node, zero.node);
+    nodes::ite(pool, negative.count, negative.node, right.node, left.node)
 }
 
 // One destination lane. `amount` is read by the register forms alone.
@@ -91,7 +91,7 @@ pub fn shift_lane(
             left::left_immediate(pool, count, saturate, value, shift, lane_bits, signed)
         }
         ShiftKind::RightImmediate { shift, rounding } => {
-            let by = pool::konst(pool, count, shift, 0, lane_bits);
+            let by = nodes::konst(pool, count, shift, 0, lane_bits);
             right::shift_right(
                 pool,
                 by.count,

@@ -38,12 +38,12 @@ fn shift_right_rounding(
         (λ v a. shiftRight v a «lane_bits» signed true «max_shift») (value .0 ∷ amount .0 ∷ []) ⌝ }
 {
     let wide = rounding_bits(lane_bits, max_shift);
-    let wide_amount = pool::zero_ext(pool, count, amount, wide);
-    let one = pool::konst(pool, wide_amount.count, 1, 0, wide);
-    let less = pool::bv(pool, one.count, BinOp::Sub, wide_amount.node, one.node);
-    let half = pool::bv(pool, less.count, BinOp::Shl, one.node, less.node);
+    let wide_amount = nodes::zero_ext(pool, count, amount, wide);
+    let one = nodes::konst(pool, wide_amount.count, 1, 0, wide);
+    let less = nodes::bv(pool, one.count, BinOp::Sub, wide_amount.node, one.node);
+    let half = nodes::bv(pool, less.count, BinOp::Shl, one.node, less.node);
     let wide_value = lower::extend(pool, half.count, value, wide, signed);
-    let sum = pool::bv(
+    let sum = nodes::bv(
         pool,
         wide_value.count,
         BinOp::Add,
@@ -51,8 +51,8 @@ fn shift_right_rounding(
         half.node,
     );
     let op = lower::arith::shift_op(signed);
-    let shifted = pool::bv(pool, sum.count, op, sum.node, wide_amount.node);
-    pool::extract(
+    let shifted = nodes::bv(pool, sum.count, op, sum.node, wide_amount.node);
+    nodes::extract(
         pool,
         shifted.count,
         shifted.node,
@@ -80,5 +80,5 @@ pub fn shift_right(
         return shift_right_rounding(pool, count, value, amount, lane_bits, signed, max_shift);
     }
     let op = lower::arith::shift_op(signed);
-    pool::bv(pool, count, op, value, amount)
+    nodes::bv(pool, count, op, value, amount)
 }

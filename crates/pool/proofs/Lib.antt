@@ -1,4 +1,3 @@
 pub mod Laws
-pub mod Nodes
 pub mod Facts
 pub mod Steps

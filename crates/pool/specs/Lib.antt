@@ -2,4 +2,3 @@ pub mod Node
 pub mod Rules
 pub mod Unfold
 pub mod Growth
-pub mod Builders

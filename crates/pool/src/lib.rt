@@ -1,12 +1,7 @@
-// The pool of terms: four words a node, and a constructor for each kind that appends one.
-use terms::BinOp;
-use terms::CmpOp;
+// The pool of terms: four words a node.
 ghost use mathlib.Core.Path.{_≡_};
-ghost use Prim.Native.Nat.{_*_, _≤_, _<_, _%_};
-ghost use lib.ListN.{length};
-ghost use Rattle.pool.specs.Node.{kindWord, operandWord, widthAt, none, places, bvCode, compareCode};
+ghost use Rattle.pool.specs.Node.{none, places};
 ghost use Rattle.pool.specs.Growth.{Room, Pushed};
-ghost use Rattle.pool.specs.Builders.{MadeVar, MadeConst, MadeBv, MadeCompare, MadeIte, MadeExtract, MadeConcat, MadeZeroExtend, MadeSignExtend};
 
 // The number of a node of a pool.
 pub struct Node(pub usize);
@@ -45,7 +40,7 @@ pub fn places(pool: &[u64]) -> usize
 }
 
 // Writes the four words of node `count`.
-fn push(pool: &mut [u64], count: usize, w0: u64, w1: u64, w2: u64, w3: u64) -> Built
+pub fn push(pool: &mut [u64], count: usize, w0: u64, w1: u64, w2: u64, w3: u64) -> Built
     requires { ⌜ Room (now pool) count 1 ⌝ }
     ensures { λ r. ⌜ Pushed (now (pool .entry)) count (now (pool .exit)) (r .node .0) (r .count) w0 w1 w2 w3 ⌝ }
 {
@@ -58,152 +53,4 @@ fn push(pool: &mut [u64], count: usize, w0: u64, w1: u64, w2: u64, w3: u64) -> B
         node: Node(count),
         count: count + 1,
     }
-}
-
-// The width in bits of a node, 0 for a condition. That of a valid node is below 256.
-fn width(pool: &[u64], a: Node) -> u64
-    requires { ⌜ 4 * a .0 < length (now pool) ⌝ }
-    ensures { λ r. ⌜ (r ≡ widthAt (now (pool .entry)) (a .0) % 256) × (r < 256) ⌝ }
-{
-    let at = 4 * a.0;
-    pool[at] / 65536 % 256
-}
-
-// Word 0, of a kind and a width.
-fn kind_word(kind: u64, width: u64) -> u64
-    requires { ⌜ (kind < 65536) × (width < 65536) ⌝ }
-    ensures { λ r. ⌜ r ≡ kindWord kind width ⌝ }
-{
-    kind + 65536 * width
-}
-
-// Word 1, of up to three operands.
-fn operand_word(a: Node, b: Node, c: Node) -> u64
-    requires { ⌜ (a .0 < 65536) × (b .0 < 65536) × (c .0 < 65536) ⌝ }
-    ensures { λ r. ⌜ r ≡ operandWord (a .0) (b .0) (c .0) ⌝ }
-{
-    (a.0 as u64) + 65536 * (b.0 as u64) + 4294967296 * (c.0 as u64)
-}
-
-// A register.
-pub fn var(pool: &mut [u64], count: usize, register: u64) -> Built
-    requires { ⌜ Room (now pool) count 1 ⌝ }
-    ensures { λ r. ⌜ MadeVar (now (pool .entry)) count (now (pool .exit)) r register ⌝ }
-{
-    push(pool, count, kind_word(1, 128), 0, register, 0)
-}
-
-// A constant of two words.
-pub fn konst(pool: &mut [u64], count: usize, lo: u64, hi: u64, bits: u64) -> Built
-    requires { ⌜ Room (now pool) count 1 ⌝ }
-    requires { ⌜ bits ≤ 129 ⌝ }
-    ensures { λ r. ⌜ MadeConst (now (pool .entry)) count (now (pool .exit)) r lo hi bits ⌝ }
-{
-    push(pool, count, kind_word(2, bits), 0, lo, hi)
-}
-
-fn bv_code(op: BinOp) -> u64
-    ensures { λ r. ⌜ (r ≡ bvCode op) × (r < 65536) ⌝ }
-{
-    match op {
-        BinOp::Add => 3,
-        BinOp::Sub => 4,
-        BinOp::Mul => 5,
-        BinOp::And => 6,
-        BinOp::Or => 7,
-        BinOp::Xor => 8,
-        BinOp::Shl => 9,
-        BinOp::LShr => 10,
-        BinOp::AShr => 11,
-    }
-}
-
-fn compare_code(op: CmpOp) -> u64
-    ensures { λ r. ⌜ (r ≡ compareCode op) × (r < 65536) ⌝ }
-{
-    match op {
-        CmpOp::Eq => 12,
-        CmpOp::Ult => 13,
-        CmpOp::Slt => 14,
-    }
-}
-
-// The term `op(a, b)`.
-pub fn bv(pool: &mut [u64], count: usize, op: BinOp, a: Node, b: Node) -> Built
-    requires { ⌜ Room (now pool) count 1 ⌝ }
-    requires { ⌜ (a .0 < count) × (b .0 < count) ⌝ }
-    ensures { λ r. ⌜ MadeBv (now (pool .entry)) count (now (pool .exit)) r op a b ⌝ }
-{
-    let w0 = kind_word(bv_code(op), width(pool, a));
-    push(pool, count, w0, operand_word(a, b, Node(0)), 0, 0)
-}
-
-// The condition `op(a, b)`.
-pub fn compare(pool: &mut [u64], count: usize, op: CmpOp, a: Node, b: Node) -> Built
-    requires { ⌜ Room (now pool) count 1 ⌝ }
-    requires { ⌜ (a .0 < count) × (b .0 < count) ⌝ }
-    ensures { λ r. ⌜ MadeCompare (now (pool .entry)) count (now (pool .exit)) r op a b ⌝ }
-{
-    let w0 = kind_word(compare_code(op), 0);
-    push(pool, count, w0, operand_word(a, b, Node(0)), 0, 0)
-}
-
-pub fn ite(pool: &mut [u64], count: usize, cond: Node, then_expr: Node, else_expr: Node) -> Built
-    requires { ⌜ Room (now pool) count 1 ⌝ }
-    requires { ⌜ (cond .0 < count) × («then_expr» .0 < count) × («else_expr» .0 < count) ⌝ }
-    ensures { λ r. ⌜ MadeIte (now (pool .entry)) count (now (pool .exit)) r cond «then_expr» «else_expr» ⌝ }
-{
-    let w0 = kind_word(15, width(pool, then_expr));
-    push(
-        pool,
-        count,
-        w0,
-        operand_word(cond, then_expr, else_expr),
-        0,
-        0,
-    )
-}
-
-// The bits hi to lo.
-pub fn extract(pool: &mut [u64], count: usize, src: Node, hi: Bit, lo: Bit) -> Built
-    requires { ⌜ Room (now pool) count 1 ⌝ }
-    requires { ⌜ (src .0 < count) × (lo .0 ≤ hi .0) × (hi .0 < 129) ⌝ }
-    ensures { λ r. ⌜ MadeExtract (now (pool .entry)) count (now (pool .exit)) r src (hi .0) (lo .0) ⌝ }
-{
-    let w0 = kind_word(16, hi.0 - lo.0 + 1);
-    push(
-        pool,
-        count,
-        w0,
-        operand_word(src, Node(0), Node(0)),
-        hi.0,
-        lo.0,
-    )
-}
-
-pub fn concat(pool: &mut [u64], count: usize, high: Node, low: Node) -> Built
-    requires { ⌜ Room (now pool) count 1 ⌝ }
-    requires { ⌜ (high .0 < count) × (low .0 < count) ⌝ }
-    ensures { λ r. ⌜ MadeConcat (now (pool .entry)) count (now (pool .exit)) r high low ⌝ }
-{
-    let w0 = kind_word(17, width(pool, high) + width(pool, low));
-    push(pool, count, w0, operand_word(high, low, Node(0)), 0, 0)
-}
-
-pub fn zero_ext(pool: &mut [u64], count: usize, src: Node, to_bits: u64) -> Built
-    requires { ⌜ Room (now pool) count 1 ⌝ }
-    requires { ⌜ (src .0 < count) × («to_bits» ≤ 129) ⌝ }
-    ensures { λ r. ⌜ MadeZeroExtend (now (pool .entry)) count (now (pool .exit)) r src «to_bits» ⌝ }
-{
-    let w0 = kind_word(18, to_bits);
-    push(pool, count, w0, operand_word(src, Node(0), Node(0)), 0, 0)
-}
-
-pub fn sign_ext(pool: &mut [u64], count: usize, src: Node, to_bits: u64) -> Built
-    requires { ⌜ Room (now pool) count 1 ⌝ }
-    requires { ⌜ (src .0 < count) × («to_bits» ≤ 129) ⌝ }
-    ensures { λ r. ⌜ MadeSignExtend (now (pool .entry)) count (now (pool .exit)) r src «to_bits» ⌝ }
-{
-    let w0 = kind_word(19, to_bits);
-    push(pool, count, w0, operand_word(src, Node(0), Node(0)), 0, 0)
 }

@@ -12,7 +12,7 @@ use Rattle.pool.specs.declared.Node.{Node}
 use Rattle.pool.specs.declared.Built.{Built}
 use Rattle.pool.specs.Node.{kindAt, kinds}
 use Rattle.pool.specs.Growth.{Room}
-use Rattle.pool.specs.Builders.{MadeExtract, MadeZeroExtend}
+use Rattle.nodes.specs.Builders.{MadeExtract, MadeZeroExtend}
 use Rattle.pool.proofs.Laws.{grown-refl, packed, appended}
 use Rattle.pool.proofs.Steps.{stay}
 use Rattle.lower.specs.Builds.{Builds1}

@@ -28,7 +28,7 @@ pub fn read_if(pool: &mut [u64], count: usize, used: bool, whole: bool, register
             count,
         };
     }
-    pool::extract(pool, count, register, Bit(63), Bit(0))
+    nodes::extract(pool, count, register, Bit(63), Bit(0))
 }
 
 // A result of 64 bits is widened to a register's 128.
@@ -43,5 +43,5 @@ pub fn widen(pool: &mut [u64], count: usize, whole: bool, result: Node) -> Built
             count,
         };
     }
-    pool::zero_ext(pool, count, result, 128)
+    nodes::zero_ext(pool, count, result, 128)
 }

@@ -17,7 +17,7 @@ use Rattle.pool.specs.Node.{Kind, bad, var, const, bv, compare, ite, extract, c
 use Rattle.pool.specs.Rules.{Valid}
 use Rattle.pool.specs.Unfold.{shapeOf, unfoldAt}
 use Rattle.pool.specs.Growth.{NodeIs}
-use Rattle.pool.specs.Builders.{MadeExtract}
+use Rattle.nodes.specs.Builders.{MadeExtract}
 use Rattle.pool.proofs.Laws.{unfold-step}
 use Rattle.pool.proofs.Facts.{codeOf, kind-code, valid-node, ExtractRule, extract-rule}
 use Rattle.pool.proofs.Steps.{forget}

@@ -11,7 +11,7 @@ use Rattle.pool.specs.declared.Built.{Built}
 use Rattle.pool.specs.Node.{kindOf, aOf}
 use Rattle.pool.specs.Rules.{Valid}
 use Rattle.pool.specs.Growth.{NodeIs}
-use Rattle.pool.specs.Builders.{Takes, Makes}
+use Rattle.nodes.specs.Builders.{Takes, Makes}
 use Rattle.trees.specs.Simd.{joins, extractCollapsing, extractLane}
 
 -- a lane cut of node v up to bit hi is joined to v where v is an Extract that `joins` allows; it is then taken from v's own operand

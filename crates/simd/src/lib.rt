@@ -38,7 +38,7 @@ pub fn extract_collapsing(pool: &mut [u64], count: usize, value: Node, hi: Bit, 
     ensures { λ r. ⌜ MadeCut (now (pool .entry)) count (now (pool .exit)) r value (hi .0) (lo .0) ⌝ }
 {
     let src = cut_from(pool, value, hi);
-    pool::extract(pool, count, src, hi, lo)
+    nodes::extract(pool, count, src, hi, lo)
 }
 
 // Lane `index` of `value`, of so many bits.

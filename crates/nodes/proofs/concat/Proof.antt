@@ -1,10 +1,16 @@
-use Rattle.pool.proofs.Nodes.{ite-built}
+use Rattle.nodes.proofs.Nodes.{concat-built}
 use borrow.Author.Needs.{needs}
-use Rattle.pool.proofs.ite.Statement.{statement}
-use Rattle.pool.proofs.ite.Tie as tie
+use Rattle.nodes.proofs.concat.Statement.{statement}
+use Rattle.nodes.proofs.concat.Tie as tie
 
 width-requires : tie.Need-width-requires
 width-requires c κs = search needs
+
+width-requires-2 : tie.Need-width-requires-2
+width-requires-2 c κs = search needs
+
+add-kind-word : tie.Need-add-kind-word
+add-kind-word c = search needs
 
 kind-word-requires : tie.Need-kind-word-requires
 kind-word-requires c κs = search needs
@@ -23,15 +29,18 @@ returns c =
     let l-push = c .before .before in
     let l-operand-word = l-push .before in
     let l-kind-word = l-operand-word .before .before in
-    let l-width = l-kind-word .before in
+    let l-width2 = l-kind-word .before in
+    let l-width = l-width2 .before .before in
     let st = l-width .before .before .before in
-    ite-built (st .pre .0) (st .pre .1 .0) (st .pre .1 .1) (l-width .width .ensures .0) (l-kind-word .kind-word .ensures) (l-operand-word .operand-word .ensures) (l-push .push .ensures)
+    concat-built (st .pre .0) (st .pre .1 .0) (st .pre .1 .1) (l-width .width .ensures .0) (l-width2 .width2 .ensures .0) (l-kind-word .kind-word .ensures) (l-operand-word .operand-word .ensures) (l-push .push .ensures)
 
-pub ite-spec : {M : Type 1} → statement M
-ite-spec =
+pub concat-spec : {M : Type 1} → statement M
+concat-spec =
     tie.close
     (tie.spec
     width-requires
+    width-requires-2
+    add-kind-word
     kind-word-requires
     operand-word-requires
     push-requires

@@ -1,7 +1,7 @@
-use Rattle.pool.proofs.Nodes.{const-built}
+use Rattle.nodes.proofs.Nodes.{const-built}
 use borrow.Author.Needs.{needs}
-use Rattle.pool.proofs.konst.Statement.{statement}
-use Rattle.pool.proofs.konst.Tie as tie
+use Rattle.nodes.proofs.konst.Statement.{statement}
+use Rattle.nodes.proofs.konst.Tie as tie
 
 kind-word-requires : tie.Need-kind-word-requires
 kind-word-requires c κs = search needs

@@ -1,13 +1,10 @@
-use Rattle.pool.proofs.Nodes.{extract-built}
+use Rattle.nodes.proofs.Nodes.{ite-built}
 use borrow.Author.Needs.{needs}
-use Rattle.pool.proofs.extract.Statement.{statement}
-use Rattle.pool.proofs.extract.Tie as tie
+use Rattle.nodes.proofs.ite.Statement.{statement}
+use Rattle.nodes.proofs.ite.Tie as tie
 
-sub-kind-word : tie.Need-sub-kind-word
-sub-kind-word c = search needs
-
-add-kind-word : tie.Need-add-kind-word
-add-kind-word c = search needs
+width-requires : tie.Need-width-requires
+width-requires c κs = search needs
 
 kind-word-requires : tie.Need-kind-word-requires
 kind-word-requires c κs = search needs
@@ -26,15 +23,15 @@ returns c =
     let l-push = c .before .before in
     let l-operand-word = l-push .before in
     let l-kind-word = l-operand-word .before .before in
-    let st = l-kind-word .before .before .before .before in
-    extract-built (st .pre .0) (st .pre .1 .0) (st .pre .1 .1) (l-kind-word .kind-word .ensures) (l-operand-word .operand-word .ensures) (l-push .push .ensures)
+    let l-width = l-kind-word .before in
+    let st = l-width .before .before .before in
+    ite-built (st .pre .0) (st .pre .1 .0) (st .pre .1 .1) (l-width .width .ensures .0) (l-kind-word .kind-word .ensures) (l-operand-word .operand-word .ensures) (l-push .push .ensures)
 
-pub extract-spec : {M : Type 1} → statement M
-extract-spec =
+pub ite-spec : {M : Type 1} → statement M
+ite-spec =
     tie.close
     (tie.spec
-    sub-kind-word
-    add-kind-word
+    width-requires
     kind-word-requires
     operand-word-requires
     push-requires

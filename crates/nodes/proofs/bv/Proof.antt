@@ -1,7 +1,7 @@
-use Rattle.pool.proofs.Nodes.{bv-built}
+use Rattle.nodes.proofs.Nodes.{bv-built}
 use borrow.Author.Needs.{needs}
-use Rattle.pool.proofs.bv.Statement.{statement}
-use Rattle.pool.proofs.bv.Tie as tie
+use Rattle.nodes.proofs.bv.Statement.{statement}
+use Rattle.nodes.proofs.bv.Tie as tie
 
 bv-code-requires : tie.Need-bv-code-requires
 bv-code-requires c κs = search needs

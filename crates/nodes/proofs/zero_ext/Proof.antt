@@ -1,7 +1,7 @@
-use Rattle.pool.proofs.Nodes.{sext-built}
+use Rattle.nodes.proofs.Nodes.{zext-built}
 use borrow.Author.Needs.{needs}
-use Rattle.pool.proofs.sign_ext.Statement.{statement}
-use Rattle.pool.proofs.sign_ext.Tie as tie
+use Rattle.nodes.proofs.zero_ext.Statement.{statement}
+use Rattle.nodes.proofs.zero_ext.Tie as tie
 
 kind-word-requires : tie.Need-kind-word-requires
 kind-word-requires c κs = search needs
@@ -21,8 +21,8 @@ returns c =
     let l-operand-word = l-push .before in
     let l-kind-word = l-operand-word .before .before in
     let st = l-kind-word .before .before in
-    sext-built (st .pre .0) (st .pre .1 .0) (l-kind-word .kind-word .ensures) (l-operand-word .operand-word .ensures) (l-push .push .ensures)
+    zext-built (st .pre .0) (st .pre .1 .0) (l-kind-word .kind-word .ensures) (l-operand-word .operand-word .ensures) (l-push .push .ensures)
 
-pub sign-ext-spec : {M : Type 1} → statement M
-sign-ext-spec =
+pub zero-ext-spec : {M : Type 1} → statement M
+zero-ext-spec =
     tie.close (tie.spec kind-word-requires operand-word-requires push-requires same-length returns)

@@ -1,10 +1,13 @@
-use Rattle.pool.proofs.Nodes.{compare-built}
+use Rattle.nodes.proofs.Nodes.{extract-built}
 use borrow.Author.Needs.{needs}
-use Rattle.pool.proofs.compare.Statement.{statement}
-use Rattle.pool.proofs.compare.Tie as tie
+use Rattle.nodes.proofs.extract.Statement.{statement}
+use Rattle.nodes.proofs.extract.Tie as tie
 
-compare-code-requires : tie.Need-compare-code-requires
-compare-code-requires c κs = search needs
+sub-kind-word : tie.Need-sub-kind-word
+sub-kind-word c = search needs
+
+add-kind-word : tie.Need-add-kind-word
+add-kind-word c = search needs
 
 kind-word-requires : tie.Need-kind-word-requires
 kind-word-requires c κs = search needs
@@ -23,15 +26,15 @@ returns c =
     let l-push = c .before .before in
     let l-operand-word = l-push .before in
     let l-kind-word = l-operand-word .before .before in
-    let l-compare-code = l-kind-word .before in
-    let st = l-compare-code .before .before in
-    compare-built (st .pre .0) (st .pre .1 .0) (st .pre .1 .1) (l-compare-code .compare-code .ensures .0) (l-kind-word .kind-word .ensures) (l-operand-word .operand-word .ensures) (l-push .push .ensures)
+    let st = l-kind-word .before .before .before .before in
+    extract-built (st .pre .0) (st .pre .1 .0) (st .pre .1 .1) (l-kind-word .kind-word .ensures) (l-operand-word .operand-word .ensures) (l-push .push .ensures)
 
-pub compare-spec : {M : Type 1} → statement M
-compare-spec =
+pub extract-spec : {M : Type 1} → statement M
+extract-spec =
     tie.close
     (tie.spec
-    compare-code-requires
+    sub-kind-word
+    add-kind-word
     kind-word-requires
     operand-word-requires
     push-requires

@@ -1,7 +1,7 @@
-use Rattle.pool.proofs.Nodes.{var-built}
+use Rattle.nodes.proofs.Nodes.{var-built}
 use borrow.Author.Needs.{needs}
-use Rattle.pool.proofs.var.Statement.{statement}
-use Rattle.pool.proofs.var.Tie as tie
+use Rattle.nodes.proofs.var.Statement.{statement}
+use Rattle.nodes.proofs.var.Tie as tie
 
 kind-word-requires : tie.Need-kind-word-requires
 kind-word-requires c κs = search needs

@@ -10,14 +10,14 @@ use Rattle.terms.specs.declared.BinOp.the-variants.{Add, Sub, Mul, And, Or, Xor
 use Rattle.terms.specs.declared.CmpOp.{CmpOp}
 use Rattle.terms.specs.declared.CmpOp.the-variants.{Eq, Ult, Slt}
 use Rattle.terms.specs.Expr.{Expr, Var, Const, Bv, Compare, Ite, Extract, Concat, ZeroExtend, SignExtend}
 use Rattle.pool.specs.declared.Node.{Node}
 use Rattle.pool.specs.declared.Built.{Built}
 use Rattle.pool.specs.Node.{Kind, var, const, bv, compare, ite, extract, concat, zext, sext, kinds, kindAt, bvCode, compareCode, kindWord, operandWord, wide, widthAt}
 use Rattle.pool.specs.Rules.{widthBefore, Valid}
 use Rattle.pool.specs.Unfold.{earlier, unfoldAt}
 use Rattle.pool.specs.Growth.{NodeIs, Room, Made}
-use Rattle.pool.specs.Builders.{Writes, MadeVar, MadeConst, MadeBv, MadeCompare, MadeIte, MadeExtract, MadeConcat, MadeZeroExtend, MadeSignExtend}
+use Rattle.nodes.specs.Builders.{Writes, MadeVar, MadeConst, MadeBv, MadeCompare, MadeIte, MadeExtract, MadeConcat, MadeZeroExtend, MadeSignExtend}
 use Rattle.pool.proofs.Laws.{Appended, appended, packed, made-of, sized-of}
 
 -- an operand, as the rules and the term of a node see it
 seen : {ws : List ℕ} {k n w : ℕ} {t : Expr} → NodeIs ws k n w t → widthBefore ws k n ≡ w
