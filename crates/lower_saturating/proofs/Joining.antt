@@ -17,16 +17,10 @@ use Rattle.trees.specs.Arith.{narrowing, keepLower, saturatingLane, saturatingL
 use Rattle.simd.specs.Cut.{MadeLane}
 use Rattle.lower.specs.Builds.{BuildsIf, Lowers, read, readIf, unread, withLower}
 use Rattle.lower.proofs.Lanes.{lane-fits, kept-below}
-use Rattle.lower_saturating_lane.specs.Kinds.{usesSecond, sourceBits}
+use Rattle.saturating_kinds.specs.Kinds.{usesSecond, sourceBits}
 use Rattle.lower_saturating.specs.Lanes.{saturatingAt}
 
 -- ---- the bits of a source lane
-
-pub bits-narrowing : {b : Bool} (kind : SaturatingKind) (n : ℕ) → b ≡ narrowing kind → b ≡ true → n * 2 ≡ sourceBits kind n
-bits-narrowing kind n e q = rw (← e, q) refl
-
-pub bits-same : {b : Bool} (kind : SaturatingKind) (n : ℕ) → b ≡ narrowing kind → b ≡ false → n ≡ sourceBits kind n
-bits-same kind n e q = rw (← e, q) refl
 
 at-least : (b : Bool) (n : ℕ) → n ≤ cond b (n * 2) n
 at-least true n = omega arith

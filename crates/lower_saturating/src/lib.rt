@@ -2,6 +2,8 @@
 use neon::Lane;
 use pool::Built;
 use pool::Node;
+use saturating_kinds::source_bits;
+use saturating_kinds::uses_second;
 use trees::SaturatingKind;
 ghost use mathlib.Core.Path.{_≡_};
 ghost use mathlib.Core.Bool.{true};
@@ -9,56 +11,10 @@ ghost use mathlib.Core.List.{[]};
 ghost use Prim.Native.Nat.{_+_, _-_, _*_, _≤_, _<_};
 ghost use Rattle.pool.specs.Growth.{Room};
 ghost use Rattle.trees.specs.Simd.{concatLanes};
-ghost use Rattle.trees.specs.Arith.{narrowing as narrowingTree, saturatingLanes};
+ghost use Rattle.trees.specs.Arith.{saturatingLanes};
 ghost use Rattle.lower.specs.Builds.{Lowers, read, readIf, unread, Below, withLower};
-ghost use Rattle.lower_saturating_lane.specs.Kinds.{usesSecond, sourceBits, KindIn};
+ghost use Rattle.saturating_kinds.specs.Kinds.{usesSecond, sourceBits, KindIn};
 ghost use Rattle.lower_saturating.specs.Lanes.{saturatingAt};
-
-// The kinds of two sources.
-fn uses_second(kind: SaturatingKind) -> bool
-    ensures { λ r. ⌜ r ≡ usesSecond kind ⌝ }
-{
-    match kind {
-        SaturatingKind::AddSub { op: _, to: _ } => true,
-        SaturatingKind::Halving { rounding: _ } => true,
-        SaturatingKind::Narrow { to: _ } => false,
-        SaturatingKind::ShiftNarrow {
-            shift: _,
-            rounding: _,
-            to: _,
-        } => false,
-        SaturatingKind::DoublingMultiplyHigh { rounding: _ } => true,
-        SaturatingKind::Unary { negate: _ } => false,
-    }
-}
-
-fn narrowing(kind: SaturatingKind) -> bool
-    ensures { λ r. ⌜ r ≡ narrowingTree kind ⌝ }
-{
-    match kind {
-        SaturatingKind::AddSub { op: _, to: _ } => false,
-        SaturatingKind::Halving { rounding: _ } => false,
-        SaturatingKind::Narrow { to: _ } => true,
-        SaturatingKind::ShiftNarrow {
-            shift: _,
-            rounding: _,
-            to: _,
-        } => true,
-        SaturatingKind::DoublingMultiplyHigh { rounding: _ } => false,
-        SaturatingKind::Unary { negate: _ } => false,
-    }
-}
-
-// The bits of a source's lane.
-fn source_bits(kind: SaturatingKind, lane_bits: u64) -> u64
-    requires { ⌜ «lane_bits» ≤ 64 ⌝ }
-    ensures { λ r. ⌜ r ≡ sourceBits kind «lane_bits» ⌝ }
-{
-    if narrowing(kind) {
-        return lane_bits * 2;
-    }
-    lane_bits
-}
 
 // Lane `index` of the result.
 fn saturating_at(

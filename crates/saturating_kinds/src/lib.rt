@@ -1,0 +1,54 @@
+// What a saturating kind says of its sources: whether there is a second, and the bits of a source lane. The Rust's
+// saturating_lanes asks this of its kind.
+use trees::SaturatingKind;
+ghost use mathlib.Core.Path.{_≡_};
+ghost use Prim.Native.Nat.{_≤_};
+ghost use Rattle.trees.specs.Arith.{narrowing as narrowingTree};
+ghost use Rattle.saturating_kinds.specs.Kinds.{usesSecond, sourceBits};
+
+// The kinds of two sources.
+pub fn uses_second(kind: SaturatingKind) -> bool
+    ensures { λ r. ⌜ r ≡ usesSecond kind ⌝ }
+{
+    match kind {
+        SaturatingKind::AddSub { op: _, to: _ } => true,
+        SaturatingKind::Halving { rounding: _ } => true,
+        SaturatingKind::Narrow { to: _ } => false,
+        SaturatingKind::ShiftNarrow {
+            shift: _,
+            rounding: _,
+            to: _,
+        } => false,
+        SaturatingKind::DoublingMultiplyHigh { rounding: _ } => true,
+        SaturatingKind::Unary { negate: _ } => false,
+    }
+}
+
+// The kinds whose source lanes have twice the bits of the result's.
+pub fn narrowing(kind: SaturatingKind) -> bool
+    ensures { λ r. ⌜ r ≡ narrowingTree kind ⌝ }
+{
+    match kind {
+        SaturatingKind::AddSub { op: _, to: _ } => false,
+        SaturatingKind::Halving { rounding: _ } => false,
+        SaturatingKind::Narrow { to: _ } => true,
+        SaturatingKind::ShiftNarrow {
+            shift: _,
+            rounding: _,
+            to: _,
+        } => true,
+        SaturatingKind::DoublingMultiplyHigh { rounding: _ } => false,
+        SaturatingKind::Unary { negate: _ } => false,
+    }
+}
+
+// The bits of a source's lane.
+pub fn source_bits(kind: SaturatingKind, lane_bits: u64) -> u64
+    requires { ⌜ «lane_bits» ≤ 64 ⌝ }
+    ensures { λ r. ⌜ r ≡ sourceBits kind «lane_bits» ⌝ }
+{
+    if narrowing(kind) {
+        return lane_bits * 2;
+    }
+    lane_bits
+}
