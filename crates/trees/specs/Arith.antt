@@ -61,7 +61,7 @@ narrowed value wide n Never = extract value (n - 1) 0
 narrowed value wide n (Into to) = clamp value wide n to
 
 abbrev pub negated : Bool → Expr → ℕ → Expr
-negated always value wide = let minus = Bv Sub (Const 0 wide) value in cond always minus (Ite (Compare Slt value (Const 0 wide)) minus value)
+negated negate value wide = let minus = Bv Sub (Const 0 wide) value in cond negate minus (Ite (Compare Slt value (Const 0 wide)) minus value)
 
 -- `saturating_lane`
 unfoldable pub saturatingLane : SaturatingKind → (a b : Expr) (n : ℕ) (signed : Bool) → Expr
@@ -105,6 +105,7 @@ saturatingShiftLeft value amount n signed =
 abbrev pub registerShiftMax : ℕ
 registerShiftMax = 128
 
+-- SQSHLU is computed with room for the exact product and one bit for its sign
 abbrev pub leftImmediate : (saturate : Saturate) (value : Expr) (shift n : ℕ) (signed : Bool) → Expr
 leftImmediate Never value shift n signed = Bv Shl value (Const shift n)
 leftImmediate (Into Signed) value shift n signed = saturatingShiftLeft value (Const shift n) n signed
