@@ -6,10 +6,9 @@ use Prim.Native.Nat.{ℕ, suc, _≤_, _<_}
 use native.Mathlib.Nat.{zero-add}
 use native.Mathlib.Omega.{arith}
 use lib.ListN.{length, drop}
-use lib.Seq.{sets-eq}
+use lib.Seq.{sets, sets-eq}
 use borrow.Author.Tests.{le-leb, lt-leb}
 use Rattle.pool.specs.Rules.{poolOk}
-use Rattle.digits.specs.Writing.{Wrote}
 use Rattle.text_parts.specs.Text.{text}
 use Rattle.text_length.proofs.Answers.{good-node}
 use Rattle.text.specs.Answer.{textNumber, Answered}
@@ -26,13 +25,12 @@ module _ (ws : List ℕ) (count n : ℕ) where
   refused old k e = record { number-is = sym e; length-is = rw e; buffer-is = rw e }
 
   -- a text that was written
-  pub written : {old new : List ℕ} {len : ℕ} → textNumber ws count n (length old) ≡ 0 → length (text ws n) ≤ length old → Wrote old 0 (text ws n) len new
-      → Answered ws count n old 0 len new
-  written {old} {new} e h w =
+  pub written : {old new : List ℕ} {len : ℕ} → textNumber ws count n (length old) ≡ 0 → length (text ws n) ≤ length old → len ≡ length (text ws n)
+      → new ≡ sets old 0 (text ws n) → Answered ws count n old 0 len new
+  written {old} e h l w =
       record {
         number-is = sym e;
-        length-is = rw e (w .next-is ∙ zero-add (length (text ws n)));
+        length-is = rw e l;
         buffer-is =
-            rw e
-            (w .after-is ∙ sets-eq (text ws n) old 0 (omega arith) ∙ ap (λ (k : ℕ). text ws n ++ drop k old) (zero-add (length (text ws n))));
+            rw e (w ∙ sets-eq (text ws n) old 0 (omega arith) ∙ ap (λ (k : ℕ). text ws n ++ drop k old) (zero-add (length (text ws n))));
       }

@@ -24,16 +24,17 @@ pub fn write_text(pool: &[u64], count: usize, node: usize, buffer: &mut [u8]) ->
             length: 0,
         };
     }
-    let left = measure(pool, Node(node), buffer.len() + 1);
+    let most = buffer.len() + 1;
+    let left = measure(pool, Node(node), most);
     if left == 0 {
         return Written {
             number: 9,
             length: 0,
         };
     }
-    let length = write_node(pool, Node(node), buffer);
+    write_node(pool, Node(node), buffer);
     Written {
         number: 0,
-        length: length,
+        length: most - left,
     }
 }

@@ -11,16 +11,42 @@ use node_fields::third;
 use node_fields::width_of;
 use pool::Node;
 use pool_check::pool_check;
-use text_operators::infix_length;
+use text_operators::operator_length;
 ghost use mathlib.Core.Path.{_≡_};
-ghost use Prim.Native.Nat.{_-_};
+ghost use mathlib.Core.Bool.{true};
+ghost use Prim.Native.Nat.{_+_, _-_, _<_};
 ghost use lib.ListN.{length};
-ghost use Rattle.text_parts.specs.Text.{text, Ready};
+ghost use Rattle.node_fields.specs.Fields.{kindNumber};
+ghost use Rattle.text_parts.specs.Text.{text, Ready, openText, endText, single};
 ghost use Rattle.text_length.specs.Answer.{Measured};
 
-// What is left of b when the length of node n's text is taken off it, and 0 where the text is longer.
-// A node's own characters are taken off before its operands', so a text of any length is given up
-// once b is used up.
+// What is left of b when the length of a Var's or a Const's text is taken off it, and 0 where the text is longer.
+// k is the number of the node's kind.
+fn less_leaf(p: &[u64], n: Node, k: u64, b: usize) -> usize
+    requires { ⌜ Ready (now p) (n .0) × (k ≡ kindNumber (now p) (n .0)) × (k < 3) ⌝ }
+    ensures { λ r. ⌜ r ≡ b - length (text (now (p .entry)) (n .0)) ⌝ }
+{
+    if k == 1 {
+        return less(b, decimal_length(low(p, n)) + 1);
+    }
+    let c = less(b, decimal_length(width_of(p, n)) + 3);
+    less_hex(low(p, n), high(p, n), c)
+}
+
+// The same for what stands about the operand of an Extract and of an extension.
+fn less_single(p: &[u64], n: Node, k: u64, b: usize) -> usize
+    requires { ⌜ Ready (now p) (n .0) × (k ≡ kindNumber (now p) (n .0)) × (single k ≡ true) ⌝ }
+    ensures { λ r. ⌜ r ≡ b - (length (openText k) + length (endText (now (p .entry)) (n .0))) ⌝ }
+{
+    if k == 16 {
+        let c = less(b, decimal_length(low(p, n)) + 3);
+        return less(c, decimal_length(high(p, n)));
+    }
+    less(b, decimal_length(width_of(p, n)) + 8)
+}
+
+// The same for all of a node's text. Its own characters are taken off before its operands', so a text of any length
+// is given up once b is used up.
 pub fn measure(p: &[u64], n: Node, b: usize) -> usize
     requires { ⌜ Ready (now p) (n .0) ⌝ }
     ensures { λ r. ⌜ r ≡ b - length (text (now (p .entry)) (n .0)) ⌝ }
@@ -29,16 +55,12 @@ pub fn measure(p: &[u64], n: Node, b: usize) -> usize
         return 0;
     }
     let k = kind_of(p, n);
-    if k == 1 {
-        return less(b, decimal_length(low(p, n)) + 1);
-    }
-    if k == 2 {
-        let c = less(b, decimal_length(width_of(p, n)) + 3);
-        return less_hex(low(p, n), high(p, n), c);
+    if k < 3 {
+        return less_leaf(p, n, k, b);
     }
     let a = first(p, n);
     if k < 15 {
-        let c = measure(p, a, less(b, infix_length(k) + 2));
+        let c = measure(p, a, less(b, operator_length(k) + 2));
         return measure(p, second(p, n), c);
     }
     if k == 15 {
@@ -46,15 +68,11 @@ pub fn measure(p: &[u64], n: Node, b: usize) -> usize
         let d = measure(p, second(p, n), c);
         return measure(p, third(p, n), d);
     }
-    if k == 16 {
-        let c = less(b, decimal_length(low(p, n)) + 3);
-        return measure(p, a, less(c, decimal_length(high(p, n))));
-    }
     if k == 17 {
         let c = measure(p, a, less(b, 10));
         return measure(p, second(p, n), c);
     }
-    measure(p, a, less(b, decimal_length(width_of(p, n)) + 8))
+    measure(p, a, less_single(p, n, k, b))
 }
 
 // A number of document 01, and the text's length.

@@ -1,1 +1,1 @@
-pub mod Infix
+pub mod Between

@@ -1,36 +1,50 @@
-// The operators in a term's text: what `Display` of the Rust's expr.rs writes between two operands.
+// What `Display` of the Rust's expr.rs writes between two operands.
 use digits::put;
 ghost use mathlib.Core.Path.{_≡_};
+ghost use mathlib.Core.List.{[], _∷_};
 ghost use Prim.Native.Nat.{_≤_, _<_};
 ghost use lib.ListN.{length};
 ghost use Rattle.digits.specs.Writing.{Room, Wrote};
-ghost use Rattle.text_operators.specs.Infix.{infixText};
+ghost use Rattle.text_operators.specs.Between.{Pair, betweenText};
 
-// The operator between two operands.
-pub fn put_infix(k: u64, buf: &mut [u8], at: usize) -> usize
-    requires { ⌜ (3 ≤ k) × (k < 15) × (Room (now buf) at (infixText k)) ⌝ }
-    ensures { λ r. ⌜ Wrote (now (buf .entry)) at (infixText k) r (now (buf .exit)) ⌝ }
+// The one character of the operators 3 to 8.
+fn sign(k: u64) -> u8
+    requires { ⌜ (3 ≤ k) × (k < 9) ⌝ }
+    ensures { λ r. ⌜ betweenText k ≡ 32 ∷ r ∷ 32 ∷ [] ⌝ }
 {
     match k {
-        3 => put(b" + ", buf, at),
-        4 => put(b" - ", buf, at),
-        5 => put(b" * ", buf, at),
-        6 => put(b" & ", buf, at),
-        7 => put(b" | ", buf, at),
-        8 => put(b" ^ ", buf, at),
+        3 => b'+',
+        4 => b'-',
+        5 => b'*',
+        6 => b'&',
+        7 => b'|',
+        _ => b'^',
+    }
+}
+
+// The operator between two operands, and a Concat's comma.
+pub fn put_between(k: u64, buf: &mut [u8], at: usize) -> usize
+    requires { ⌜ Pair k × Room (now buf) at (betweenText k) ⌝ }
+    ensures { λ r. ⌜ Wrote (now (buf .entry)) at (betweenText k) r (now (buf .exit)) ⌝ }
+{
+    if k < 9 {
+        return put(&[b' ', sign(k), b' '], buf, at);
+    }
+    match k {
         9 => put(b" << ", buf, at),
         10 => put(b" >>u ", buf, at),
         11 => put(b" >>s ", buf, at),
         12 => put(b" == ", buf, at),
         13 => put(b" <u ", buf, at),
-        _ => put(b" <s ", buf, at),
+        14 => put(b" <s ", buf, at),
+        _ => put(b", ", buf, at),
     }
 }
 
-// The length of that operator. A constant table would be copied to the frame of each level of nesting.
-pub fn infix_length(k: u64) -> usize
+// The length of an operator. A constant table would be copied to the frame of each level of nesting.
+pub fn operator_length(k: u64) -> usize
     requires { ⌜ (3 ≤ k) × (k < 15) ⌝ }
-    ensures { λ r. ⌜ (r ≡ length (infixText k)) × (r ≤ 5) ⌝ }
+    ensures { λ r. ⌜ (r ≡ length (betweenText k)) × (r ≤ 5) ⌝ }
 {
     if k < 9 {
         return 3;

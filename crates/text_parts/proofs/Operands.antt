@@ -1,23 +1,24 @@
 -- The operands of a node of a valid pool, by the number of its kind: what is needed to write its text. Assumes nothing.
 use Prim.Native.Nat.{ℕ, zero, suc, _+_, _*_, _≤_, _<_}
 use mathlib.Core.Path.{_≡_, refl, sym, _∙_, subst}
-use mathlib.Core.Bool.{Bool, true, false}
+use mathlib.Core.Bool.{Bool, true, false, _||_}
 use mathlib.Core.List.{List}
-use mathlib.Core.Logic.{⊎-elim}
+use mathlib.Core.Logic.{_⊎_, inl, inr, ⊎-elim}
 use native.Mathlib.Omega.{arith}
 use native.Mathlib.Nat.{not-suc-le-zero, le-of-suc-le-suc, eq-or-lt-of-le}
-use lib.Dec.{ltb}
+use lib.Dec.{ltb, leb, eqb}
 use lib.ListN.{length}
-use borrow.Author.Tests.{lt-ltb, ltb-true, ltb-false}
+use borrow.Author.Tests.{lt-ltb, ltb-true, ltb-false, leb-true, leb-false, eqb-true, eqb-false}
 use Rattle.terms.specs.declared.BinOp.the-variants.{Add, Sub, Mul, And, Or, Xor, Shl, LShr, AShr}
 use Rattle.terms.specs.declared.CmpOp.the-variants.{Eq, Ult, Slt}
 use Rattle.facts.proofs.Tests.{and-both, false≢true}
-use Rattle.pool.specs.Node.{bad, extract, kinds, kindAt, decode, Cell, cellAt, widthAt, wordAt}
+use Rattle.pool.specs.Node.{bad, kinds, kindAt, decode, Cell, cellAt, widthAt, wordAt}
 use Rattle.pool.specs.Rules.{widthBefore, okKind, okPool, Valid}
 use Rattle.pool.proofs.Facts.{valid-node}
 use Rattle.node_rules.proofs.Numbers.{within, is-bad}
 use Rattle.node_fields.specs.Fields.{kindNumber, opA, opB, opC}
-use Rattle.text_parts.specs.Text.{Ready}
+use Rattle.text_operators.specs.Between.{Pair}
+use Rattle.text_parts.specs.Text.{Ready, single}
 use Rattle.node_rules.proofs.Kept.{Ok, Two, Three, One, register, bv-two, compare-two, ite-three, extract-one, extract-range, concat-two, zext-one, wide-bad, wide-var, wide-const, wide-bv, wide-ite, wide-extract, wide-concat, wide-zext, most-bad, most-var, most-const, most-bv, most-compare, most-ite, most-extract, most-concat, most-zext}
 
 -- fewer nodes of a valid pool are a valid pool
@@ -150,19 +151,49 @@ pub record Condition (ws : List ℕ) (n m : ℕ) : Type 0 where
   pub ready : Ready ws m
   pub flat : widthAt ws m ≡ 0
 
+-- 16, 18 and 19
+pub record Single (k : ℕ) : Type 0 where
+  pub from : 16 ≤ k
+  pub no-concat : k ≡ 17 → ⊥
+
+pub is-single : (k : ℕ) → single k ≡ true → Single k
+is-single k h = go (eqb k 16) refl h
+  where
+    go : (t : Bool) → eqb k 16 ≡ t → (t || leb 18 k) ≡ true → Single k
+    go true e q = let i : k ≡ 16 = eqb-true k 16 e in record { from = omega arith; no-concat = λ f. omega arith }
+    go false e q = let l : 18 ≤ k = leb-true 18 k q in record { from = omega arith; no-concat = λ f. omega arith }
+
+pub is-pair : (k : ℕ) → 3 ≤ k → (k ≡ 15 → ⊥) → single k ≡ false → Pair k
+is-pair k l i h = go (eqb k 16) refl h
+  where
+    go : (t : Bool) → eqb k 16 ≡ t → (t || leb 18 k) ≡ false → Pair k
+    go true e q = absurd (false≢true (sym q))
+    go false e q = record { from = l; to = leb-false 18 k q; no-ite = i; no-extract = eqb-false k 16 e }
+
+-- a Pair is one of 3 to 14, or 17; a Single is 16, or 18 and more
+pub pair-kinds : {k : ℕ} → Pair k → (k < 15) ⊎ (k ≡ 17)
+pair-kinds {k} b = go (ltb k 15) refl
+  where
+    go : (t : Bool) → ltb k 15 ≡ t → (k < 15) ⊎ (k ≡ 17)
+    go true e = inl (ltb-true k 15 e)
+    go false e = let l : 15 ≤ k = ltb-false k 15 e in inr (omega (arith, b .no-ite, b .no-extract, b .to))
+
+pub single-kinds : {k : ℕ} → Single k → (k ≡ 16) ⊎ (18 ≤ k)
+single-kinds {k} s = ⊎-elim (λ e. inl (sym e)) (λ l. inr (omega (arith, s .no-concat))) (eq-or-lt-of-le (s .from))
+
+pub from-18 : {k : ℕ} → Single k → (k ≡ 16 → ⊥) → 18 ≤ k
+from-18 s h = ⊎-elim (λ e. absurd (h e)) (λ l. l) (single-kinds s)
+
 module _ (ws : List ℕ) (n : ℕ) (r : Ready ws n) (k : ℕ) (is-k : k ≡ kindNumber ws n) where
-  term : (m o : ℕ) → m ≡ o → o < n → 1 ≤ widthBefore ws n o → Term ws n m
-  term m o e l w = rw e (record { before = l; ready = ready-less l r; wide = rw (seen ws n o l) at w })
+  term : {m : ℕ} → m < n → 1 ≤ widthBefore ws n m → Term ws n m
+  term {m} l w = record { before = l; ready = ready-less l r; wide = rw (seen ws n m l) at w }
 
-  -- what tests of the number tell
-  pub from-three : (k ≡ 1 → ⊥) → (k ≡ 2 → ⊥) → 3 ≤ k
-  from-three h i = omega (arith, kind-above ws n r)
-
-  pub from-eighteen : 15 ≤ k → (k ≡ 15 → ⊥) → (k ≡ 16 → ⊥) → (k ≡ 17 → ⊥) → 18 ≤ k
-  from-eighteen h i j l = omega arith
-
-  pub to-nineteen : k ≤ 19
+  pub to-nineteen : k < 20
   to-nineteen = omega (arith, kind-below ws n r)
+
+  -- of Var and Const
+  pub is-const : k < 3 → (k ≡ 1 → ⊥) → k ≡ 2
+  is-const l h = omega (arith, kind-above ws n r)
 
   pub compare-low : widthAt ws n ≡ 0 → 3 ≤ k
   compare-low z = omega (arith, condition-kind ws n r z .0)
@@ -170,89 +201,74 @@ module _ (ws : List ℕ) (n : ℕ) (r : Ready ws n) (k : ℕ) (is-k : k ≡ kind
   pub compare-high : widthAt ws n ≡ 0 → k < 15
   compare-high z = omega (arith, condition-kind ws n r z .1)
 
-  two : 3 ≤ k → k < 15 → Two n (cellAt ws n) (wa ws n) (wb ws n) (wc ws n)
-  two h l = two-of n (cellAt ws n) (wa ws n) (wb ws n) (wc ws n) (kindNumber ws n) (omega arith) (omega arith) (rules ws n r)
-
-  pub bin-a : (a : ℕ) → a ≡ opA ws n → 3 ≤ k → k < 15 → Term ws n a
-  unfolding decode
-  bin-a a e h l = term a (opA ws n) e (two h l .less-a) (two h l .term-a)
-
-  pub bin-b : (b : ℕ) → b ≡ opB ws n → 3 ≤ k → k < 15 → Term ws n b
-  unfolding decode
-  bin-b b e h l = term b (opB ws n) e (two h l .less-b) (two h l .term-b)
+  at-kind : (κ : ℕ) → k ≡ κ → Ok n (cellAt ws n) (wa ws n) (wb ws n) (wc ws n) (kindAt κ)
+  at-kind κ h = let q : kindNumber ws n ≡ κ = sym is-k ∙ h in rw q at (rules ws n r)
 
   three : k ≡ 15 → Three n (cellAt ws n) (wa ws n) (wb ws n) (wc ws n)
   unfolding kindAt kinds
-  three h = let q : kindNumber ws n ≡ 15 = omega arith in ite-three n (cellAt ws n) (wa ws n) (wb ws n) (wc ws n) (rw q at (rules ws n r))
+  three h = ite-three n (cellAt ws n) (wa ws n) (wb ws n) (wc ws n) (at-kind 15 h)
 
-  pub ite-a : (a : ℕ) → a ≡ opA ws n → k ≡ 15 → Condition ws n a
+  two : Pair k → Two n (cellAt ws n) (wa ws n) (wb ws n) (wc ws n)
+  unfolding kindAt kinds
+  two b =
+      ⊎-elim (λ l. two-of n (cellAt ws n) (wa ws n) (wb ws n) (wc ws n) k (b .from) l (at-kind k refl))
+      (λ e. concat-two n (cellAt ws n) (wa ws n) (wb ws n) (wc ws n) (at-kind 17 e))
+      (pair-kinds b)
+
+  one : Single k → One n (cellAt ws n) (wa ws n) (wb ws n) (wc ws n)
+  unfolding kindAt kinds
+  one s =
+      ⊎-elim (λ e. extract-one n (cellAt ws n) (wa ws n) (wb ws n) (wc ws n) (at-kind 16 e))
+      (λ l. extend-of n (cellAt ws n) (wa ws n) (wb ws n) (wc ws n) k l to-nineteen (at-kind k refl))
+      (single-kinds s)
+
+  pub ite-a : k ≡ 15 → Condition ws n (opA ws n)
   unfolding decode
-  ite-a a e h =
+  ite-a h =
       let t = three h in
-      rw e (record { before = t .less-a; ready = ready-less (t .less-a) r; flat = sym (seen ws n (opA ws n) (t .less-a)) ∙ t .cond-a })
+      record { before = t .less-a; ready = ready-less (t .less-a) r; flat = sym (seen ws n (opA ws n) (t .less-a)) ∙ t .cond-a }
 
-  pub ite-b : (b : ℕ) → b ≡ opB ws n → k ≡ 15 → Term ws n b
+  pub ite-b : k ≡ 15 → Term ws n (opB ws n)
   unfolding decode
-  ite-b b e h = term b (opB ws n) e (three h .less-b) (three h .term-b)
+  ite-b h = term (three h .less-b) (three h .term-b)
 
-  pub ite-c : (c : ℕ) → c ≡ opC ws n → k ≡ 15 → Term ws n c
+  pub ite-c : k ≡ 15 → Term ws n (opC ws n)
   unfolding decode
-  ite-c c e h = term c (opC ws n) e (three h .less-c) (three h .term-c)
+  ite-c h = term (three h .less-c) (three h .term-c)
 
-  extract-rules : k ≡ 16 → Ok n (cellAt ws n) (wa ws n) (wb ws n) (wc ws n) extract
-  unfolding kindAt kinds
-  extract-rules h = let q : kindNumber ws n ≡ 16 = omega arith in rw q at (rules ws n r)
-
-  pub extract-a : (a : ℕ) → a ≡ opA ws n → k ≡ 16 → Term ws n a
+  pub pair-a : Pair k → Term ws n (opA ws n)
   unfolding decode
-  extract-a a e h = let o = extract-one n (cellAt ws n) (wa ws n) (wb ws n) (wc ws n) (extract-rules h) in term a (opA ws n) e (o .less-a) (o .term-a)
+  pair-a b = term (two b .less-a) (two b .term-a)
 
-  pub concat-rule : k ≡ 17 → Two n (cellAt ws n) (wa ws n) (wb ws n) (wc ws n)
-  unfolding kindAt kinds
-  concat-rule h = let q : kindNumber ws n ≡ 17 = omega arith in concat-two n (cellAt ws n) (wa ws n) (wb ws n) (wc ws n) (rw q at (rules ws n r))
-
-  pub concat-a : (a : ℕ) → a ≡ opA ws n → k ≡ 17 → Term ws n a
+  pub pair-b : Pair k → Term ws n (opB ws n)
   unfolding decode
-  concat-a a e h = term a (opA ws n) e (concat-rule h .less-a) (concat-rule h .term-a)
+  pair-b b = term (two b .less-b) (two b .term-b)
 
-  pub concat-b : (b : ℕ) → b ≡ opB ws n → k ≡ 17 → Term ws n b
+  pub single-a : Single k → Term ws n (opA ws n)
   unfolding decode
-  concat-b b e h = term b (opB ws n) e (concat-rule h .less-b) (concat-rule h .term-b)
+  single-a s = term (one s .less-a) (one s .term-a)
 
-  pub extend-a : (a : ℕ) → a ≡ opA ws n → 18 ≤ k → Term ws n a
-  unfolding decode
-  extend-a a e h =
-      let o = extend-of n (cellAt ws n) (wa ws n) (wb ws n) (wc ws n) (kindNumber ws n) (omega arith) (kind-below ws n r) (rules ws n r) in
-      term a (opA ws n) e (o .less-a) (o .term-a)
+  -- of any kind but an Ite
+  pub first-term : 3 ≤ k → (k ≡ 15 → ⊥) → Term ws n (opA ws n)
+  first-term h i = go (single k) refl
+    where
+      go : (t : Bool) → single k ≡ t → Term ws n (opA ws n)
+      go true e = single-a (is-single k e)
+      go false e = pair-a (is-pair k h i e)
 
   -- numbers that are written in decimal
-  pub register-small : (x : ℕ) → x ≡ wordAt ws n 2 → k ≡ 1 → x < 1000
+  pub register-small : k ≡ 1 → wordAt ws n 2 < 1000
   unfolding kindAt kinds decode
-  register-small x e h =
-      let q : kindNumber ws n ≡ 1 = omega arith in
-      let l = register n (cellAt ws n) (wa ws n) (wb ws n) (wc ws n) (rw q at (rules ws n r)) in
-      omega (arith, l)
+  register-small h = omega (arith, register n (cellAt ws n) (wa ws n) (wb ws n) (wc ws n) (at-kind 1 h))
 
-  range-small : k ≡ 16 → (wordAt ws n 3 ≤ wordAt ws n 2) × (wordAt ws n 2 < 129)
-  unfolding decode
+  pub range-small : k ≡ 16 → (wordAt ws n 2 < 1000) × (wordAt ws n 3 < 1000)
+  unfolding kindAt kinds decode
   range-small h =
-      let o = extract-one n (cellAt ws n) (wa ws n) (wb ws n) (wc ws n) (extract-rules h) in
-      let t = extract-range n (cellAt ws n) (wa ws n) (wb ws n) (wc ws n) (extract-rules h) in
+      let o = extract-one n (cellAt ws n) (wa ws n) (wb ws n) (wc ws n) (at-kind 16 h) in
+      let t = extract-range n (cellAt ws n) (wa ws n) (wb ws n) (wc ws n) (at-kind 16 h) in
       let m = width-most ws (opA ws n) (ready-less (o .less-a) r) in
-      (t .0, omega (arith, m, rw (seen ws n (opA ws n) (o .less-a)) at (t .1)))
+      let b = rw (seen ws n (opA ws n) (o .less-a)) at (t .1) in
+      (omega (arith, m, b), omega (arith, m, b, t .0))
 
-  pub hi-small : (x : ℕ) → x ≡ wordAt ws n 2 → k ≡ 16 → x < 1000
-  hi-small x e h = let t = range-small h in omega (arith, t .0, t .1)
-
-  pub lo-small : (y : ℕ) → y ≡ wordAt ws n 3 → k ≡ 16 → y < 1000
-  lo-small y e h = let t = range-small h in omega (arith, t .0, t .1)
-
-  pub width-small : (w : ℕ) → w ≡ widthAt ws n → w < 1000
-  width-small w e = omega (arith, width-most ws n r)
-
--- a kind that was read twice
-pub same-low : {κ k l : ℕ} → k ≡ κ → l ≡ κ → 3 ≤ k → 3 ≤ l
-same-low p q h = omega arith
-
-pub same-high : {κ k l : ℕ} → k ≡ κ → l ≡ κ → k < 15 → l < 15
-same-high p q h = omega arith
+  pub width-small : widthAt ws n < 1000
+  width-small = omega (arith, width-most ws n r)

@@ -1,38 +1,59 @@
--- The text of a node, and its parts.
+-- The text of a node, and its parts: what stands before its operands, and what after the only one; what stands between two
+-- is `betweenText`.
+use mathlib.Core.Bool.{Bool, _||_}
 use mathlib.Core.List.{List, [], _++_}
 use Prim.Native.Nat.{ℕ, _+_, _*_, _<_}
+use lib.Dec.{eqb, leb}
 use lib.ListN.{length}
 use Rattle.terms.specs.Display.{bytes, decimal, display}
-use Rattle.pool.specs.Node.{Kind, bad, var, const, bv, compare, ite, extract, concat, zext, sext, kindAt}
+use Rattle.pool.specs.Node.{Kind, bad, var, const, bv, compare, ite, extract, concat, zext, sext, kindAt, widthAt, wordAt}
 use Rattle.pool.specs.Rules.{Valid}
 use Rattle.pool.specs.Unfold.{unfoldAt}
+use Rattle.node_fields.specs.Fields.{kindNumber}
 
 -- the text of node n
 unfoldable pub text : List ℕ → ℕ → List ℕ
 text ws n = display (unfoldAt ws n)
 
--- what an extension begins with, 18 or 19
-abbrev pub extendOf : Kind → List ℕ
-extendOf bad = []
-extendOf var = []
-extendOf const = []
-extendOf (bv o) = []
-extendOf (compare o) = []
-extendOf ite = []
-extendOf extract = []
-extendOf concat = []
-extendOf zext = bytes "zext("
-extendOf sext = bytes "sext("
+abbrev pub openOf : Kind → List ℕ
+openOf bad = []
+openOf var = []
+openOf const = []
+openOf (bv o) = bytes "("
+openOf (compare o) = bytes "("
+openOf ite = bytes "ite("
+openOf extract = []
+openOf concat = bytes "concat("
+openOf zext = bytes "zext("
+openOf sext = bytes "sext("
 
-unfoldable pub extendText : ℕ → List ℕ
-extendText k = extendOf (kindAt k)
+unfoldable pub openText : ℕ → List ℕ
+openText k = openOf (kindAt k)
 
--- what an Extract and an extension end with
 abbrev pub rangeText : ℕ → ℕ → List ℕ
 rangeText hi lo = bytes "[" ++ (decimal hi ++ (bytes ":" ++ (decimal lo ++ bytes "]")))
 
 abbrev pub widthText : ℕ → List ℕ
 widthText w = bytes ", " ++ (decimal w ++ bytes ")")
+
+abbrev pub endOf : Kind → (x y w : ℕ) → List ℕ
+endOf bad x y w = []
+endOf var x y w = []
+endOf const x y w = []
+endOf (bv o) x y w = []
+endOf (compare o) x y w = []
+endOf ite x y w = []
+endOf extract x y w = rangeText x y
+endOf concat x y w = []
+endOf zext x y w = widthText w
+endOf sext x y w = widthText w
+
+unfoldable pub endText : List ℕ → ℕ → List ℕ
+endText ws n = endOf (kindAt (kindNumber ws n)) (wordAt ws n 2) (wordAt ws n 3) (widthAt ws n)
+
+-- Extract and the extensions have one operand
+abbrev pub single : ℕ → Bool
+single k = eqb k 16 || leb 18 k
 
 -- nodes 0 to n are in the pool and keep its rules
 pub record Ready (ws : List ℕ) (n : ℕ) : Type 0 where

@@ -1,64 +1,98 @@
-// The parts of a term's text: what `Display` of the Rust's expr.rs writes by one `write!`, as bytes into a lent buffer.
+// The parts of a node's text: what `Display` of the Rust's expr.rs writes before and after its operands, as bytes into a lent
+// buffer. k is the number of the node's kind.
 use digits::put;
 use digits::put_decimal;
 use digits::put_hex;
-ghost use Prim.Native.Nat.{_≤_};
-ghost use Rattle.terms.specs.Expr.{Var, Const};
-ghost use Rattle.terms.specs.Display.{display};
+use node_fields::high;
+use node_fields::low;
+use node_fields::width_of;
+use pool::Node;
+ghost use mathlib.Core.Path.{_≡_};
+ghost use mathlib.Core.Bool.{true};
+ghost use mathlib.Core.List.{_∷_, _++_};
+ghost use Prim.Native.Nat.{_+_, _*_, _≤_, _<_};
+ghost use lib.ListN.{length};
+ghost use Rattle.terms.specs.Display.{bytes, decimal, hexadecimal};
 ghost use Rattle.pool.specs.Node.{wide};
+ghost use Rattle.node_fields.specs.Fields.{kindNumber};
 ghost use Rattle.digits.specs.Writing.{Room, Wrote};
-ghost use Rattle.text_parts.specs.Text.{extendText, rangeText, widthText};
+ghost use Rattle.text_parts.specs.Text.{text, Ready, openText, widthText, endText, single};
 
-// "v" and the register's number.
-pub fn put_var(r: u64, buf: &mut [u8], at: usize) -> usize
-    requires { ⌜ Room (now buf) at (display (Var r)) ⌝ }
-    ensures { λ q. ⌜ Wrote (now (buf .entry)) at (display (Var r)) q (now (buf .exit)) ⌝ }
+// A character and a number.
+fn put_numbered(c: u8, x: u64, buf: &mut [u8], at: usize) -> usize
+    requires { ⌜ Room (now buf) at (c ∷ decimal x) ⌝ }
+    ensures { λ r. ⌜ Wrote (now (buf .entry)) at (c ∷ decimal x) r (now (buf .exit)) ⌝ }
 {
-    let i = put(b"v", buf, at);
-    put_decimal(r, buf, i)
+    buf[at] = c;
+    put_decimal(x, buf, at + 1)
 }
 
-// The value in hexadecimal, ":" and the width.
-pub fn put_const(low: u64, high: u64, w: u64, buf: &mut [u8], at: usize) -> usize
-    requires { ⌜ Room (now buf) at (display (Const (wide low high) w)) ⌝ }
-    ensures { λ q. ⌜ Wrote (now (buf .entry)) at (display (Const (wide low high) w)) q (now (buf .exit)) ⌝ }
+// A constant's value.
+fn put_value(low: u64, high: u64, buf: &mut [u8], at: usize) -> usize
+    requires { ⌜ Room (now buf) at (bytes "0x" ++ hexadecimal (wide low high)) ⌝ }
+    ensures { λ r. ⌜ Wrote (now (buf .entry)) at (bytes "0x" ++ hexadecimal (wide low high)) r (now (buf .exit)) ⌝ }
 {
     let i = put(b"0x", buf, at);
-    let j = put_hex(low, high, buf, i);
-    let l = put(b":", buf, j);
-    put_decimal(w, buf, l)
+    put_hex(low, high, buf, i)
 }
 
-// "[hi:lo]"
-pub fn put_range(hi: u64, lo: u64, buf: &mut [u8], at: usize) -> usize
-    requires { ⌜ Room (now buf) at (rangeText hi lo) ⌝ }
-    ensures { λ q. ⌜ Wrote (now (buf .entry)) at (rangeText hi lo) q (now (buf .exit)) ⌝ }
+// Var and Const, which have no operand.
+pub fn put_leaf(p: &[u64], n: Node, k: u64, buf: &mut [u8], at: usize) -> usize
+    requires { ⌜ Ready (now p) (n .0) × (k ≡ kindNumber (now p) (n .0)) × (k < 3) ⌝ }
+    requires { ⌜ Room (now buf) at (text (now p) (n .0)) ⌝ }
+    ensures { λ r. ⌜ Wrote (now (buf .entry)) at (text (now (p .entry)) (n .0)) r (now (buf .exit)) ⌝ }
 {
-    let i = put(b"[", buf, at);
-    let j = put_decimal(hi, buf, i);
-    let l = put(b":", buf, j);
-    let m = put_decimal(lo, buf, l);
-    put(b"]", buf, m)
+    if k == 1 {
+        return put_numbered(b'v', low(p, n), buf, at);
+    }
+    let i = put_value(low(p, n), high(p, n), buf, at);
+    put_numbered(b':', width_of(p, n), buf, i)
 }
 
-// ", w)"
-pub fn put_width(w: u64, buf: &mut [u8], at: usize) -> usize
+// What stands before the operands. An Extract has nothing there.
+pub fn put_open(k: u64, buf: &mut [u8], at: usize) -> usize
+    requires { ⌜ (3 ≤ k) × (k < 20) × Room (now buf) at (openText k) ⌝ }
+    ensures { λ r. ⌜ Wrote (now (buf .entry)) at (openText k) r (now (buf .exit)) ⌝ }
+{
+    match k {
+        15 => put(b"ite(", buf, at),
+        16 => at,
+        17 => put(b"concat(", buf, at),
+        18 => put(b"zext(", buf, at),
+        19 => put(b"sext(", buf, at),
+        _ => put(b"(", buf, at),
+    }
+}
+
+// An extension's width.
+fn put_width(w: u64, buf: &mut [u8], at: usize) -> usize
     requires { ⌜ Room (now buf) at (widthText w) ⌝ }
-    ensures { λ q. ⌜ Wrote (now (buf .entry)) at (widthText w) q (now (buf .exit)) ⌝ }
+    ensures { λ r. ⌜ Wrote (now (buf .entry)) at (widthText w) r (now (buf .exit)) ⌝ }
 {
     let i = put(b", ", buf, at);
     let j = put_decimal(w, buf, i);
     put(b")", buf, j)
 }
 
-// "zext(" or "sext("
-pub fn put_extend(k: u64, buf: &mut [u8], at: usize) -> usize
-    requires { ⌜ (18 ≤ k) × (k ≤ 19) × (Room (now buf) at (extendText k)) ⌝ }
-    ensures { λ r. ⌜ Wrote (now (buf .entry)) at (extendText k) r (now (buf .exit)) ⌝ }
+// What stands after the operand of an Extract and of an extension.
+pub fn put_end(p: &[u64], n: Node, k: u64, buf: &mut [u8], at: usize) -> usize
+    requires { ⌜ Ready (now p) (n .0) × (k ≡ kindNumber (now p) (n .0)) × (single k ≡ true) ⌝ }
+    requires { ⌜ Room (now buf) at (endText (now p) (n .0)) ⌝ }
+    ensures { λ r. ⌜ Wrote (now (buf .entry)) at (endText (now (p .entry)) (n .0)) r (now (buf .exit)) ⌝ }
 {
-    if k == 18 {
-        put(b"zext(", buf, at)
-    } else {
-        put(b"sext(", buf, at)
+    if k == 16 {
+        let hi = low(p, n);
+        let lo = high(p, n);
+        let i = put_numbered(b'[', hi, buf, at);
+        let j = put_numbered(b':', lo, buf, i);
+        return put(b"]", buf, j);
     }
+    put_width(width_of(p, n), buf, at)
+}
+
+// Has a kind with operands one only? Extract and the extensions do.
+pub fn is_single(k: u64) -> bool
+    ensures { λ r. ⌜ r ≡ single k ⌝ }
+{
+    (k == 16) | (18 <= k)
 }

@@ -7,22 +7,33 @@ slice-aggregate-put : tie.Need-slice-aggregate-put
 slice-aggregate-put c = search needs
 
 put-requires : tie.Need-put-requires
-put-requires c κs = room-front _ (c .before .before .before .pre)
+put-requires c κs = search needs
 
 put-decimal-requires : tie.Need-put-decimal-requires
-put-decimal-requires c κs = room-front _ (room-step (c .before .before .before .put .ensures) (c .before .before .before .before .before .before .before .pre))
+put-decimal-requires c κs =
+    let l-put = c .before .before .before in
+    let st = l-put .before .before .before .before in
+    room-front _ (room-step (l-put .put .ensures) (st .pre))
 
 slice-aggregate-put-2 : tie.Need-slice-aggregate-put-2
 slice-aggregate-put-2 c = search needs
 
 put-requires-2 : tie.Need-put-requires-2
-put-requires-2 c κs = room-step (c .before .before .before .before .put-decimal .ensures) (room-step (c .before .before .before .before .before .before .before .before .put .ensures) (c .before .before .before .before .before .before .before .before .before .before .before .before .pre))
+put-requires-2 c κs =
+    let l-put-decimal = c .before .before .before .before in
+    let l-put = l-put-decimal .before .before .before .before in
+    let st = l-put .before .before .before .before in
+    room-step (l-put-decimal .put-decimal .ensures) (room-step (l-put .put .ensures) (st .pre))
 
 same-length : tie.Need-same-length
 same-length c = search needs
 
 returns : tie.Need-returns
-returns c = wrote-then (c .before .before .before .before .before .before .before .before .before .before .before .put .ensures) (wrote-then (c .before .before .before .before .before .before .before .put-decimal .ensures) (c .before .before .put2 .ensures))
+returns c =
+    let l-put2 = c .before .before in
+    let l-put-decimal = l-put2 .before .before .before .before .before in
+    let l-put = l-put-decimal .before .before .before .before in
+    wrote-then (l-put .put .ensures) (wrote-then (l-put-decimal .put-decimal .ensures) (l-put2 .put2 .ensures))
 
 pub put-width-spec : {M : Type 1} → statement M
 put-width-spec =

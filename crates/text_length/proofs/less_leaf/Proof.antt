@@ -1,0 +1,81 @@
+use native.Mathlib.Omega.{arith}
+use Rattle.text_parts.proofs.Operands.{is-const, register-small, width-small}
+use Rattle.text_length.proofs.Sizes.{size-var, size-const}
+use borrow.Author.Needs.{needs}
+use Rattle.text_length.proofs.less_leaf.Statement.{statement}
+use Rattle.text_length.proofs.less_leaf.Tie as tie
+
+low-requires : tie.Need-low-requires
+low-requires c κs = search needs
+
+decimal-length-requires : tie.Need-decimal-length-requires
+decimal-length-requires c κs =
+    let l-if1 = c .before in
+    let st = l-if1 .before .before in
+    rw (c .low .ensures) (register-small (st .args .p .now) (st .args .n .0) (st .pre .0) (st .args .k) (st .pre .1) (l-if1 .if1 .taken))
+
+add-less : tie.Need-add-less
+add-less c = search needs
+
+less-requires : tie.Need-less-requires
+less-requires c κs = search needs
+
+returns : tie.Need-returns
+returns c =
+    let l-decimal-length = c .before in
+    let l-low = l-decimal-length .before in
+    let l-if1 = l-low .before in
+    let st = l-if1 .before .before in
+    omega (arith, size-var (st .args .p .now) (st .args .n .0) (st .pre .0) (st .args .k) (st .pre .1) (l-if1 .if1 .taken), c .less .ensures, rw (l-low .low .ensures) at (l-decimal-length .decimal-length .ensures .0))
+
+width-of-requires : tie.Need-width-of-requires
+width-of-requires c κs = search needs
+
+decimal-length-requires-2 : tie.Need-decimal-length-requires-2
+decimal-length-requires-2 c κs =
+    let st = c .before .before .before in
+    rw (c .width-of .ensures) (width-small (st .args .p .now) (st .args .n .0) (st .pre .0) (st .args .k) (st .pre .1))
+
+add-less-2 : tie.Need-add-less-2
+add-less-2 c = search needs
+
+less-requires-2 : tie.Need-less-requires-2
+less-requires-2 c κs = search needs
+
+low-requires-2 : tie.Need-low-requires-2
+low-requires-2 c κs = search needs
+
+high-requires : tie.Need-high-requires
+high-requires c κs = search needs
+
+less-hex-requires : tie.Need-less-hex-requires
+less-hex-requires c κs = search needs
+
+returns-2 : tie.Need-returns-2
+returns-2 c =
+    let l-high = c .before in
+    let l-low2 = l-high .before in
+    let l-less2 = l-low2 .before in
+    let l-decimal-length2 = l-less2 .before in
+    let l-width-of = l-decimal-length2 .before in
+    let l-if1 = l-width-of .before in
+    let st = l-if1 .before .before in
+    omega (arith, size-const (st .args .p .now) (st .args .n .0) (st .pre .0) (st .args .k) (st .pre .1) (is-const (st .args .p .now) (st .args .n .0) (st .pre .0) (st .args .k) (st .pre .1) (st .pre .2) (l-if1 .if1 .left)), l-less2 .less2 .ensures, rw (l-width-of .width-of .ensures) at (l-decimal-length2 .decimal-length2 .ensures .0), rw (l-low2 .low2 .ensures, l-high .high .ensures) at (c .less-hex .ensures))
+
+pub less-leaf-spec : {M : Type 1} → statement M
+less-leaf-spec =
+    tie.close
+    (tie.spec
+    low-requires
+    decimal-length-requires
+    add-less
+    less-requires
+    returns
+    width-of-requires
+    decimal-length-requires-2
+    add-less-2
+    less-requires-2
+    low-requires-2
+    high-requires
+    less-hex-requires
+    returns-2)
