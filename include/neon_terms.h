@@ -7,8 +7,8 @@
  * stack, are the only duties of a caller: whatever the words and the numbers are, a function answers, and a refusal writes to
  * neither pool nor buffer.
  *
- * Stack. The two functions on texts call themselves for each level of a term, and take at most 80 bytes a level: 5.3 MB for the
- * deepest pool. A level has 5 characters or more, so a buffer or a ceiling of 100,000 bytes or less needs 1.6 MB at most. The
+ * Stack. The two functions on texts call themselves for each level of a term, and take at most 64 bytes a level: 4.2 MB for the
+ * deepest pool. A level has 5 characters or more, so a buffer or a ceiling of 140,000 bytes or less needs 1.8 MB at most. The
  * other functions take a few kilobytes.
  *
  * Pool. Four words a node; places = words / 4, or 65,535 if that is less; nodes 0 to count - 1 are in use.

@@ -8,10 +8,10 @@ pub const RESERVE: usize = 1024;
 pub const RESULTS: usize = 34;
 pub const NO_NODE: usize = 65535;
 
-/// A text of so many bytes has at most a fifth as many levels, of 80 bytes of stack each: 1.1 MB, which every thread has.
+/// A text of so many bytes has at most a fifth as many levels, of 64 bytes of stack each: 0.9 MB, which every thread has.
 const SHALLOW: usize = 65536;
 
-/// 65,534 levels of 80 bytes, and to spare.
+/// 65,534 levels of 64 bytes, and to spare.
 const DEEP_STACK: usize = 8 << 20;
 
 /// A call that reads or writes a text of up to so many bytes.
