@@ -1,4 +1,6 @@
 // A block of records, lowered into a new pool (document 01, "Pool"). The Rust has no counterpart: it lowers one instruction at a time.
+use block_check::record_at;
+use lower_record::lower_record;
 use register_map::RegisterMap;
 ghost use mathlib.Core.Path.{_≡_};
 ghost use Prim.Native.Nat.{_*_, _/_};
@@ -41,17 +43,8 @@ fn run_records(pool: &mut [u64], start: RegisterMap, records: &[u64]) -> Registe
     let mut map = start;
     let mut j = 0;
     while j < count {
-        let at = 6 * j;
-        map = lower_record::lower_record(
-            pool,
-            map,
-            records[at],
-            records[at + 1],
-            records[at + 2],
-            records[at + 3],
-            records[at + 4],
-            records[at + 5],
-        );
+        let c = record_at(records, j);
+        map = lower_record(pool, map, c.operation, c.arrangement, c.i, c.d, c.n, c.m);
         j += 1;
     }
     map

@@ -1,14 +1,33 @@
 // The refusals of a block (document 01, "The numbers"). A record is six numbers: operation, arrangement, i, d, n, m; numbers after the
 // last whole record are not read. The Rust has no counterpart: it lowers one instruction at a time.
+use neon::Instruction;
 ghost use mathlib.Core.Path.{_≡_};
+ghost use Prim.Native.Nat.{_+_, _*_, _≤_};
+ghost use lib.ListN.{length};
 ghost use Rattle.neon.specs.Refusal.{recordNumber, recordsRefusal, sizeNumber, blockRefusal};
 ghost use Rattle.pool.specs.Node.{places, placesIn};
-ghost use Rattle.block_check.specs.Records.{instruction, recordsOf, Refuses};
+ghost use Rattle.block_check.specs.Records.{instruction, recordAt, recordsOf, Refuses};
 
 // 0 and 0, or the number and the position that refuse a block.
 pub struct Refused {
     pub number: u64,
     pub position: usize,
+}
+
+// Record j.
+pub fn record_at(records: &[u64], j: usize) -> Instruction
+    requires { ⌜ 6 * j + 6 ≤ length (now records) ⌝ }
+    ensures { λ r. ⌜ r ≡ recordAt (now (records .entry)) j ⌝ }
+{
+    let at = 6 * j;
+    Instruction {
+        operation: records[at],
+        arrangement: records[at + 1],
+        i: records[at + 2],
+        d: records[at + 3],
+        n: records[at + 4],
+        m: records[at + 5],
+    }
 }
 
 // 0, or the first of 2, 3, 4 and 7 that refuses a record.
@@ -44,15 +63,8 @@ fn records_refusal(records: &[u64]) -> Refused
     let count = records.len() / 6;
     let mut j = 0;
     while j < count {
-        let at = 6 * j;
-        let number = record_number(
-            records[at],
-            records[at + 1],
-            records[at + 2],
-            records[at + 3],
-            records[at + 4],
-            records[at + 5],
-        );
+        let c = record_at(records, j);
+        let number = record_number(c.operation, c.arrangement, c.i, c.d, c.n, c.m);
         if 0 < number {
             return Refused {
                 number,

@@ -1,15 +1,19 @@
--- The words of a block's answer, put one by one to the front of a list. Assumes nothing.
+-- The words of a block's answer, put one by one to the front of a list; and whether they have room. Assumes nothing.
 use mathlib.Core.Path.{_≡_, refl, sym, ap, _∙_}
+use mathlib.Core.Bool.{Bool, true, false}
 use mathlib.Core.List.{List, [], _∷_, _++_, append-assoc}
 use Prim.Native.Nat.{ℕ, zero, suc, _+_, _≤_, _<_}
 use native.Mathlib.Nat.{add-zero, zero-add, add-suc, suc-add}
 use native.Mathlib.Omega.{arith}
+use lib.Dec.{leb}
 use lib.ListN.{length, set, drop, length-append, length-set}
 use lib.Seq.{sets, sets-eq}
+use borrow.Author.Tests.{le-leb, lt-leb, leb-true}
+use Rattle.facts.specs.Refuse.{unless}
 use Rattle.register_map.specs.declared.RegisterMap.{RegisterMap}
 use Rattle.register_map.specs.Map.{nodeOf}
 use Rattle.digits.proofs.Laws.{sets-append}
-use Rattle.block_results.specs.Words.{nodesOf, put}
+use Rattle.block_results.specs.Words.{nodesOf, put, resultsNumber}
 
 nodes-length : (m : RegisterMap) (r k : ℕ) → length (nodesOf m r k) ≡ k
 unfolding nodesOf
@@ -50,3 +54,22 @@ put-all l m position h =
     ∙ sets-eq words l 0 (omega (arith, long))
     ∙ ap (λ (j : ℕ). words ++ drop j l) (zero-add (length words) ∙ long)
     ∙ append-assoc ns (m .count ∷ position ∷ []) (drop 34 l)
+
+-- ---- whether there are words enough
+
+module _ (lent : List ℕ) where
+  pub too-few : length lent < 34 → 11 ≡ resultsNumber lent
+  unfolding resultsNumber
+  too-few h = rw (lt-leb 34 (length lent) h)
+
+  pub enough : 34 ≤ length lent → 0 ≡ resultsNumber lent
+  unfolding resultsNumber
+  enough h = rw (le-leb 34 (length lent) h)
+
+  pub accepted : resultsNumber lent ≤ 0 → 34 ≤ length lent
+  unfolding resultsNumber
+  accepted h = go (leb 34 (length lent)) refl h
+    where
+      go : (b : Bool) → leb 34 (length lent) ≡ b → unless b 11 0 ≤ 0 → 34 ≤ length lent
+      go true e z = leb-true _ _ e
+      go false e z = absurd (omega arith)

@@ -3,7 +3,23 @@ use register_map::RegisterMap;
 ghost use mathlib.Core.Path.{_≡_};
 ghost use Prim.Native.Nat.{_≤_};
 ghost use lib.ListN.{length};
-ghost use Rattle.block_results.specs.Words.{put};
+ghost use Rattle.block_results.specs.Words.{resultsNumber, put};
+
+// The words that an answer takes: 32 nodes, the count and the position.
+const RESULTS: usize = 34;
+
+// No number of document 01: too few words are lent for the results.
+const SHORT_RESULTS: u64 = 11;
+
+// 0, or the number that refuses a slice for the results.
+pub fn results_number(results: &[u64]) -> u64
+    ensures { λ r. ⌜ r ≡ resultsNumber (now (results .entry)) ⌝ }
+{
+    if results.len() < RESULTS {
+        return SHORT_RESULTS;
+    }
+    0
+}
 
 // Writes the nodes of the 32 registers, the count and the position.
 pub fn put_results(results: &mut [u64], map: RegisterMap, position: usize)

@@ -1,6 +1,7 @@
 // The public operations for C and Rust to link, by `rt staticlib exports`; include/neon_terms.h declares them. A slice is a
 // pointer and a length. No call requires anything of its numbers: what it cannot do it refuses by number.
 use block_results::put_results;
+use block_results::results_number;
 ghost use mathlib.Core.Path.{_≡_};
 ghost use Rattle.neon.specs.Form.{formCodeAt};
 ghost use Rattle.pool.specs.Rules.{poolOk};
@@ -9,12 +10,6 @@ ghost use Rattle.text_length.specs.Answer.{Measured};
 ghost use Rattle.instruction.specs.Lowering.{Answers};
 ghost use Rattle.block_check.specs.Records.{recordsOf};
 ghost use Rattle.exports.specs.Results.{BlockGiven};
-
-// The words that `neon_lower_block` gives back: 32 nodes, the count and the position.
-const RESULTS: usize = 34;
-
-// No number of document 01: fewer than 34 words are lent for the results.
-const SHORT_RESULTS: u64 = 11;
 
 // The form code of crate `neon`: what an operation reads at an arrangement, and 0 where there is no such form.
 #[no_mangle]
@@ -58,8 +53,9 @@ pub extern "C" fn neon_lower_instruction(
 pub extern "C" fn neon_lower_block(pool: &mut [u64], records: &[u64], results: &mut [u64]) -> u64
     ensures { λ r. ⌜ BlockGiven (now (pool .entry)) (recordsOf (now (records .entry))) (now (results .entry)) (now (pool .exit)) (now (results .exit)) r ⌝ }
 {
-    if results.len() < RESULTS {
-        return SHORT_RESULTS;
+    let short = results_number(results);
+    if 0 < short {
+        return short;
     }
     let answer = block::lower_block(pool, records);
     let map = answer.map;
