@@ -65,7 +65,7 @@ fn example() {
     refused(&pool, 7, 6, 53, 9);
 }
 
-// Chains of cuts of five characters each, the deepest that a buffer of 100,000 bytes takes, on a thread of 2 MB; and how
+// Chains of cuts of five characters each, the deepest that a buffer of 140,000 bytes takes, on a thread of 2 MB; and how
 // long it takes to refuse a term of 2^65,534 characters and more.
 fn two_megabytes() {
     let mut cuts: Vec<u64> = vec![1 | 128 << 16, 0, 0, 0];
@@ -74,10 +74,10 @@ fn two_megabytes() {
         cuts.extend([16 | 1 << 16, n, 0, 0]);
         sums.extend([3 | 128 << 16, n | n << 16, 0, 0]);
     }
-    written(&cuts, 65535, 19999, 100_000, &("v0".to_string() + &"[0:0]".repeat(19999)));
-    refused(&cuts, 65535, 65534, 100_000, 9);
+    written(&cuts, 65535, 27999, 140_000, &("v0".to_string() + &"[0:0]".repeat(27999)));
+    refused(&cuts, 65535, 65534, 140_000, 9);
     let start = std::time::Instant::now();
-    refused(&sums, 65535, 65534, 100_000, 9);
+    refused(&sums, 65535, 65534, 140_000, 9);
     let milliseconds = start.elapsed().as_secs_f64() * 1000.0;
     assert!(milliseconds < 100.0, "{milliseconds} ms");
     println!("texts: one of 2^65,534 characters and more is refused in {milliseconds:.2} ms");

@@ -8,7 +8,8 @@ ghost use Prim.Native.Nat.{_<_};
 
 const NODES: usize = 65535;
 
-// Word 1 of a node, by a number for the operands that are the node before it. The others are nodes 0 and 1.
+// Word 1 of a node, by a number for the operands that are the node before it: 0 for A, 1 for B, 2 for both; 3 for B
+// and 4 for C, where A is node 1; 5 for A, where B is node 1. The others are node 0.
 fn operands(which: u64, last: u64) -> u64
     requires { ⌜ last < 65536 ⌝ }
 {
@@ -22,7 +23,7 @@ fn operands(which: u64, last: u64) -> u64
     }
 }
 
-// An Extract ends at bit 0.
+// Writes node n. An Extract has lo 0, and hi by its width.
 fn put_node(pool: &mut [u64; 262140], n: usize, kind: u64, width: u64, word: u64)
     requires { ⌜ (n < 65535) × (kind < 10000) × (width < 10000) ⌝ }
 {
@@ -153,6 +154,7 @@ fn turn(pool: &mut [u64; 262140], buffer: &mut [u8; 1441792]) -> bool {
 fn main() {
     let mut pool = [0u64; 262140];
     let mut buffer = [0u8; 1441792];
+    // at most so many chains, so that the loop ends
     let mut left: u64 = 1000;
     while left > 0 {
         if !turn(&mut pool, &mut buffer) {

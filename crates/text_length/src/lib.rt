@@ -45,8 +45,8 @@ fn less_single(p: &[u64], n: Node, k: u64, b: usize) -> usize
     less(b, decimal_length(width_of(p, n)) + 8)
 }
 
-// The same for all of a node's text. Its own characters are taken off before its operands', so a text of any length
-// is given up once b is used up.
+// What is left of b when the length of a node's text is taken off it, and 0 where the text is longer. Its own characters
+// are taken off before its operands', so a text of any length is given up once b is used up.
 pub fn measure(p: &[u64], n: Node, b: usize) -> usize
     requires { ⌜ Ready (now p) (n .0) ⌝ }
     ensures { λ r. ⌜ r ≡ b - length (text (now (p .entry)) (n .0)) ⌝ }

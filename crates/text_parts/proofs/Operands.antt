@@ -29,7 +29,7 @@ valid-less ws zero (suc j) l v = absurd (not-suc-le-zero l)
 valid-less ws (suc k) j l v =
     ⊎-elim (λ e. subst (λ (m : ℕ). Valid ws m) (sym e) v) (λ h. valid-less ws k j (le-of-suc-le-suc h) (and-both _ _ v .0)) (eq-or-lt-of-le l)
 
-pub ready-less : {ws : List ℕ} {n m : ℕ} → m < n → Ready ws n → Ready ws m
+ready-less : {ws : List ℕ} {n m : ℕ} → m < n → Ready ws n → Ready ws m
 ready-less {ws} {n} {m} l r = record { inside = omega (arith, r .inside); valid = valid-less ws (n + 1) (m + 1) (omega arith) (r .valid) }
 
 pub ready-of : (ws : List ℕ) (count n : ℕ) → Valid ws count → n < count → 4 * count ≤ length ws → Ready ws n
@@ -93,7 +93,7 @@ module _ (n : ℕ) (k : Cell) (A B C : ℕ) where
 
 -- ---- nodes of a pool
 
-pub kind-below : (ws : List ℕ) (n : ℕ) → Ready ws n → kindNumber ws n < 20
+kind-below : (ws : List ℕ) (n : ℕ) → Ready ws n → kindNumber ws n < 20
 kind-below ws n r = go (ltb (kindNumber ws n) 20) refl
   where
     go : (t : Bool) → ltb (kindNumber ws n) 20 ≡ t → kindNumber ws n < 20
@@ -104,7 +104,7 @@ none : (κ : ℕ) → κ ≤ 0 → kindAt κ ≡ bad
 unfolding kindAt kinds
 none κ l = let e : κ ≡ 0 = omega arith in rw e
 
-pub kind-above : (ws : List ℕ) (n : ℕ) → Ready ws n → 1 ≤ kindNumber ws n
+kind-above : (ws : List ℕ) (n : ℕ) → Ready ws n → 1 ≤ kindNumber ws n
 kind-above ws n r = go (ltb 0 (kindNumber ws n)) refl
   where
     go : (t : Bool) → ltb 0 (kindNumber ws n) ≡ t → 1 ≤ kindNumber ws n
@@ -120,11 +120,11 @@ most ws (suc f) n l r =
     (λ h. rw (seen ws n (opA ws n) h) (most ws f (opA ws n) (omega arith) (ready-less h r)))
     (kindNumber ws n) (kind-below ws n r) (rules ws n r)
 
-pub width-most : (ws : List ℕ) (n : ℕ) → Ready ws n → widthAt ws n ≤ 129
+width-most : (ws : List ℕ) (n : ℕ) → Ready ws n → widthAt ws n ≤ 129
 width-most ws n r = most ws (suc n) n (omega arith) r
 
 -- a node with no width is a comparison
-pub condition-kind : (ws : List ℕ) (n : ℕ) → Ready ws n → widthAt ws n ≡ 0 → (12 ≤ kindNumber ws n) × (kindNumber ws n < 15)
+condition-kind : (ws : List ℕ) (n : ℕ) → Ready ws n → widthAt ws n ≡ 0 → (12 ≤ kindNumber ws n) × (kindNumber ws n < 15)
 unfolding decode
 condition-kind ws n r z = (go (ltb (kindNumber ws n) 12) refl, up (ltb (kindNumber ws n) 15) refl)
   where
@@ -151,7 +151,7 @@ pub record Condition (ws : List ℕ) (n m : ℕ) : Type 0 where
   pub ready : Ready ws m
   pub flat : widthAt ws m ≡ 0
 
--- 16, 18 and 19
+-- 16, or 18 and more
 pub record Single (k : ℕ) : Type 0 where
   pub from : 16 ≤ k
   pub no-concat : k ≡ 17 → ⊥

@@ -15,6 +15,7 @@ use Rattle.node_fields.specs.Fields.{kindNumber}
 unfoldable pub text : List ℕ → ℕ → List ℕ
 text ws n = display (unfoldAt ws n)
 
+-- what stands before the operands
 abbrev pub openOf : Kind → List ℕ
 openOf bad = []
 openOf var = []
@@ -30,12 +31,14 @@ openOf sext = bytes "sext("
 unfoldable pub openText : ℕ → List ℕ
 openText k = openOf (kindAt k)
 
+-- the bits of an Extract, and the width of an extension
 abbrev pub rangeText : ℕ → ℕ → List ℕ
 rangeText hi lo = bytes "[" ++ (decimal hi ++ (bytes ":" ++ (decimal lo ++ bytes "]")))
 
 abbrev pub widthText : ℕ → List ℕ
 widthText w = bytes ", " ++ (decimal w ++ bytes ")")
 
+-- what stands after an only operand; x and y are words 2 and 3, w is the width
 abbrev pub endOf : Kind → (x y w : ℕ) → List ℕ
 endOf bad x y w = []
 endOf var x y w = []
@@ -51,7 +54,7 @@ endOf sext x y w = widthText w
 unfoldable pub endText : List ℕ → ℕ → List ℕ
 endText ws n = endOf (kindAt (kindNumber ws n)) (wordAt ws n 2) (wordAt ws n 3) (widthAt ws n)
 
--- Extract and the extensions have one operand
+-- of the kinds with operands, 3 to 19, Extract and the extensions have one
 abbrev pub single : ℕ → Bool
 single k = eqb k 16 || leb 18 k
 

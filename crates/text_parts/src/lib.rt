@@ -10,8 +10,7 @@ use pool::Node;
 ghost use mathlib.Core.Path.{_≡_};
 ghost use mathlib.Core.Bool.{true};
 ghost use mathlib.Core.List.{_∷_, _++_};
-ghost use Prim.Native.Nat.{_+_, _*_, _≤_, _<_};
-ghost use lib.ListN.{length};
+ghost use Prim.Native.Nat.{_≤_, _<_};
 ghost use Rattle.terms.specs.Display.{bytes, decimal, hexadecimal};
 ghost use Rattle.pool.specs.Node.{wide};
 ghost use Rattle.node_fields.specs.Fields.{kindNumber};
@@ -28,12 +27,12 @@ fn put_numbered(c: u8, x: u64, buf: &mut [u8], at: usize) -> usize
 }
 
 // A constant's value.
-fn put_value(low: u64, high: u64, buf: &mut [u8], at: usize) -> usize
-    requires { ⌜ Room (now buf) at (bytes "0x" ++ hexadecimal (wide low high)) ⌝ }
-    ensures { λ r. ⌜ Wrote (now (buf .entry)) at (bytes "0x" ++ hexadecimal (wide low high)) r (now (buf .exit)) ⌝ }
+fn put_value(lo: u64, hi: u64, buf: &mut [u8], at: usize) -> usize
+    requires { ⌜ Room (now buf) at (bytes "0x" ++ hexadecimal (wide lo hi)) ⌝ }
+    ensures { λ r. ⌜ Wrote (now (buf .entry)) at (bytes "0x" ++ hexadecimal (wide lo hi)) r (now (buf .exit)) ⌝ }
 {
     let i = put(b"0x", buf, at);
-    put_hex(low, high, buf, i)
+    put_hex(lo, hi, buf, i)
 }
 
 // Var and Const, which have no operand.
@@ -81,6 +80,7 @@ pub fn put_end(p: &[u64], n: Node, k: u64, buf: &mut [u8], at: usize) -> usize
     ensures { λ r. ⌜ Wrote (now (buf .entry)) at (endText (now (p .entry)) (n .0)) r (now (buf .exit)) ⌝ }
 {
     if k == 16 {
+        // word 2 is hi, word 3 lo
         let hi = low(p, n);
         let lo = high(p, n);
         let i = put_numbered(b'[', hi, buf, at);
@@ -90,7 +90,7 @@ pub fn put_end(p: &[u64], n: Node, k: u64, buf: &mut [u8], at: usize) -> usize
     put_width(width_of(p, n), buf, at)
 }
 
-// Has a kind with operands one only? Extract and the extensions do.
+// Whether a kind that has operands has only one: Extract and the extensions.
 pub fn is_single(k: u64) -> bool
     ensures { λ r. ⌜ r ≡ single k ⌝ }
 {

@@ -50,7 +50,8 @@ fn write_term(p: &&[u64], n: Node, buf: &mut &mut [u8], at: usize) -> usize
     put(b")", *buf, m)
 }
 
-// Writes a condition: a comparison of two vector terms.
+// Writes a condition: a comparison of two vector terms. The kind is read where it is wanted, and so takes no room in the
+// frame during the first call.
 fn write_condition(p: &&[u64], n: Node, buf: &mut &mut [u8], at: usize) -> usize
     requires { ⌜ Ready (now (now p)) (n .0) × (widthAt (now (now p)) (n .0) ≡ 0) ⌝ }
     requires { ⌜ Room (now (now buf)) at (text (now (now p)) (n .0)) ⌝ }

@@ -1,6 +1,3 @@
-use mathlib.Core.Path.{_≡_}
-use mathlib.Core.Bool.{true}
-use Prim.Native.Nat.{_≤_}
 use native.Mathlib.Omega.{arith}
 use borrow.Author.Needs.{needs}
 use Rattle.text_parts.proofs.Operands.{ite-a, ite-b, ite-c, pair-a, pair-b, single-a}
