@@ -22,7 +22,8 @@ use Rattle.pool.proofs.Laws.{grown-refl, grown-trans, cell-kept, reach-kept, pa
 use Rattle.register_map.specs.declared.RegisterMap.{RegisterMap}
 use Rattle.register_map.specs.Map.{nodesFrom, firstMap, written}
 use Rattle.register_map.proofs.Nodes.{first-is}
-use Rattle.block_check.specs.Records.{recordAt, recordsFrom, recordsOf}
+use Rattle.record_check.specs.Record.{recordAt}
+use Rattle.block_check.specs.Records.{recordsFrom, recordsOf}
 use Rattle.block_check.proofs.Refusals.{from-length, block-legal, legal-at}
 use Rattle.lower_record.specs.Step.{MapOk, MapIs, Added, Steps}
 use Rattle.block.specs.Block.{VarAt, Lowered, Accepted, Started, Runs}

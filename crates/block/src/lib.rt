@@ -1,6 +1,6 @@
 // A block of records, lowered into a new pool (document 01, "Pool"). The Rust has no counterpart: it lowers one instruction at a time.
-use block_check::record_at;
 use lower_record::lower_record;
+use record_check::record_at;
 use register_map::RegisterMap;
 ghost use mathlib.Core.Path.{_≡_};
 ghost use Prim.Native.Nat.{_*_, _/_};

@@ -1,6 +1,6 @@
--- The refusals of a record and of records in order. Assumes nothing.
-use mathlib.Core.Path.{_≡_, refl, sym, ap, subst, _∙_}
-use mathlib.Core.Bool.{Bool, true, false, cond, _&&_}
+-- The refusals of records in order and of a block. Assumes nothing.
+use mathlib.Core.Path.{_≡_, refl, ap, subst}
+use mathlib.Core.Bool.{Bool, true, false, cond}
 use mathlib.Core.List.{List, [], _∷_}
 use Prim.Native.Nat.{ℕ, zero, suc, _+_, _-_, _*_, _/_, _≤_, _<_}
 use native.Mathlib.Omega.{arith}
@@ -11,47 +11,10 @@ use lib.ListN.{length}
 use borrow.Author.Tests.{le-leb, lt-leb, eq-eqb, ne-eqb, eqb-true, eqb-false, leb-true}
 use Rattle.facts.specs.Refuse.{unless}
 use Rattle.neon.specs.declared.Instruction.{Instruction}
-use Rattle.neon.specs.Op.{opAt, arrangementAt, isOperation, isArrangement, laneBits}
-use Rattle.neon.specs.Form.{hasForm, hasSecond, least, most}
-use Rattle.neon.specs.Refusal.{formNumber, mostM, registersOk, recordNumber, Legal, AllLegal, refusal, recordsRefusal, sizeNumber, blockRefusal}
-use Rattle.neon.proofs.Legal.{m-le, form-rest, form-first}
-use Rattle.pool.specs.Node.{placesIn}
-use Rattle.block_check.specs.Records.{recordAt, recordsFrom, recordsOf}
-
--- ---- one record
-
-module _ (c : Instruction) where
-  -- refused for its form
-  pub by-form : (k : ℕ) → 0 < k → k ≡ formNumber (c .operation) (c .arrangement) (c .i) 0 → k ≡ recordNumber c
-  unfolding recordNumber
-  by-form k h e = e ∙ form-first (c .operation) (c .arrangement) (c .i) _ (λ z. omega (arith, e, z))
-
-  -- the form is accepted: the registers decide
-  pub by-registers : (k : ℕ) (b : Bool) → 0 ≡ formNumber (c .operation) (c .arrangement) (c .i) 0 → registersOk c ≡ b → unless b 7 0 ≡ k → k ≡ recordNumber c
-  unfolding recordNumber
-  by-registers k b e g h = sym (form-rest (c .operation) (c .arrangement) (c .i) _ (sym e) ∙ ap (λ (t : Bool). unless t 7 0) g ∙ h)
-
-  pub bad-d : 31 < c .d → registersOk c ≡ false
-  bad-d h = rw (lt-leb (c .d) 31 h)
-
-  pub bad-n : c .d ≤ 31 → 31 < c .n → registersOk c ≡ false
-  bad-n p h = rw (le-leb (c .d) 31 p, lt-leb (c .n) 31 h)
-
-  pub bad-m : c .d ≤ 31 → c .n ≤ 31 → 31 < c .m → registersOk c ≡ false
-  bad-m p q h =
-      let o = opAt (c .operation) in
-      let v = arrangementAt (c .arrangement) in
-      rw (le-leb (c .d) 31 p, le-leb (c .n) 31 q, lt-leb (c .m) (mostM o v) (omega (arith, m-le o v)))
-
-  -- with a second source, and without one
-  pub all-ok : c .d ≤ 31 → c .n ≤ 31 → c .m ≤ 31 → true ≡ hasSecond (opAt (c .operation)) → registersOk c ≡ true
-  all-ok p q r s = rw (le-leb (c .d) 31 p, le-leb (c .n) 31 q, ← s, le-leb (c .m) 31 r)
-
-  pub some-m : c .d ≤ 31 → c .n ≤ 31 → 0 < c .m → false ≡ hasSecond (opAt (c .operation)) → registersOk c ≡ false
-  some-m p q r s = rw (le-leb (c .d) 31 p, le-leb (c .n) 31 q, ← s, lt-leb (c .m) 0 r)
-
-  pub no-m : c .d ≤ 31 → c .n ≤ 31 → c .m ≤ 0 → false ≡ hasSecond (opAt (c .operation)) → registersOk c ≡ true
-  no-m p q r s = rw (le-leb (c .d) 31 p, le-leb (c .n) 31 q, ← s, le-leb (c .m) 0 r)
+use Rattle.neon.specs.Refusal.{reserve, mostRecords, recordNumber, Legal, AllLegal, refusal, recordsRefusal, sizeNumber, blockRefusal}
+use Rattle.pool.specs.Node.{none, placesIn}
+use Rattle.record_check.specs.Record.{recordAt}
+use Rattle.block_check.specs.Records.{recordsFrom, recordsOf}
 
 -- ---- records in order
 
@@ -86,17 +49,17 @@ all-left flat = ap (λ (n : ℕ). recordsRefusal 0 (recordsFrom flat 0 n)) {x = 
 -- ---- a block
 
 module _ (words count : ℕ) where
-  pub too-long : 63 < count → 8 ≡ sizeNumber (placesIn words) count
+  pub too-long : mostRecords < count → 8 ≡ sizeNumber (placesIn words) count
   unfolding sizeNumber
-  too-long h = rw (lt-leb count 63 h)
+  too-long h = rw (lt-leb count mostRecords h)
 
-  pub no-room : count ≤ 63 → words / 4 < 32 + 1024 * count → 6 ≡ sizeNumber (placesIn words) count
+  pub no-room : count ≤ mostRecords → words / 4 < 32 + reserve * count → 6 ≡ sizeNumber (placesIn words) count
   unfolding sizeNumber
-  no-room h l = rw (le-leb count 63 h, lt-leb (32 + 1024 * count) (placesIn words) (omega (arith, min-le-left (words / 4) 65535)))
+  no-room h l = rw (le-leb count mostRecords h, lt-leb (32 + reserve * count) (placesIn words) (omega (arith, min-le-left (words / 4) none)))
 
-  pub has-room : count ≤ 63 → 32 + 1024 * count ≤ words / 4 → 0 ≡ sizeNumber (placesIn words) count
+  pub has-room : count ≤ mostRecords → 32 + reserve * count ≤ words / 4 → 0 ≡ sizeNumber (placesIn words) count
   unfolding sizeNumber
-  has-room h l = rw (le-leb count 63 h, le-leb (32 + 1024 * count) (placesIn words) (le-min l (omega arith)))
+  has-room h l = rw (le-leb count mostRecords h, le-leb (32 + reserve * count) (placesIn words) (le-min l (omega arith)))
 
 module _ (p : ℕ) (cs : List Instruction) where
   -- refused for its size
@@ -111,20 +74,6 @@ module _ (p : ℕ) (cs : List Instruction) where
 
 -- ---- what is accepted
 
-form-zero : (a b c : Bool) (rest : ℕ) → unless a 2 (unless b 3 (unless c 4 rest)) ≡ 0 → unless a 2 (unless b 3 (unless c 4 0)) ≡ 0
-form-zero true true true rest e = refl
-form-zero true true false rest e = e
-form-zero true false c rest e = e
-form-zero false b c rest e = e
-
--- a record that is accepted has a form that is
-pub form-legal : (c : Instruction) → Legal c → formNumber (c .operation) (c .arrangement) (c .i) 0 ≡ 0
-unfolding recordNumber
-form-legal c e =
-    let o = opAt (c .operation) in
-    let v = arrangementAt (c .arrangement) in
-    form-zero (isOperation (c .operation)) (isArrangement (c .arrangement) && hasForm o v) (leb (least o) (c .i) && leb (c .i) (most o (laneBits v))) _ e
-
 pub all-legal : (p : ℕ) (cs : List Instruction) → recordsRefusal p cs .number ≡ 0 → AllLegal cs
 unfolding recordsRefusal
 all-legal p [] e = tt
@@ -137,22 +86,22 @@ all-legal p (c ∷ cs) e = go (λ z. all-legal (suc p) cs z) (eqb (recordNumber 
     go f false q z = absurd (eqb-false (recordNumber c) 0 q z)
 
 -- a size that is accepted
-size-legal : (p n : ℕ) → sizeNumber p n ≡ 0 → (n ≤ 63) × (32 + 1024 * n ≤ p)
+size-legal : (p n : ℕ) → sizeNumber p n ≡ 0 → (n ≤ mostRecords) × (32 + reserve * n ≤ p)
 unfolding sizeNumber
-size-legal p n e = go (leb n 63) (leb (32 + 1024 * n) p) refl refl e
+size-legal p n e = go (leb n mostRecords) (leb (32 + reserve * n) p) refl refl e
   where
-    go : (a b : Bool) → leb n 63 ≡ a → leb (32 + 1024 * n) p ≡ b → unless a 8 (unless b 6 0) ≡ 0 → (n ≤ 63) × (32 + 1024 * n ≤ p)
+    go : (a b : Bool) → leb n mostRecords ≡ a → leb (32 + reserve * n) p ≡ b → unless a 8 (unless b 6 0) ≡ 0 → (n ≤ mostRecords) × (32 + reserve * n ≤ p)
     go true true q r z = (leb-true _ _ q, leb-true _ _ r)
     go true false q r z = absurd (omega arith)
     go false b q r z = absurd (omega arith)
 
 -- a block that is accepted: its records fit and are accepted
-pub block-legal : (p : ℕ) (cs : List Instruction) → blockRefusal p cs .number ≡ 0 → (length cs ≤ 63) × (32 + 1024 * length cs ≤ p) × AllLegal cs
+pub block-legal : (p : ℕ) (cs : List Instruction) → blockRefusal p cs .number ≡ 0 → (length cs ≤ mostRecords) × (32 + reserve * length cs ≤ p) × AllLegal cs
 unfolding blockRefusal
 block-legal p cs e = go (eqb (sizeNumber p (length cs)) 0) refl e
   where
     go : (b : Bool) → eqb (sizeNumber p (length cs)) 0 ≡ b → cond b (recordsRefusal 0 cs) (refusal (sizeNumber p (length cs)) 0) .number ≡ 0
-        → (length cs ≤ 63) × (32 + 1024 * length cs ≤ p) × AllLegal cs
+        → (length cs ≤ mostRecords) × (32 + reserve * length cs ≤ p) × AllLegal cs
     go true q z = let s = size-legal p (length cs) (eqb-true _ 0 q) in (s .0, s .1, all-legal 0 cs z)
     go false q z = absurd (eqb-false _ 0 q z)
 

@@ -9,7 +9,7 @@ ghost use Prim.Native.Nat.{_*_};
 ghost use lib.ListN.{length};
 ghost use Rattle.neon.specs.Refusal.{reserve, Legal, AllLegal};
 ghost use Rattle.pool.specs.Growth.{Room};
-ghost use Rattle.block_check.specs.Records.{instruction};
+ghost use Rattle.record_check.specs.Record.{instruction};
 ghost use Rattle.lower_record.specs.Step.{MapOk, Steps};
 ghost use Rattle.block.specs.Block.{Runs, Answered};
 ghost use Rattle.blocks.specs.Lent.{answer};

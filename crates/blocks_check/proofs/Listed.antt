@@ -10,7 +10,8 @@ use borrow.Author.Tests.{eq-eqb, ne-eqb}
 use Rattle.neon.specs.declared.Instruction.{Instruction}
 use Rattle.neon.specs.Refusal.{Refusal, recordNumber, refusal, recordsRefusal, sizeNumber, blockRefusal}
 use Rattle.block_check.specs.declared.Refused.{Refused}
-use Rattle.block_check.specs.Records.{instruction, Refuses}
+use Rattle.record_check.specs.Record.{instruction}
+use Rattle.block_check.specs.Records.{Refuses}
 use Rattle.block_check.proofs.Refusals.{by-size, by-records}
 
 -- what stands past the end of a list

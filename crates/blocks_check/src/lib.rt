@@ -1,4 +1,4 @@
-// The refusals of a block that comes as a list of records. block_check has the test of one record.
+// The refusals of a block that comes as a list of records. record_check has the test of one record.
 use block_check::Refused;
 use neon::Instruction;
 ghost use Rattle.neon.specs.Refusal.{blockRefusal};
@@ -19,7 +19,7 @@ pub fn block_refusal(words: usize, records: &[Instruction]) -> Refused
     let mut position = 0;
     while position < records.len() {
         let r = records[position];
-        let number = block_check::record_number(r.operation, r.arrangement, r.i, r.d, r.n, r.m);
+        let number = record_check::record_number(r.operation, r.arrangement, r.i, r.d, r.n, r.m);
         if 0 < number {
             return Refused { number, position };
         }

@@ -1,6 +1,6 @@
 -- The test of a field, character by character. Assumes nothing.
-use mathlib.Core.Path.{_≡_, refl, sym, ap, _∙_}
-use mathlib.Core.Bool.{Bool, true, false, _&&_}
+use mathlib.Core.Path.{_≡_, sym, ap, _∙_}
+use mathlib.Core.Bool.{_&&_, and-assoc, and-true}
 use mathlib.Core.List.{List, [], _∷_}
 use Prim.Native.Nat.{ℕ, suc, _+_, _≤_, _<_}
 use native.Mathlib.Omega.{arith}
@@ -9,10 +9,6 @@ use lib.ListN.{length, getD, take, drop}
 use lib.Seq.{drop-cons}
 use Rattle.columns.specs.Columns.{columns, fieldAt, same, isField}
 use Rattle.columns.proofs.Characters.{characters, columns-are}
-
-pub and-true : (b : Bool) → (b && true) ≡ b
-and-true true = refl
-and-true false = refl
 
 -- 4 characters, one by one
 pub chars : (l : List ℕ) (at : ℕ) → at + 4 ≤ length l
@@ -25,16 +21,16 @@ chars l at h =
     ∙ ap (λ (r : List ℕ). getD l at 0 ∷ getD l (at + 1) 0 ∷ getD l (at + 2) 0 ∷ take 1 r) (step (at + 3) (at + 4) (omega arith) (omega arith))
 
 -- the test of 4 characters against w, a number in columns
-tested : (a b c d : ℕ) (w : List ℕ) (x : ℕ) → w ≡ characters x → same (a ∷ b ∷ c ∷ d ∷ []) w
-    ≡ (eqb a (getD w 0 0) && (eqb b (getD w 1 0) && (eqb c (getD w 2 0) && (eqb d (getD w 3 0) && true))))
-tested a b c d w x e = rw e
+tested : (a b c d : ℕ) (w : List ℕ) (x : ℕ) → w ≡ characters x
+    → same (a ∷ b ∷ c ∷ d ∷ []) w ≡ (eqb a (getD w 0 0) && eqb b (getD w 1 0) && eqb c (getD w 2 0) && eqb d (getD w 3 0))
+tested a b c d w x e = rw e (simp (and-assoc, and-true))
 
 module _ (line : List ℕ) (at : ℕ) (w : List ℕ) (x : ℕ) (h : at + 4 ≤ length line) (is : x ≡ fieldAt line at) (low : x < 10000) (e : w ≡ columns x) where
   pub field-test : isField line at
       ≡ (eqb (getD line at 0) (getD w 0 0)
-      && (eqb (getD line (at + 1) 0) (getD w 1 0)
-      && (eqb (getD line (at + 2) 0) (getD w 2 0)
-      && (eqb (getD line (at + 3) 0) (getD w 3 0) && true))))
+      && eqb (getD line (at + 1) 0) (getD w 1 0)
+      && eqb (getD line (at + 2) 0) (getD w 2 0)
+      && eqb (getD line (at + 3) 0) (getD w 3 0))
   unfolding isField
   field-test =
       ap (λ (z : ℕ). same (take 4 (drop at line)) (columns z)) (sym is)

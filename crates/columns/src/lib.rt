@@ -10,13 +10,10 @@ ghost use Rattle.columns.specs.Columns.{columns, characterOf, shown, fie
 fn digit(b: u8) -> u64
     ensures { λ r. ⌜ (r ≡ shown b) × (r ≤ 9) ⌝ }
 {
-    if b < 48 {
-        return 0;
+    if (48 <= b) & (b <= 57) {
+        return (b - 48) as u64;
     }
-    if 57 < b {
-        return 0;
-    }
-    (b - 48) as u64
+    0
 }
 
 // The number that a field shows.
@@ -61,16 +58,7 @@ pub fn is_field(line: &[u8], at: usize) -> bool
     ensures { λ r. ⌜ r ≡ isField (now (line .entry)) at ⌝ }
 {
     let w = written(field(line, at));
-    if line[at] != w[0] {
-        return false;
-    }
-    if line[at + 1] != w[1] {
-        return false;
-    }
-    if line[at + 2] != w[2] {
-        return false;
-    }
-    line[at + 3] == w[3]
+    (line[at] == w[0]) & (line[at + 1] == w[1]) & (line[at + 2] == w[2]) & (line[at + 3] == w[3])
 }
 
 // Writes a number in columns.

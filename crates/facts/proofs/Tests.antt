@@ -1,13 +1,8 @@
 -- Tests that are joined. Assumes nothing.
-use mathlib.Core.Path.{_≡_, refl, sym, subst}
-use mathlib.Core.Bool.{Bool, true, false, _&&_}
+use mathlib.Core.Path.{_≡_, refl}
+use mathlib.Core.Bool.{Bool, true, false, _&&_, false≢true}
 use Prim.Native.Nat.{ℕ}
-use lib.Dec.{T}
 use Rattle.facts.specs.Refuse.{unless}
-
--- true is not false
-pub false≢true : false ≡ true → ⊥
-false≢true h = subst (λ (t : Bool). T t) (sym h) tt
 
 pub and-both : (a b : Bool) → (a && b) ≡ true → (a ≡ true) × (b ≡ true)
 and-both true b h = (refl, h)

@@ -1,7 +1,7 @@
 -- The tests of an instruction's refusals, in order. Assumes nothing.
 use Prim.Native.Nat.{ℕ, _+_, _-_, _*_, _/_, _≤_, _<_}
 use mathlib.Core.Path.{_≡_, refl, sym, subst, _∙_}
-use mathlib.Core.Bool.{Bool, true, false, not}
+use mathlib.Core.Bool.{Bool, true, false, not, _&&_}
 use mathlib.Core.List.{List}
 use native.Mathlib.Omega.{arith}
 use lib.Dec.{leb, ltb, eqb}
@@ -9,8 +9,8 @@ use lib.ListN.{length, getD}
 use borrow.Author.Tests.{leb-true, ltb-true, eqb-true, le-leb, lt-leb, lt-ltb, le-ltb, not-true, not-false}
 use Rattle.facts.specs.Refuse.{unless}
 use Rattle.facts.proofs.Tests.{and-both, passed}
-use Rattle.neon.specs.Op.{Op, opAt, Arrangement, arrangementAt, full, bitsIf, view}
-use Rattle.neon.specs.Form.{form, hasSecond, readsD, firstFull, secondFull, byElement, firstBits}
+use Rattle.neon.specs.Op.{Op, opAt, Arrangement, arrangementAt, full, bitsIf}
+use Rattle.neon.specs.Form.{form, hasSecond, readsD, firstFull, secondFull, byElement}
 use Rattle.neon.specs.Refusal.{formNumber, reserve}
 use Rattle.neon.proofs.Legal.{formed, form-rest, form-first}
 use Rattle.pool.specs.Node.{widthAt, places}
@@ -48,39 +48,13 @@ source-is ws count wanted w node h e =
 -- ---- the three of them
 
 module _ (ws : List ℕ) (count : ℕ) (o : Op) (v : Arrangement) (d n m : ℕ) where
-  pub sources-first : {f rd x : Bool} → f ≡ full v → rd ≡ readsD o v → x ≡ sourceOk ws count rd (bitsIf f) d → not x ≡ true → false ≡ sourcesOk ws count o v d n m
-  sources-first {x = x} e p q h = rw (sym q′) refl
-    where
-      q′ : false ≡ sourceOk ws count (readsD o v) (view v) d
-      q′ = sym (not-true x h) ∙ q ∙ rw (p, e)
-
-  pub sources-second : {f rd ff x y : Bool} → f ≡ full v → rd ≡ readsD o v → ff ≡ firstFull (form o .lanes) (full v) → x ≡ sourceOk ws count rd (bitsIf f) d → not x ≡ false
-      → y ≡ sourceOk ws count true (bitsIf ff) n
-      → not y ≡ true
-      → false ≡ sourcesOk ws count o v d n m
-  sources-second {x = x} {y = y} e p p2 q h q2 h2 = rw (sym q′, sym q2′) refl
-    where
-      q′ : true ≡ sourceOk ws count (readsD o v) (view v) d
-      q′ = sym (not-false x h) ∙ q ∙ rw (p, e)
-
-      q2′ : false ≡ sourceOk ws count true (firstBits o v) n
-      q2′ = sym (not-true y h2) ∙ q2 ∙ rw p2
-
-  pub sources-third : {f rd ff hs sf x y z : Bool} → f ≡ full v → rd ≡ readsD o v → ff ≡ firstFull (form o .lanes) (full v) → hs ≡ hasSecond o
+  pub sources-are : {f rd ff hs sf x y z : Bool} → f ≡ full v → rd ≡ readsD o v → ff ≡ firstFull (form o .lanes) (full v) → hs ≡ hasSecond o
       → sf ≡ secondFull (form o .lanes) (byElement o) (full v)
       → x ≡ sourceOk ws count rd (bitsIf f) d
-      → not x ≡ false
       → y ≡ sourceOk ws count true (bitsIf ff) n
-      → not y ≡ false
       → z ≡ sourceOk ws count hs (bitsIf sf) m
-      → z ≡ sourcesOk ws count o v d n m
-  sources-third {x = x} {y = y} e p p2 p3 p4 q h q2 h2 q3 = q3 ∙ rw (p3, p4, sym q′, sym q2′) refl
-    where
-      q′ : true ≡ sourceOk ws count (readsD o v) (view v) d
-      q′ = sym (not-false x h) ∙ q ∙ rw (p, e)
-
-      q2′ : true ≡ sourceOk ws count true (firstBits o v) n
-      q2′ = sym (not-false y h2) ∙ q2 ∙ rw p2
+      → (x && y && z) ≡ sourcesOk ws count o v d n m
+  sources-are e p p2 p3 p4 q q2 q3 = rw (q, q2, q3, e, p, p2, p3, p4)
 
 -- ---- the number
 

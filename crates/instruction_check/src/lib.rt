@@ -36,19 +36,15 @@ fn sources_ok(
     requires { ⌜ poolOk (now pool) count ≡ true ⌝ }
     ensures { λ r. ⌜ OfCode code (λ o v. full ≡ fullOf v → r ≡ sourcesOk (now (pool .entry)) count o v d n m) ⌝ }
 {
-    if !source_ok(pool, count, form::reads_d(code), full, d) {
-        return false;
-    }
-    if !source_ok(pool, count, true, form::first_full(code), n) {
-        return false;
-    }
-    source_ok(
-        pool,
-        count,
-        form::has_second(code),
-        form::second_full(code),
-        m,
-    )
+    source_ok(pool, count, form::reads_d(code), full, d)
+        & source_ok(pool, count, true, form::first_full(code), n)
+        & source_ok(
+            pool,
+            count,
+            form::has_second(code),
+            form::second_full(code),
+            m,
+        )
 }
 
 // The number, 0 for an instruction that is accepted: 1 to 6, the first in order.

@@ -1,5 +1,5 @@
 -- A line is in columns exactly where it is six numbers below 10,000, each in columns; they are then its fields. Assumes nothing.
-use mathlib.Core.Bool.{Bool, true, false}
+use mathlib.Core.Bool.{Bool, true, false, false≢true}
 use mathlib.Core.List.{List, [], _∷_, _++_, append-nil}
 use mathlib.Core.Path.{_≡_, refl, sym, ap, _∙_}
 use Prim.Native.Nat.{ℕ, _+_, _*_, _/_, _%_, _≤_, _<_}
@@ -8,7 +8,7 @@ use lib.Dec.{eqb}
 use lib.ListN.{length, getD, take, drop, take-append-drop, drop-of-length-le}
 use lib.Seq.{drop-drop}
 use borrow.Author.Tests.{le-leb, eq-eqb, eqb-true}
-use Rattle.facts.proofs.Tests.{and-both, false≢true}
+use Rattle.facts.proofs.Tests.{and-both}
 use Rattle.columns.specs.Columns.{columns, characterOf, shown, fieldAt, same, isField}
 use Rattle.line_fields.specs.Fields.{inColumns, fields}
 use Rattle.columns.proofs.Characters.{characters, columns-are}
@@ -122,21 +122,21 @@ module _ (line : List ℕ) where
   unfolding inColumns
   read-written e =
       let p = and-both (eqb (length line) 24) _ e in
-      let p0 = and-both (isField line 0) _ (p .1) in
-      let p4 = and-both (isField line 4) _ (p0 .1) in
-      let p8 = and-both (isField line 8) _ (p4 .1) in
-      let p12 = and-both (isField line 12) _ (p8 .1) in
-      let p16 = and-both (isField line 16) (isField line 20) (p12 .1) in
+      let p20 = and-both _ (isField line 20) (p .1) in
+      let p16 = and-both _ (isField line 16) (p20 .0) in
+      let p12 = and-both _ (isField line 12) (p16 .0) in
+      let p8 = and-both _ (isField line 8) (p12 .0) in
+      let p4 = and-both (isField line 0) (isField line 4) (p8 .0) in
       let n : length line ≡ 24 = eqb-true (length line) 24 (p .0) in
       let none : drop 24 line ≡ [] = drop-of-length-le line {i = 24} (omega arith) in
-      next 0 (p0 .0)
+      next 0 (p4 .0)
       ∙ ap (λ (z : List ℕ). columns (fieldAt line 0) ++ z)
-      (next 4 (p4 .0)
+      (next 4 (p4 .1)
       ∙ ap (λ (z : List ℕ). columns (fieldAt line 4) ++ z)
-      (next 8 (p8 .0)
+      (next 8 (p8 .1)
       ∙ ap (λ (z : List ℕ). columns (fieldAt line 8) ++ z)
-      (next 12 (p12 .0)
+      (next 12 (p12 .1)
       ∙ ap (λ (z : List ℕ). columns (fieldAt line 12) ++ z)
-      (next 16 (p16 .0)
+      (next 16 (p16 .1)
       ∙ ap (λ (z : List ℕ). columns (fieldAt line 16) ++ z)
-      (next 20 (p16 .1) ∙ ap (λ (z : List ℕ). columns (fieldAt line 20) ++ z) none ∙ append-nil (columns (fieldAt line 20)))))))
+      (next 20 (p20 .1) ∙ ap (λ (z : List ℕ). columns (fieldAt line 20) ++ z) none ∙ append-nil (columns (fieldAt line 20)))))))

@@ -1,5 +1,5 @@
 -- An input that is read in pieces: gathering its lines and answering them gives its output, whatever the pieces are. Assumes nothing.
-use mathlib.Core.Bool.{Bool, true, false}
+use mathlib.Core.Bool.{Bool, true, false, false≢true}
 use mathlib.Core.List.{List, [], _∷_, _++_, append-assoc, append-nil}
 use mathlib.Core.Path.{_≡_, refl, sym, ap, _∙_}
 use Prim.Native.Nat.{ℕ, zero, suc, _-_, _≤_, _<_}
@@ -8,11 +8,10 @@ use lib.Dec.{leb, eqb}
 use lib.ListN.{length, take, drop}
 use lib.Seq.{take-all, length-take-le}
 use borrow.Author.Tests.{leb-true, leb-false, ne-eqb}
-use Rattle.facts.proofs.Tests.{false≢true}
-use Rattle.line_fields.specs.Fields.{inColumns}
+use Rattle.line_fields.specs.Fields.{inColumns, lineNumber}
 use Rattle.line_pieces.specs.declared.Gathered.{Gathered}
 use Rattle.line_pieces.specs.Pieces.{upTo, ends, one, Gathers}
-use Rattle.lines.specs.Line.{answer}
+use Rattle.lines.specs.Line.{answer, answerNumber}
 use Rattle.lines.specs.Output.{lastAnswer, outputFrom, output}
 
 -- ---- an output, line by line
@@ -48,7 +47,7 @@ unfolding inColumns
 not-columns l f = rw (ne-eqb (length l) 24 f)
 
 answer-cut : (p h : ℕ) (l : List ℕ) → 25 ≤ h → answer p (take h l) ≡ answer p l
-unfolding answer
+unfolding answer answerNumber lineNumber
 answer-cut p h l g = go (leb (length l) h) refl
   where
     go : (t : Bool) → leb (length l) h ≡ t → answer p (take h l) ≡ answer p l

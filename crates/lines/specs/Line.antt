@@ -11,7 +11,7 @@ use Rattle.neon.specs.Refusal.{blockRefusal}
 use Rattle.trees.specs.Block.{treeRun}
 use Rattle.block.specs.declared.BlockAnswer.{BlockAnswer}
 use Rattle.block.specs.Block.{Answered}
-use Rattle.line_fields.specs.Fields.{inColumns, recordOf}
+use Rattle.line_fields.specs.Fields.{inColumns, lineNumber, recordOf}
 use Rattle.line_answers.specs.Answer.{answerRoom, roomNumber, written}
 
 -- the text of register d after a block of one
@@ -23,16 +23,14 @@ abbrev pub orElse : ℕ → ℕ → ℕ
 orElse zero rest = rest
 orElse (suc k) rest = suc k
 
--- the number of a block of one, whose pool has so many places
-unfoldable pub oneNumber : (places : ℕ) → Instruction → ℕ
-oneNumber places c = orElse (blockRefusal places (c ∷ []) .number) (roomNumber (recordText c))
+-- in order: 10, then the number of the block of one for a pool of so many places, then 9
+unfoldable pub answerNumber : (places : ℕ) → List ℕ → ℕ
+answerNumber places line =
+    let c = recordOf line in
+    orElse (lineNumber line) (orElse (blockRefusal places (c ∷ []) .number) (roomNumber (recordText c)))
 
-abbrev pub recordAnswer : (places : ℕ) → Instruction → List ℕ
-recordAnswer places c = written (oneNumber places c) (recordText c)
-
--- 10 for a line that is not in columns
 unfoldable pub answer : (places : ℕ) → List ℕ → List ℕ
-answer places line = cond (inColumns line) (recordAnswer places (recordOf line)) (written 10 [])
+answer places line = written (answerNumber places line) (recordText (recordOf line))
 
 -- where the buffer may have too little room left, nothing
 abbrev pub answerIn : (room places : ℕ) → List ℕ → List ℕ

@@ -4,7 +4,7 @@ use line_answers::ANSWER_ROOM;
 use line_answers::put_number;
 use line_answers::put_term;
 use line_fields::fields_of;
-use line_fields::in_columns;
+use line_fields::line_number;
 ghost use Prim.Native.Nat.{_-_};
 ghost use lib.ListN.{length};
 ghost use Rattle.pool.specs.Node.{places};
@@ -28,8 +28,9 @@ pub fn answer_line(pool: &mut [u64], line: &[u8], out: &mut [u8], at: usize) -> 
     if out.len() - at < ANSWER_ROOM {
         return at;
     }
-    if !in_columns(line) {
-        return put_number(10, out, at);
+    let number = line_number(line);
+    if 0 < number {
+        return put_number(number, out, at);
     }
     let numbers = fields_of(line);
     let answer = block::lower_block(pool, &numbers);

@@ -6,7 +6,6 @@ use pool::Node;
 use terms::BinOp;
 use terms::CmpOp;
 use trees::SaturateTo;
-ghost use mathlib.Core.Path.{_≡_};
 ghost use mathlib.Core.List.{[], _∷_};
 ghost use Prim.Native.Nat.{_*_, _-_, _≤_, _<_, _^_};
 ghost use Rattle.terms.specs.Expr.{Const};
@@ -15,8 +14,6 @@ ghost use Rattle.pool.specs.Growth.{Room};
 ghost use Rattle.trees.specs.Arith.{clampBetween, clampBelow, clamp as clampTree, plusIf, keepLower};
 ghost use Rattle.trees.specs.Simd.{extract};
 ghost use Rattle.lower.specs.Builds.{Builds1, BuildsIf, Below, readIf, withLower};
-ghost use mathlib.Core.Bool.{cond};
-ghost use Rattle.terms.specs.declared.BinOp.the-variants.{AShr, LShr};
 
 // `low` where `value` is signed less than it, else `high` where `value` is signed more than it, else `value`; of these the low
 // bits.
@@ -133,13 +130,6 @@ pub fn plus_if(
         return nodes::bv(pool, half.count, BinOp::Add, value, half.node);
     }
     Built { node: value, count }
-}
-
-// The right shift of a signed or an unsigned value.
-pub fn shift_op(signed: bool) -> BinOp
-    ensures { λ r. ⌜ r ≡ cond signed AShr LShr ⌝ }
-{
-    if signed { BinOp::AShr } else { BinOp::LShr }
 }
 
 // The 2 forms of a narrowing keep the lower half of the old destination below the new lanes.

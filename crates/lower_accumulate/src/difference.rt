@@ -1,24 +1,15 @@
 // The Rust's neon/lower/arith.rs: absolute_difference_lane and absolute_difference_lanes.
+use kinds::operators::less_op;
 use neon::Lane;
 use pool::Built;
 use pool::Node;
 use terms::BinOp;
-use terms::CmpOp;
-ghost use mathlib.Core.Path.{_≡_};
 ghost use mathlib.Core.List.{[], _∷_};
 ghost use Prim.Native.Nat.{_*_, _≤_, _<_};
 ghost use Rattle.pool.specs.Growth.{Room};
 ghost use Rattle.trees.specs.Arith.{absoluteDifferenceLane, absoluteDifferenceLanes};
 ghost use Rattle.lower.specs.Builds.{Builds2, Lowers, read, readIf, Below};
 ghost use Rattle.lower_accumulate.specs.Lanes.{differenceAt};
-ghost use mathlib.Core.Bool.{cond};
-ghost use Rattle.terms.specs.declared.CmpOp.the-variants.{Slt, Ult};
-
-fn less_op(signed: bool) -> CmpOp
-    ensures { λ r. ⌜ r ≡ cond signed Slt Ult ⌝ }
-{
-    if signed { CmpOp::Slt } else { CmpOp::Ult }
-}
 
 fn absolute_difference_lane(
     pool: &mut [u64],

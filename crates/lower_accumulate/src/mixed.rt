@@ -1,29 +1,15 @@
 // The Rust's neon/lower/arith.rs: mixed_sign_add_lanes.
+use kinds::operators::mixed_to;
 use neon::Lane;
 use pool::Built;
 use pool::Node;
 use terms::BinOp;
-use trees::SaturateTo;
-ghost use mathlib.Core.Path.{_≡_};
 ghost use mathlib.Core.List.{[]};
 ghost use Prim.Native.Nat.{_*_, _≤_, _<_};
 ghost use Rattle.pool.specs.Growth.{Room};
 ghost use Rattle.trees.specs.Arith.{mixedSignAddLanes};
 ghost use Rattle.lower.specs.Builds.{Lowers, read, unread};
 ghost use Rattle.lower_accumulate.specs.Lanes.{mixedAt};
-ghost use mathlib.Core.Bool.{cond};
-ghost use Rattle.trees.specs.declared.SaturateTo.the-variants.{Signed, SignedToUnsigned};
-
-// A sum that can be negative is clamped into the unsigned range as a signed one.
-fn mixed_to(destination_signed: bool) -> SaturateTo
-    ensures { λ r. ⌜ r ≡ cond «destination_signed» Signed SignedToUnsigned ⌝ }
-{
-    if destination_signed {
-        SaturateTo::Signed
-    } else {
-        SaturateTo::SignedToUnsigned
-    }
-}
 
 // Lane `index` of the sum, at two bits more than a lane.
 fn mixed_at(

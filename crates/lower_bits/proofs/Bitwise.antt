@@ -1,10 +1,10 @@
 -- Leading sign bits, the reversal, and the lane of each kind, from what their calls build. Assumes nothing.
+use mathlib.Core.Bool.{false≢true}
 use Prim.Native.Nat.{ℕ, _+_, _-_, _*_, _≤_, _<_}
 use mathlib.Core.Path.{_≡_, refl, subst}
 use mathlib.Core.List.{List, [], _∷_}
 use native.Mathlib.Omega.{arith}
 use native.Mathlib.Nat.{one-mul, mul-le-mul-right}
-use Rattle.facts.proofs.Tests.{false≢true}
 use Rattle.terms.specs.declared.BinOp.the-variants.{Xor}
 use Rattle.pool.specs.declared.Node.{Node}
 use Rattle.pool.specs.declared.Built.{Built}

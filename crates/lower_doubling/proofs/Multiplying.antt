@@ -1,12 +1,11 @@
 -- The doubling long multiplications, from what their calls build. Assumes nothing.
 use Prim.Native.Nat.{ℕ, _+_, _-_, _*_, _/_, _≤_, _<_}
 use mathlib.Core.Path.{_≡_, refl}
-use mathlib.Core.Bool.{Bool, true, false}
+use mathlib.Core.Bool.{Bool, true, false, false≢true}
 use mathlib.Core.List.{List, [], _∷_}
 use native.Mathlib.Omega.{arith}
 use native.Mathlib.Nat.{mul-le-mul-left}
 use Rattle.facts.proofs.Numbers.{small}
-use Rattle.facts.proofs.Tests.{false≢true}
 use Rattle.terms.specs.declared.BinOp.{BinOp}
 use Rattle.terms.specs.declared.BinOp.the-variants.{Mul, Shl}
 use Rattle.pool.specs.declared.Node.{Node}

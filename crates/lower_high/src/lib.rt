@@ -1,10 +1,9 @@
 // The Rust's neon/lower/width.rs: high_narrow_lane and high_narrow_lanes, the high halves of sums and differences.
+use kinds::operators::sum_op;
 use neon::Lane;
 use pool::Bit;
 use pool::Built;
 use pool::Node;
-use terms::BinOp;
-ghost use mathlib.Core.Path.{_≡_};
 ghost use mathlib.Core.List.{[], _∷_};
 ghost use Prim.Native.Nat.{_+_, _-_, _*_, _≤_, _<_};
 ghost use Rattle.pool.specs.Growth.{Room};
@@ -12,14 +11,6 @@ ghost use Rattle.trees.specs.Simd.{concatLanes};
 ghost use Rattle.trees.specs.Width.{highNarrowLane, highNarrowLanes};
 ghost use Rattle.lower.specs.Builds.{Builds2, Lowers, read, readIf, unread, withLower, Below};
 ghost use Rattle.lower_high.specs.Lanes.{highAt};
-ghost use mathlib.Core.Bool.{cond};
-ghost use Rattle.terms.specs.declared.BinOp.the-variants.{Add, Sub};
-
-fn sum_op(subtract: bool) -> BinOp
-    ensures { λ r. ⌜ r ≡ cond subtract Sub Add ⌝ }
-{
-    if subtract { BinOp::Sub } else { BinOp::Add }
-}
 
 // The upper half of a sum or a difference. Rounding adds half of the place above the bits that are dropped.
 fn high_narrow_lane(

@@ -1,4 +1,5 @@
 // The Rust's neon/lower/arith.rs: shift_insert_lanes and low_bits.
+use kinds::operators::insert_op;
 use neon::Lane;
 use pool::Built;
 use pool::Node;
@@ -12,8 +13,6 @@ ghost use Rattle.trees.specs.Lower.{unsignedMax};
 ghost use Rattle.trees.specs.Arith.{keptBits, shiftInsertLanes};
 ghost use Rattle.lower.specs.Builds.{Lowers, read, unread};
 ghost use Rattle.lower_insert.specs.Lanes.{insertAt};
-ghost use mathlib.Core.Bool.{cond};
-ghost use Rattle.terms.specs.declared.BinOp.the-variants.{LShr, Shl};
 
 // A mask of the low bits, none for SLI by 0 and for SRI by the whole lane.
 fn low_bits(bits: u64) -> u64
@@ -35,12 +34,6 @@ fn kept_bits(left: bool, lane_bits: u64, shift: u64) -> u64
         return low_bits(shift);
     }
     lower::unsigned_max(lane_bits) - low_bits(lane_bits - shift)
-}
-
-fn insert_op(left: bool) -> BinOp
-    ensures { λ r. ⌜ r ≡ cond left Shl LShr ⌝ }
-{
-    if left { BinOp::Shl } else { BinOp::LShr }
 }
 
 // Lane `index` of an insert, over the node of its amount.

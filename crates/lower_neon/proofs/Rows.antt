@@ -1,11 +1,11 @@
 -- What each operation's family reads, makes and needs is what its row says. Assumes nothing.
 use mathlib.Core.Path.{_≡_, refl, ap}
-use mathlib.Core.Bool.{Bool, true, false, _&&_, _||_}
+use mathlib.Core.Bool.{Bool, true, false, _&&_, _||_, false≢true}
 use Prim.Native.Nat.{ℕ, _+_, _-_, _*_, _/_, _≤_}
 use native.Mathlib.Omega.{arith}
 use lib.Dec.{leb}
 use borrow.Author.Tests.{leb-true}
-use Rattle.facts.proofs.Tests.{false≢true, and-both}
+use Rattle.facts.proofs.Tests.{and-both}
 use Rattle.neon.specs.Op.{Op, Arrangement, laneBits, full, bitsIf, view, SHL, SQSHLI, UQSHLI, SQSHLU, SSHR, USHR, SRSHR, URSHR, SSHL, USHL, SRSHL, URSHL, SQSHL, UQSHL, SQRSHL, UQRSHL, SLI, SRI, SQADD, UQADD, SQSUB, UQSUB, SHADD, UHADD, SRHADD, URHADD, SQXTN, UQXTN, SQXTUN, SHRN, RSHRN, SQSHRN, SQRSHRN, UQSHRN, UQRSHRN, SQSHRUN, SQRSHRUN, SQABS, SQNEG, SQDMULH, SQRDMULH, SQDMULL, SQDMLAL, SQDMLSL, SQDMULL2, SQDMLAL2, SQDMLSL2, SQDMULLE, SQDMLALE, SQDMLSLE, SQDMULL2E, SQDMLAL2E, SQDMLSL2E, SUQADD, USQADD, SABD, UABD, SABA, UABA, CNT, CLZ, CLS, RBIT, ADDHN, RADDHN, SUBHN, RSUBHN}
 use Rattle.neon.specs.Form.{Same, Long, Element, hasForm, least, most, hasSecond, readsD, firstBits, secondBits, laneCount}
 use Rattle.neon.proofs.Geometry.{sized, filled, by-half, second-in}

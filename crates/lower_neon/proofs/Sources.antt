@@ -1,11 +1,10 @@
 -- Lowerings of fewer nodes, and sources that are not read or whose width is known by another name. Assumes nothing.
 use Prim.Native.Nat.{ℕ, _*_, _≤_, _<_}
 use mathlib.Core.Path.{_≡_, sym, subst, _∙_}
-use mathlib.Core.Bool.{Bool, true, false}
+use mathlib.Core.Bool.{Bool, true, false, false≢true}
 use mathlib.Core.List.{List, []}
 use native.Mathlib.Omega.{arith}
 use native.Mathlib.Nat.{mul-le-mul-right}
-use Rattle.facts.proofs.Tests.{false≢true}
 use Rattle.terms.specs.Expr.{Expr}
 use Rattle.neon.specs.Op.{Op, Arrangement, full, view}
 use Rattle.neon.specs.Form.{form, hasSecond, readsD, firstBits, secondBits}

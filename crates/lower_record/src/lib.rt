@@ -5,7 +5,7 @@ use register_reads::read_if;
 use register_reads::widen;
 ghost use Rattle.neon.specs.Refusal.{reserve, Legal};
 ghost use Rattle.pool.specs.Growth.{Room};
-ghost use Rattle.block_check.specs.Records.{instruction};
+ghost use Rattle.record_check.specs.Record.{instruction};
 ghost use Rattle.lower_record.specs.Step.{MapOk, Steps};
 
 // The map after an accepted record, whose nodes are added to the pool.

@@ -1,11 +1,10 @@
 -- The lanes of the saturating operations, from what their calls build. Assumes nothing.
 use Prim.Native.Nat.{ℕ, _+_, _-_, _*_, _≤_, _<_}
 use mathlib.Core.Path.{_≡_, refl, sym}
-use mathlib.Core.Bool.{Bool, true, false, cond}
+use mathlib.Core.Bool.{Bool, true, false, cond, false≢true}
 use mathlib.Core.List.{List, [], _∷_}
 use native.Mathlib.Omega.{arith}
 use native.Mathlib.Nat.{mul-le-mul-left}
-use Rattle.facts.proofs.Tests.{false≢true}
 use Rattle.terms.specs.Expr.{Expr}
 use Rattle.pool.specs.declared.Node.{Node}
 use Rattle.pool.specs.declared.Built.{Built}
@@ -17,7 +16,7 @@ use Rattle.trees.specs.Arith.{narrowing, keepLower, saturatingLane, saturatingL
 use Rattle.simd.specs.Cut.{MadeLane}
 use Rattle.lower.specs.Builds.{BuildsIf, Lowers, read, readIf, unread, withLower}
 use Rattle.lower.proofs.Lanes.{lane-fits, kept-below}
-use Rattle.saturating_kinds.specs.Kinds.{usesSecond, sourceBits}
+use Rattle.kinds.specs.Sources.{usesSecond, sourceBits}
 use Rattle.lower_saturating.specs.Lanes.{saturatingAt}
 
 -- ---- the bits of a source lane

@@ -5,7 +5,7 @@ use Rattle.terms.specs.Expr.{Expr}
 use Rattle.trees.specs.declared.SaturatingKind.{SaturatingKind}
 use Rattle.trees.specs.Simd.{extractLane}
 use Rattle.trees.specs.Arith.{saturatingLane}
-use Rattle.saturating_kinds.specs.Kinds.{sourceBits}
+use Rattle.kinds.specs.Sources.{sourceBits}
 
 abbrev pub saturatingAt : SaturatingKind → (signed : Bool) (n : ℕ) (d a b : Expr) → ℕ → Expr
 saturatingAt kind signed n d a b j = saturatingLane kind (extractLane a (sourceBits kind n) j) (extractLane b (sourceBits kind n) j) n signed

@@ -1,9 +1,9 @@
 // The Rust's neon/lower/arith.rs: saturating_lanes, the saturating, halving and narrowing operations lane by lane.
+use kinds::sources::source_bits;
+use kinds::sources::uses_second;
 use neon::Lane;
 use pool::Built;
 use pool::Node;
-use saturating_kinds::source_bits;
-use saturating_kinds::uses_second;
 use trees::SaturatingKind;
 ghost use mathlib.Core.Path.{_≡_};
 ghost use mathlib.Core.Bool.{true};
@@ -13,7 +13,7 @@ ghost use Rattle.pool.specs.Growth.{Room};
 ghost use Rattle.trees.specs.Simd.{concatLanes};
 ghost use Rattle.trees.specs.Arith.{saturatingLanes};
 ghost use Rattle.lower.specs.Builds.{Lowers, read, readIf, unread, Below, withLower};
-ghost use Rattle.saturating_kinds.specs.Kinds.{usesSecond, sourceBits, KindIn};
+ghost use Rattle.kinds.specs.Sources.{usesSecond, sourceBits, KindIn};
 ghost use Rattle.lower_saturating.specs.Lanes.{saturatingAt};
 
 // Lane `index` of the result.

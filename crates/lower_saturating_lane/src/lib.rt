@@ -7,7 +7,7 @@ ghost use Prim.Native.Nat.{_≤_, _<_};
 ghost use Rattle.pool.specs.Growth.{Room};
 ghost use Rattle.trees.specs.Arith.{saturatingLane};
 ghost use Rattle.lower.specs.Builds.{BuildsIf};
-ghost use Rattle.saturating_kinds.specs.Kinds.{usesSecond, sourceBits, KindIn};
+ghost use Rattle.kinds.specs.Sources.{usesSecond, sourceBits, KindIn};
 
 pub mod narrow;
 pub mod sum;

@@ -1,4 +1,5 @@
 // The Rust's neon/lower/arith.rs: saturating_lane's ShiftNarrow.
+use kinds::operators::shift_op;
 use pool::Bit;
 use pool::Built;
 use pool::Node;
@@ -51,7 +52,7 @@ pub fn shift_narrow_lane(
     let wide_a = lower::extend(pool, count, a, wide, signed);
     let value = lower::arith::plus_if(pool, wide_a.count, rounding, wide_a.node, half, wide);
     let by = nodes::konst(pool, value.count, shift, 0, wide);
-    let op = lower::arith::shift_op(signed);
+    let op = shift_op(signed);
     let shifted = nodes::bv(pool, by.count, op, value.node, by.node);
     narrowed(pool, shifted.count, to, shifted.node, wide, lane_bits)
 }

@@ -1,4 +1,5 @@
 // The Rust's neon/lower/arith.rs: saturating_lane's AddSub and Halving.
+use kinds::operators::shift_op;
 use pool::Bit;
 use pool::Built;
 use pool::Node;
@@ -55,7 +56,7 @@ pub fn halving_lane(
     let sum = nodes::bv(pool, wide_b.count, BinOp::Add, wide_a.node, wide_b.node);
     let rounded = lower::arith::plus_if(pool, sum.count, rounding, sum.node, 1, wide);
     let one = nodes::konst(pool, rounded.count, 1, 0, wide);
-    let op = lower::arith::shift_op(signed);
+    let op = shift_op(signed);
     let halved = nodes::bv(pool, one.count, op, rounded.node, one.node);
     nodes::extract(pool, halved.count, halved.node, Bit(lane_bits - 1), Bit(0))
 }

@@ -1,10 +1,9 @@
 -- The lanes of the shifts, from what their calls build. Assumes nothing.
 use Prim.Native.Nat.{ℕ, _+_, _*_, _≤_, _<_}
 use mathlib.Core.Path.{_≡_, refl, sym}
-use mathlib.Core.Bool.{Bool, true, false}
+use mathlib.Core.Bool.{Bool, true, false, false≢true}
 use mathlib.Core.List.{List, [], _∷_}
 use native.Mathlib.Omega.{arith}
-use Rattle.facts.proofs.Tests.{false≢true}
 use Rattle.terms.specs.Expr.{Expr}
 use Rattle.pool.specs.declared.Node.{Node}
 use Rattle.pool.specs.declared.Built.{Built}
@@ -16,7 +15,7 @@ use Rattle.trees.specs.Arith.{shiftLane}
 use Rattle.simd.specs.Cut.{MadeLane}
 use Rattle.lower.specs.Builds.{BuildsIf, Lowers, read, readIf, unread}
 use Rattle.lower.proofs.Lanes.{lane-fits}
-use Rattle.lower_shift_lane.specs.Amounts.{isRegister}
+use Rattle.kinds.specs.Sources.{isRegister}
 use Rattle.lower_shift.specs.Lanes.{shiftAt}
 
 pub at-register : {w0 w1 w2 w3 : List ℕ} {k : ℕ} {r1 r2 r3 : Built} {first second : Node} {n lanes j : ℕ} (kind : ShiftKind) (signed : Bool)

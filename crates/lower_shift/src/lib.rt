@@ -1,36 +1,17 @@
 // The Rust's neon/lower/arith.rs: shift_lanes, the shifts lane by lane.
+use kinds::sources::is_register;
 use lower_shift_lane::shift_lane;
 use neon::Lane;
 use pool::Built;
 use pool::Node;
 use trees::ShiftKind;
-ghost use mathlib.Core.Path.{_≡_};
 ghost use mathlib.Core.List.{[]};
 ghost use Prim.Native.Nat.{_*_, _≤_, _<_};
 ghost use Rattle.pool.specs.Growth.{Room};
 ghost use Rattle.trees.specs.Arith.{shiftLanes};
 ghost use Rattle.lower.specs.Builds.{Lowers, read, readIf, unread, Below};
-ghost use Rattle.lower_shift_lane.specs.Amounts.{isRegister, AmountIn};
+ghost use Rattle.kinds.specs.Sources.{isRegister, AmountIn};
 ghost use Rattle.lower_shift.specs.Lanes.{shiftAt};
-
-fn is_register(kind: ShiftKind) -> bool
-    ensures { λ r. ⌜ r ≡ isRegister kind ⌝ }
-{
-    match kind {
-        ShiftKind::LeftImmediate {
-            shift: _,
-            saturate: _,
-        } => false,
-        ShiftKind::RightImmediate {
-            shift: _,
-            rounding: _,
-        } => false,
-        ShiftKind::Register {
-            rounding: _,
-            saturate: _,
-        } => true,
-    }
-}
 
 // Lane `index` of the result.
 fn shift_at(

@@ -25,7 +25,7 @@ use Rattle.trees.specs.declared.ShiftKind.the-variants.{LeftImmediate, RightImm
 use Rattle.trees.specs.Lower.{unsignedMax}
 use Rattle.trees.specs.Arith.{clamp, roundingBits, shiftRight, shiftBound, saturatingShiftLeft, leftImmediate, signedAmount, leftBy, registerShiftMax, shiftLane}
 use Rattle.lower.specs.Builds.{Builds1, Builds2, BuildsIf, MadeExtend}
-use Rattle.lower_shift_lane.specs.Amounts.{isRegister}
+use Rattle.kinds.specs.Sources.{isRegister}
 
 -- ---- `shift_right`
 pub rounded-shift : {w0 w1 w2 w3 w4 w5 w6 w7 w8 : List ℕ} {k : ℕ} {r1 r2 r3 r4 r5 r6 r7 r8 : Built} {value amount : Node} {op : BinOp} {n wide : ℕ} {signed : Bool} (most : ℕ)

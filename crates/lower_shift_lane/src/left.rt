@@ -1,4 +1,5 @@
 // The Rust's neon/lower/arith.rs: saturating_shift_left, and the left shifts of shift_lane.
+use kinds::operators::shift_op;
 use pool::Built;
 use pool::Node;
 use terms::BinOp;
@@ -45,7 +46,7 @@ pub fn saturating_shift_left(
         (λ v a. saturatingShiftLeft v a «lane_bits» signed) (value .0 ∷ amount .0 ∷ []) ⌝ }
 {
     let shifted = nodes::bv(pool, count, BinOp::Shl, value, amount);
-    let op = lower::arith::shift_op(signed);
+    let op = shift_op(signed);
     let restored = nodes::bv(pool, shifted.count, op, shifted.node, amount);
     let same = nodes::compare(pool, restored.count, CmpOp::Eq, restored.node, value);
     let bound = shift_bound(pool, same.count, value, lane_bits, signed);

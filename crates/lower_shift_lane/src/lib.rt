@@ -11,7 +11,7 @@ ghost use Prim.Native.Nat.{_≤_, _<_};
 ghost use Rattle.pool.specs.Growth.{Room};
 ghost use Rattle.trees.specs.Arith.{signedAmount, shiftLane};
 ghost use Rattle.lower.specs.Builds.{Builds1, Builds2, BuildsIf};
-ghost use Rattle.lower_shift_lane.specs.Amounts.{isRegister, AmountIn};
+ghost use Rattle.kinds.specs.Sources.{isRegister, AmountIn};
 
 pub mod left;
 pub mod right;

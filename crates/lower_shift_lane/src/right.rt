@@ -1,4 +1,5 @@
 // The Rust's neon/lower/arith.rs: shift_right.
+use kinds::operators::shift_op;
 use pool::Bit;
 use pool::Built;
 use pool::Node;
@@ -50,7 +51,7 @@ fn shift_right_rounding(
         wide_value.node,
         half.node,
     );
-    let op = lower::arith::shift_op(signed);
+    let op = shift_op(signed);
     let shifted = nodes::bv(pool, sum.count, op, sum.node, wide_amount.node);
     nodes::extract(
         pool,
@@ -79,6 +80,6 @@ pub fn shift_right(
     if rounding {
         return shift_right_rounding(pool, count, value, amount, lane_bits, signed, max_shift);
     }
-    let op = lower::arith::shift_op(signed);
+    let op = shift_op(signed);
     nodes::bv(pool, count, op, value, amount)
 }

@@ -1,13 +1,13 @@
 -- What the rules of a valid pool say of a node by its kind: its operands come before it and have the widths that they must. Assumes nothing.
 use Prim.Native.Nat.{ℕ, _+_, _-_, _^_, _≤_, _<_}
 use mathlib.Core.Path.{_≡_}
-use mathlib.Core.Bool.{true, _&&_}
+use mathlib.Core.Bool.{true, _&&_, false≢true}
 use native.Mathlib.Omega.{arith}
 use lib.Dec.{leb, eqb}
 use borrow.Author.Tests.{ltb-true, leb-true, eqb-true}
 use Rattle.terms.specs.declared.BinOp.{BinOp}
 use Rattle.terms.specs.declared.CmpOp.{CmpOp}
-use Rattle.facts.proofs.Tests.{and-both, false≢true}
+use Rattle.facts.proofs.Tests.{and-both}
 use Rattle.pool.specs.Node.{Kind, bad, var, const, bv, compare, ite, extract, concat, zext, Cell, wide}
 use Rattle.pool.specs.Rules.{wideOk, okKind}
 

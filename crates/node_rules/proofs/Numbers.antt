@@ -36,21 +36,25 @@ module _ (n : ℕ) (f : Fields) (A B C : ℕ) where
   abbrev Same : Kind → Kind → Type 0
   Same κ κ′ = rule κ n f A B C ≡ rule κ′ n f A B C
 
-  pub is-bin : (k : ℕ) → 3 ≤ k → k ≤ 11 → Same (Kind.bv BinOp.Add) (kindAt k)
+  pub is-bin : (k : ℕ) → 3 ≤ k → k < 12 → Same (Kind.bv BinOp.Add) (kindAt k)
   unfolding kinds
-  is-bin k l h = within (Same (Kind.bv BinOp.Add)) 3 9 (refl, (refl, (refl, (refl, (refl, (refl, (refl, (refl, (refl, tt))))))))) k l (omega arith)
+  is-bin k l h = within (Same (Kind.bv BinOp.Add)) 3 9 (refl, (refl, (refl, (refl, (refl, (refl, (refl, (refl, (refl, tt))))))))) k l h
 
-  pub is-cmp : (k : ℕ) → 12 ≤ k → k ≤ 14 → Same (Kind.compare CmpOp.Eq) (kindAt k)
+  pub is-cmp : (k : ℕ) → 12 ≤ k → k < 15 → Same (Kind.compare CmpOp.Eq) (kindAt k)
   unfolding kinds
-  is-cmp k l h = within (Same (Kind.compare CmpOp.Eq)) 12 3 (refl, (refl, (refl, tt))) k l (omega arith)
+  is-cmp k l h = within (Same (Kind.compare CmpOp.Eq)) 12 3 (refl, (refl, (refl, tt))) k l h
 
-  pub is-ext : (k : ℕ) → 18 ≤ k → k ≤ 19 → Same Kind.zext (kindAt k)
+  pub is-ext : (k : ℕ) → 18 ≤ k → k < 20 → Same Kind.zext (kindAt k)
   unfolding kinds
-  is-ext k l h = within (Same Kind.zext) 18 2 (refl, (refl, tt)) k l (omega arith)
+  is-ext k l h = within (Same Kind.zext) 18 2 (refl, (refl, tt)) k l h
 
 pub is-bad : (k : ℕ) → 20 ≤ k → kindAt k ≡ Kind.bad
 unfolding kindAt kinds
 is-bad k l = List·getD-eq-default kinds Kind.bad l
 
-pub seventeen : (k : ℕ) → 14 < k → k ≤ 17 → (k ≡ 15 → ⊥) → (k ≡ 16 → ⊥) → k ≡ 17
-seventeen k a b c d = omega arith
+-- past the kinds that stand alone
+pub from-three : (k : ℕ) → 1 ≤ k → (k ≡ 1 → ⊥) → (k ≡ 2 → ⊥) → 3 ≤ k
+from-three k l a b = omega arith
+
+pub from-eighteen : (k : ℕ) → 15 ≤ k → (k ≡ 15 → ⊥) → (k ≡ 16 → ⊥) → (k ≡ 17 → ⊥) → 18 ≤ k
+from-eighteen k l a b c = omega arith

@@ -141,32 +141,15 @@ pub fn kind_ok(f: Fields, n: u64, wa: u64, wb: u64, wc: u64) -> bool
     ensures { λ r. ⌜ r ≡ rule (kindAt (f .kind)) n f wa wb wc ⌝ }
 {
     let kind = f.kind;
-    if kind < 3 {
-        if kind == 1 {
-            return var_ok(f, n, wa, wb, wc);
-        }
-        if kind == 2 {
-            return const_ok(f, n, wa, wb, wc);
-        }
-        return false;
+    match kind {
+        1 => var_ok(f, n, wa, wb, wc),
+        2 => const_ok(f, n, wa, wb, wc),
+        3..=11 => bin_ok(f, n, wa, wb, wc),
+        12..=14 => cmp_ok(f, n, wa, wb, wc),
+        15 => ite_ok(f, n, wa, wb, wc),
+        16 => extract_ok(f, n, wa, wb, wc),
+        17 => concat_ok(f, n, wa, wb, wc),
+        18 | 19 => ext_ok(f, n, wa, wb, wc),
+        _ => false,
     }
-    if kind <= 11 {
-        return bin_ok(f, n, wa, wb, wc);
-    }
-    if kind <= 14 {
-        return cmp_ok(f, n, wa, wb, wc);
-    }
-    if kind <= 17 {
-        if kind == 15 {
-            return ite_ok(f, n, wa, wb, wc);
-        }
-        if kind == 16 {
-            return extract_ok(f, n, wa, wb, wc);
-        }
-        return concat_ok(f, n, wa, wb, wc);
-    }
-    if kind <= 19 {
-        return ext_ok(f, n, wa, wb, wc);
-    }
-    false
 }

@@ -53,10 +53,7 @@ fn node_ok(pool: &[u64], n: usize) -> bool
 pub fn pool_check(pool: &[u64], count: usize) -> bool
     ensures { λ r. ⌜ r ≡ poolOk (now (pool .entry)) count ⌝ }
 {
-    if 65535 < count {
-        return false;
-    }
-    if pool.len() / 4 < count {
+    if pool::places(pool) < count {
         return false;
     }
     let mut n = 0;

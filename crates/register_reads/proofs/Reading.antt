@@ -1,11 +1,10 @@
 -- A read of a register and the widening of a result, in each of their cases. Assumes nothing.
 use Prim.Native.Nat.{ℕ, _≤_, _<_}
 use mathlib.Core.Path.{_≡_, refl, sym, subst, _∙_}
-use mathlib.Core.Bool.{Bool, true, false}
+use mathlib.Core.Bool.{Bool, true, false, false≢true}
 use mathlib.Core.List.{List, [], _∷_}
 use native.Mathlib.Omega.{arith}
 use native.Mathlib.Nat.{not-le-of-lt}
-use Rattle.facts.proofs.Tests.{false≢true}
 use Rattle.neon.specs.Op.{bitsIf}
 use Rattle.trees.specs.Block.{widenTree}
 use Rattle.pool.specs.declared.Node.{Node}

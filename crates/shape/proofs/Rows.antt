@@ -1,13 +1,12 @@
 -- Which operations narrow, by number; and the bits that are made. Assumes nothing.
 use mathlib.Core.Path.{_≡_, refl, sym, ap, _∙_}
-use mathlib.Core.Bool.{Bool, true, false, _&&_, _||_}
+use mathlib.Core.Bool.{Bool, true, false, _&&_, _||_, false≢true}
 use mathlib.Core.List.{List}
 use Prim.Native.Nat.{ℕ, _≤_, _<_}
 use native.Mathlib.Omega.{arith}
 use lib.Dec.{leb}
 use lib.ListN.{getD}
 use borrow.Author.Tests.{le-leb, lt-leb}
-use Rattle.facts.proofs.Tests.{false≢true}
 use Rattle.facts.proofs.Table.{tabulate, entry}
 use Rattle.neon.specs.Op.{opAt, operations, bitsIf}
 use Rattle.neon.specs.Form.{Lanes, Same, Narrow, Long, form, isNarrow, madeBits, flag}

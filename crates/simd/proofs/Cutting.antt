@@ -5,15 +5,15 @@ use mathlib.Core.Bool.{Bool, true, false, cond, _&&_}
 use mathlib.Core.List.{List}
 use mathlib.Core.Logic.{⊎-elim}
 use native.Mathlib.Omega.{arith}
-use native.Mathlib.Nat.{lt-trans, lt-of-le-of-lt}
+use native.Mathlib.Nat.{lt-trans, lt-of-le-of-lt, le-of-lt}
 use lib.ListN.{getD}
-use lib.Dec.{leb, eqb}
+use lib.Dec.{leb, ltb, eqb}
 use borrow.Author.Tests.{lt-ltb, le-leb, ltb-true, leb-true, eqb-true}
 use Rattle.facts.proofs.Tests.{and-both}
 use Rattle.terms.specs.Expr.{Expr, Extract}
 use Rattle.pool.specs.declared.Node.{Node}
 use Rattle.pool.specs.declared.Built.{Built}
-use Rattle.pool.specs.Node.{Kind, bad, var, const, bv, compare, ite, extract, concat, zext, sext, kinds, kindAt, aOf, Cell, decode, cellAt, widthAt}
+use Rattle.pool.specs.Node.{Kind, bad, var, const, bv, compare, ite, extract, concat, zext, sext, kinds, kindAt, kindOf, aOf, Cell, decode, cellAt, widthAt}
 use Rattle.pool.specs.Rules.{Valid}
 use Rattle.pool.specs.Unfold.{shapeOf, unfoldAt}
 use Rattle.pool.specs.Growth.{NodeIs}
@@ -31,6 +31,12 @@ pub record Source (ws : List ℕ) (k n hi : ℕ) (t : Expr) : Type 0 where
   pub is : NodeIs ws k n width term
   pub inside : hi < width
   pub same : (lo : ℕ) → Extract term hi lo ≡ extractCollapsing t hi lo
+
+-- a joined cut's operand stands before the node
+pub joined-below : (ws : List ℕ) (v hi : ℕ) → joinsAt ws v hi ≡ true → aOf (getD ws (4 * v + 1) 0) ≤ v
+joined-below ws v hi e =
+    let cut = eqb (kindOf (getD ws (4 * v) 0)) 16 && joins hi (getD ws (4 * v + 2) 0) (getD ws (4 * v + 3) 0) in
+    le-of-lt (ltb-true (aOf (getD ws (4 * v + 1) 0)) v (and-both cut (ltb (aOf (getD ws (4 * v + 1) 0)) v) e .1))
 
 and-last : (a b : Bool) → b ≡ true → (a && b) ≡ false → a ≡ false
 and-last true b p q = sym p ∙ q

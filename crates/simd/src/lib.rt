@@ -15,17 +15,9 @@ fn cut_from(pool: &[u64], value: Node, hi: Bit) -> Node
     ensures { λ r. ⌜ (r .0 ≡ cutFrom (now (pool .entry)) (value .0) (hi .0)) × (r .0 ≤ value .0) ⌝ }
 {
     let at = 4 * value.0;
-    if pool[at] % 65536 != 16 {
-        return value;
-    }
-    if pool[at + 3] != 0 {
-        return value;
-    }
-    if pool[at + 2] < hi.0 {
-        return value;
-    }
     let src = (pool[at + 1] % 65536) as usize;
-    if src < value.0 {
+    let joins = (pool[at + 3] == 0) & (hi.0 <= pool[at + 2]);
+    if (pool[at] % 65536 == 16) & joins & (src < value.0) {
         return Node(src);
     }
     value

@@ -1,7 +1,7 @@
 -- The operands of a node of a valid pool, by the number of its kind: what is needed to write its text. Assumes nothing.
 use Prim.Native.Nat.{ℕ, zero, suc, _+_, _*_, _≤_, _<_}
 use mathlib.Core.Path.{_≡_, refl, sym, _∙_, subst}
-use mathlib.Core.Bool.{Bool, true, false, _||_}
+use mathlib.Core.Bool.{Bool, true, false, _||_, false≢true}
 use mathlib.Core.List.{List}
 use mathlib.Core.Logic.{_⊎_, inl, inr, ⊎-elim}
 use native.Mathlib.Omega.{arith}
@@ -11,7 +11,7 @@ use lib.ListN.{length}
 use borrow.Author.Tests.{lt-ltb, ltb-true, ltb-false, leb-true, leb-false, eqb-true, eqb-false}
 use Rattle.terms.specs.declared.BinOp.the-variants.{Add, Sub, Mul, And, Or, Xor, Shl, LShr, AShr}
 use Rattle.terms.specs.declared.CmpOp.the-variants.{Eq, Ult, Slt}
-use Rattle.facts.proofs.Tests.{and-both, false≢true}
+use Rattle.facts.proofs.Tests.{and-both}
 use Rattle.pool.specs.Node.{bad, kinds, kindAt, decode, Cell, cellAt, widthAt, wordAt}
 use Rattle.pool.specs.Rules.{widthBefore, okKind, okPool, Valid}
 use Rattle.pool.proofs.Facts.{valid-node}

@@ -45,7 +45,7 @@ use Rattle.neon.specs.declared.Instruction.{Instruction}
 use Rattle.neon.specs.Refusal.{reserve, Legal}
 use Rattle.pool.specs.Growth.{Room as Places}
 use Rattle.register_map.specs.declared.RegisterMap.{RegisterMap}
-use Rattle.block_check.specs.Records.{instruction}
+use Rattle.record_check.specs.Record.{instruction}
 use Rattle.lower_record.specs.Step.{MapOk, Steps}
 use Rattle.register_map.proofs.RegisterMap as T
 use Rattle.register_map.proofs.RegisterMap.Laws as T′

@@ -60,10 +60,10 @@ use Rattle.block_check.proofs.size_number as size-number
 use Rattle.block_check.proofs.size_number.Symbol as size-number-def
 use Rattle.block_check.proofs.size_number.Symbol.{name as #block-check·size-number}
 use Rattle.block_check.proofs.size_number.Met as size-number-thm
-use Rattle.block_check.proofs.record_number as record-number
-use Rattle.block_check.proofs.record_number.Symbol as record-number-def
-use Rattle.block_check.proofs.record_number.Symbol.{name as #block-check·record-number}
-use Rattle.block_check.proofs.record_number.Met as record-number-thm
+use Rattle.record_check.proofs.record_number as record-number
+use Rattle.record_check.proofs.record_number.Symbol as record-number-def
+use Rattle.record_check.proofs.record_number.Symbol.{name as #record-check·record-number}
+use Rattle.record_check.proofs.record_number.Met as record-number-thm
 use Rattle.blocks_check.proofs.Listed.{none, Passed, passed-none, passed-more, refused-size, refused-here, refused-none}
 use Rattle.blocks_check.proofs.Six.{Fits, six}
 use Rattle.blocks_check.proofs.block_refusal.Key.{name as #blocks-check·block-refusal}
@@ -175,7 +175,7 @@ module _ {M : Type 1} (𝓤 : URA M) (H : Heap 𝓤) (A : Atoms 𝓤) (W : Given
   Nearer-wf : WellFounded Nearer
   Nearer-wf = InvImage·wf (λ (u : Upto). n - u .0) (Nat·lt-wfRel .wf)
 
-  module _ (𝓣 : Tables 𝓤 H) (fm : FmC 𝓤 H (W .laws) (𝓣 .C)) (known : Triple 𝓤 (𝓣 .C #block-check·size-number) (Size 𝓤 H A at-mem ran)) (known₂ : Triple 𝓤 (𝓣 .C #block-check·record-number) (Number 𝓤 H A at-mem ran)) (l₀ l₁ l₂ l₃ l₄ l₅ l₆ l₇ l₈ l₉ l₁₀ l₁₁ l₁₂ : ℕ) where
+  module _ (𝓣 : Tables 𝓤 H) (fm : FmC 𝓤 H (W .laws) (𝓣 .C)) (known : Triple 𝓤 (𝓣 .C #block-check·size-number) (Size 𝓤 H A at-mem ran)) (known₂ : Triple 𝓤 (𝓣 .C #record-check·record-number) (Number 𝓤 H A at-mem ran)) (l₀ l₁ l₂ l₃ l₄ l₅ l₆ l₇ l₈ l₉ l₁₀ l₁₁ l₁₂ : ℕ) where
     abbrev C : Calls 𝓤 H
     C = 𝓣 .C
 
@@ -287,7 +287,7 @@ module _ {M : Type 1} (𝓤 : URA M) (H : Heap 𝓤) (A : Atoms 𝓤) (W : Given
         (λ small. skips ! $ exec ! C Λ En code.Mir.t-5 (atRet En Post) $ forget ! 10 refl $ forget ! 12 refl $ forget ! 20 refl $ assigns ! (of-opd ! (lit ! tt)) (from ! (stop !)) (init ! 18 refl (tt, record { fits = lit< tt })) $
         first ! $ blocks ! $ loops ! 𝓣 Nearer Nearer-wf At turns (0, zero-le, passed-none p ys e (nltb→le 0 r small)))))))
 
-  walk : (𝓣 : Tables 𝓤 H) → FmC 𝓤 H (W .laws) (𝓣 .C) → Triple 𝓤 (𝓣 .C #block-check·size-number) (Size 𝓤 H A at-mem ran) → Triple 𝓤 (𝓣 .C #block-check·record-number) (Number 𝓤 H A at-mem ran)
+  walk : (𝓣 : Tables 𝓤 H) → FmC 𝓤 H (W .laws) (𝓣 .C) → Triple 𝓤 (𝓣 .C #block-check·size-number) (Size 𝓤 H A at-mem ran) → Triple 𝓤 (𝓣 .C #record-check·record-number) (Number 𝓤 H A at-mem ran)
       → ent 𝓤 (onEntry 𝓤 H A block-refusal.signature (κ, tt) (q, tt) x at) (WpFn 𝓤 H (𝓣 .C) (𝓣 .Λ) code.function args Post)
   walk 𝓣 fm known known₂ =
       qed W ((‵ (flft κ q) ⊛ ‵ ftrue) ∷ ‵ (owns (usize ∷ ShrSlice (named 0) κ R ∷ []) x at) ∷ []) ∵
@@ -299,7 +299,7 @@ module _ {M : Type 1} (𝓤 : URA M) (H : Heap 𝓤) (A : Atoms 𝓤) (W : Given
       pass1 ! (init ! 22 refl (tt, record { fits = words-fit })) $ pass1 ! (init ! 20 refl (tt, (tt, (record { fits = room .0 }, tt)))) $ pass0 ! $
       keep ! (26 ∷ 27 ∷ 0 ∷ 1 ∷ 2 ∷ 3 ∷ 4 ∷ 5 ∷ 6 ∷ 7 ∷ 8 ∷ 9 ∷ 10 ∷ 11 ∷ 12 ∷ 13 ∷ 14 ∷ 15 ∷ 16 ∷ 17 ∷ 18 ∷ 19 ∷ 20 ∷ 21 ∷ 22 ∷ 23 ∷ 24 ∷ 25 ∷ []) $ begins 𝓣 fm known known₂ l₀ l₁ l₂ l₃ l₄ l₅ l₆ l₇ l₈ l₉ l₁₀ l₁₁ l₁₂)))))))))))))
 
-module _ {M : Type 1} (𝓤 : URA M) (H : Heap 𝓤) (A : Atoms 𝓤) (W : Given 𝓤 H A) (at-mem : Memory → SProp 𝓤) (ran : Routine → Fun 𝓤) (𝓣 : Tables 𝓤 H) (known : Triple 𝓤 (𝓣 .C #block-check·size-number) (Size 𝓤 H A at-mem ran)) (known₂ : Triple 𝓤 (𝓣 .C #block-check·record-number) (Number 𝓤 H A at-mem ran)) where
+module _ {M : Type 1} (𝓤 : URA M) (H : Heap 𝓤) (A : Atoms 𝓤) (W : Given 𝓤 H A) (at-mem : Memory → SProp 𝓤) (ran : Routine → Fun 𝓤) (𝓣 : Tables 𝓤 H) (known : Triple 𝓤 (𝓣 .C #block-check·size-number) (Size 𝓤 H A at-mem ran)) (known₂ : Triple 𝓤 (𝓣 .C #record-check·record-number) (Number 𝓤 H A at-mem ran)) where
   block-refusal-walks : Walks 𝓤 H A block-refusal.ended stayed (WpFn 𝓤 H (𝓣 .C) (𝓣 .Λ) code.function) (block-refusal.clauses 𝓤 H A at-mem ran)
   block-refusal-walks =
       walked 𝓤 H A block-refusal.ended stayed (block-refusal.clauses 𝓤 H A at-mem ran) (WpFn 𝓤 H (𝓣 .C) (𝓣 .Λ) code.function) (λ κs. (uint-vals w64, (slice-vals, tt))) (λ κs. (uint-tells w64, (shr-slice-tells (named 0) (κs .0) R, tt)))
@@ -319,4 +319,4 @@ block-refusal-spec 𝓤 H 𝓜 𝓖 𝓡 =
     (tables 𝓤 H 𝓜 𝓡 code.env .C) (tables 𝓤 H 𝓜 𝓡 code.env .Λ) #blocks-check·block-refusal code.function (code.unfolded 𝓤 H 𝓜 𝓡)
     (block-refusal-meets 𝓤 H (𝓖 .A) (givenOf 𝓤 H 𝓜 𝓖) (𝓜 .mem) (𝓡 .run) (tablesOf 𝓤 H 𝓜 (tables 𝓤 H 𝓜 𝓡 code.env))
     (cited 𝓤 H (Size 𝓤 H (𝓖 .A) (𝓜 .mem) (𝓡 .run)) 𝓜 𝓡 code.env #block-check·size-number size-number-def.routine code.calls-block-check·size-number (size-number-thm.met 𝓤 H 𝓜 𝓖 𝓡))
-    (cited 𝓤 H (Number 𝓤 H (𝓖 .A) (𝓜 .mem) (𝓡 .run)) 𝓜 𝓡 code.env #block-check·record-number record-number-def.routine code.calls-block-check·record-number (record-number-thm.met 𝓤 H 𝓜 𝓖 𝓡)))
+    (cited 𝓤 H (Number 𝓤 H (𝓖 .A) (𝓜 .mem) (𝓡 .run)) 𝓜 𝓡 code.env #record-check·record-number record-number-def.routine code.calls-record-check·record-number (record-number-thm.met 𝓤 H 𝓜 𝓖 𝓡)))

@@ -1,56 +1,95 @@
 use native.Mathlib.Omega.{arith}
-use mathlib.Core.List.{List}
-use mathlib.Core.Path.{_≡_, refl, sym, ap, _∙_}
-use Prim.Native.Nat.{ℕ}
-use lib.ListN.{getD}
-use borrow.Author.Tests.{not-true, not-false}
+use mathlib.Core.List.{List, [], _∷_}
+use mathlib.Core.Path.{_≡_, ap, _∙_}
+use Prim.Native.Nat.{ℕ, _+_, _≤_}
+use lib.ListN.{length, getD}
 use Rattle.pool.specs.Node.{places}
 use Rattle.register_map.specs.Map.{nodeOf}
-use Rattle.line_fields.specs.Fields.{recordOf}
+use Rattle.block.specs.Block.{Answered}
+use Rattle.line_fields.specs.Fields.{lineNumber, recordOf}
+use Rattle.line_fields.proofs.Numbers.{line-low}
+use Rattle.line_answers.specs.Answer.{answerRoom}
 use Rattle.lines.proofs.Records.{block-low, answered-one, long, low-d, node-under, left-little, left-other, lowered-one, no-room, little-room, other, refused, done}
 use borrow.Author.Needs.{needs}
 use Rattle.lines.proofs.answer_line.Statement.{statement}
 use Rattle.lines.proofs.answer_line.Tie as tie
 
+abbrev entry : tie.Else2 → tie.Start
+entry c = c .before .before .before .before .before
+
+-- past the second test there is room for every answer
+room : (c : tie.Else2) → entry c .args .at + answerRoom ≤ length (entry c .args .out .now)
+room c = omega (arith, c .if2 .left, c .before .if1 .left)
+
+abbrev roomy : tie.Else3 → tie.Else2
+roomy c = c .before .before
+
+-- past the third the line is in columns
+in-columns : (c : tie.Else3) → lineNumber (entry (roomy c) .args .line .now) ≡ 0
+in-columns c = omega (arith, c .before .line-number .ensures, c .if3 .left)
+
+abbrev ordered : tie.After-lower-block → tie.Else3
+ordered c = c .before .before .before .before
+
+-- the block of one is answered
+one : (c : tie.After-lower-block) → let a = entry (roomy (ordered c)) .args in
+    Answered (a .pool .now) (recordOf (a .line .now) ∷ []) (c .lower-block .last .0) (c .lower-block .result)
+one c = answered-one (entry (roomy (ordered c)) .args .line .now) (c .before .before .before .fields-of .ensures) (c .lower-block .ensures)
+
+-- it is accepted, and the fourth of the line's numbers is d
+abbrev lowered : tie.Else4 → tie.After-lower-block
+lowered c = c .before .before .before .before
+
+accepted : (c : tie.Else4) → lowered c .lower-block .result .number ≡ 0
+accepted c = omega (arith, c .if4 .left)
+
+d-is : (c : tie.After-lower-block) → getD (c .before .before .before .fields-of .result) 3 0 ≡ recordOf (entry (roomy (ordered c)) .args .line .now) .d
+d-is c = ap (λ (z : List ℕ). getD z 3 0) (c .before .before .before .fields-of .ensures)
+
+node-is : (c : tie.After-get) → let l = lowered (c .before .before) in
+    c .get .result .0 ≡ nodeOf (l .lower-block .result .map) (recordOf (entry (roomy (ordered l)) .args .line .now) .d)
+node-is c = let l = lowered (c .before .before) in c .get .ensures ∙ ap (nodeOf (l .lower-block .result .map)) (d-is l)
+
 returns : tie.Need-returns
 returns c =
-    let l-if1 = c in
-    let st = l-if1 .before .before .before .before in
-    (no-room (st .args .pool .now) (st .args .line .now) (st .args .out .now) (st .args .at) (l-if1 .if1 .taken), left-little (st .args .pool .now) (st .args .line .now) (st .args .out .now) (st .args .at) (omega (arith, l-if1 .if1 .taken)))
+    let a = c .before .before .before .before .args in (
+      no-room (a .pool .now) (a .line .now) (a .out .now) (a .at) (c .if1 .taken),
+      left-little (a .pool .now) (a .line .now) (a .out .now) (a .at) (omega (arith, c .if1 .taken)),
+    )
 
 sub-if2 : tie.Need-sub-if2
 sub-if2 c = search needs
 
 returns-2 : tie.Need-returns-2
 returns-2 c =
-    let l-if2 = c in
-    let st = l-if2 .before .before .before .before .before in
-    (little-room (st .args .pool .now) (st .args .line .now) (st .args .out .now) (st .args .at) (l-if2 .if2 .taken), left-little (st .args .pool .now) (st .args .line .now) (st .args .out .now) (st .args .at) (l-if2 .if2 .taken))
+    let a = c .before .before .before .before .before .args in (
+      little-room (a .pool .now) (a .line .now) (a .out .now) (a .at) (c .if2 .taken),
+      left-little (a .pool .now) (a .line .now) (a .out .now) (a .at) (c .if2 .taken),
+    )
 
-in-columns-requires : tie.Need-in-columns-requires
-in-columns-requires c κs = search needs
+line-number-requires : tie.Need-line-number-requires
+line-number-requires c κs = search needs
 
 put-number-requires : tie.Need-put-number-requires
-put-number-requires c κs = search needs
+put-number-requires c κs =
+    let n = c .before .before in
+    (omega (arith, n .line-number .ensures, line-low (entry (n .before) .args .line .now)), room (n .before))
 
 same-length : tie.Need-same-length
 same-length c = search needs
 
 returns-3 : tie.Need-returns-3
 returns-3 c =
-    let l-put-number = c .before .before in
-    let l-if3 = l-put-number .before .before in
-    let l-in-columns = l-if3 .before in
-    let l-if2 = l-in-columns .before in
-    let st = l-if2 .before .before .before .before .before in
-    (other (st .args .pool .now) (st .args .line .now) (st .args .out .now) (st .args .at) (l-if2 .if2 .left) (sym (l-in-columns .in-columns .ensures) ∙ not-true _ (l-if3 .if3 .taken)) (l-put-number .put-number .ensures), left-other (st .args .pool .now) (st .args .line .now) (st .args .out .now) (st .args .at) (l-if2 .if2 .left) (sym (l-in-columns .in-columns .ensures) ∙ not-true _ (l-if3 .if3 .taken)))
+    let p = c .before .before in
+    let t = p .before .before in
+    let n = t .before in
+    let a = entry (n .before) .args in (
+      other (a .pool .now) (a .line .now) (a .out .now) (a .at) (n .before .if2 .left) (n .line-number .ensures) (t .if3 .taken) (p .put-number .ensures),
+      left-other (a .pool .now) (a .line .now) (a .out .now) (a .at) (n .before .if2 .left) (omega (arith, n .line-number .ensures, t .if3 .taken)),
+    )
 
 fields-of-requires : tie.Need-fields-of-requires
-fields-of-requires c κs =
-    let l-if3 = c in
-    let l-in-columns = l-if3 .before in
-    let st = l-in-columns .before .before .before .before .before .before in
-    omega (arith, long 0 (st .args .line .now) (sym (l-in-columns .in-columns .ensures) ∙ not-false _ (l-if3 .if3 .left)))
+fields-of-requires c κs = omega (arith, long 0 (entry (roomy c) .args .line .now) (in-columns c))
 
 slice-aggregate-lower-block : tie.Need-slice-aggregate-lower-block
 slice-aggregate-lower-block c = search needs
@@ -60,12 +99,9 @@ lower-block-requires c κs = search needs
 
 put-number-requires-2 : tie.Need-put-number-requires-2
 put-number-requires-2 c κs =
-    let l-lower-block = c .before .before .before .before .before in
-    let l-fields-of = l-lower-block .before .before .before in
-    let l-if2 = l-fields-of .before .before .before in
-    let l-if1 = l-if2 .before in
-    let st = l-if1 .before .before .before .before in
-    let b = (answered-one (st .args .line .now) (l-fields-of .fields-of .ensures) (l-lower-block .lower-block .ensures)) in (omega (arith, b .number, block-low (places (st .args .pool .now)) (recordOf (st .args .line .now))), omega (arith, (l-if2 .if2 .left), l-if1 .if1 .left))
+    let l = c .before .before .before .before .before in
+    let a = entry (roomy (ordered l)) .args in
+    (omega (arith, one l .number, block-low (places (a .pool .now)) (recordOf (a .line .now))), room (roomy (ordered l)))
 
 same-length-2 : tie.Need-same-length-2
 same-length-2 c = search needs
@@ -75,37 +111,29 @@ same-length-3 c = search needs
 
 returns-4 : tie.Need-returns-4
 returns-4 c =
-    let l-put-number2 = c .before .before in
-    let l-if4 = l-put-number2 .before .before in
-    let l-lower-block = l-if4 .before .before .before .before in
-    let l-fields-of = l-lower-block .before .before .before in
-    let l-if3 = l-fields-of .before in
-    let l-in-columns = l-if3 .before in
-    let l-if2 = l-in-columns .before in
-    let st = l-if2 .before .before .before .before .before in
-    (refused (st .args .pool .now) (st .args .line .now) (st .args .out .now) (st .args .at) (l-if2 .if2 .left) (sym (l-in-columns .in-columns .ensures) ∙ not-false _ (l-if3 .if3 .left)) (answered-one (st .args .line .now) (l-fields-of .fields-of .ensures) (l-lower-block .lower-block .ensures)) (l-if4 .if4 .taken) (l-put-number2 .put-number2 .ensures), lowered-one (st .args .pool .now) (st .args .line .now) (st .args .out .now) (st .args .at) (l-if2 .if2 .left) (sym (l-in-columns .in-columns .ensures) ∙ not-false _ (l-if3 .if3 .left)) (answered-one (st .args .line .now) (l-fields-of .fields-of .ensures) (l-lower-block .lower-block .ensures)))
+    let p = c .before .before in
+    let t = p .before .before in
+    let l = t .before .before .before .before in
+    let q = ordered l in
+    let a = entry (roomy q) .args in (
+      refused (a .pool .now) (a .line .now) (a .out .now) (a .at) (roomy q .if2 .left) (in-columns q) (one l) (t .if4 .taken) (p .put-number2 .ensures),
+      lowered-one (a .pool .now) (a .line .now) (a .out .now) (a .at) (roomy q .if2 .left) (in-columns q) (one l),
+    )
 
 array-read-get : tie.Need-array-read-get
 array-read-get c = search needs
 
 get-requires : tie.Need-get-requires
 get-requires c κs =
-    let l-if4 = c .before in
-    let l-lower-block = l-if4 .before .before .before .before in
-    let l-fields-of = l-lower-block .before .before .before in
-    let st = l-fields-of .before .before .before .before .before .before .before .before in
-    let b = (answered-one (st .args .line .now) (l-fields-of .fields-of .ensures) (l-lower-block .lower-block .ensures)) in let e : getD (l-fields-of .fields-of .result) 3 0 ≡ recordOf (st .args .line .now) .d = ap (λ (z : List ℕ). getD z 3 0) (l-fields-of .fields-of .ensures) in omega (arith, low-d (st .args .line .now) b (omega (arith, l-if4 .if4 .left)), e)
+    let l = lowered (c .before) in
+    omega (arith, low-d (entry (roomy (ordered l)) .args .line .now) (one l) (accepted (c .before)), d-is l)
 
 put-term-requires : tie.Need-put-term-requires
 put-term-requires c κs =
-    let l-get = c .before .before in
-    let l-if4 = l-get .before .before in
-    let l-lower-block = l-if4 .before .before .before .before in
-    let l-fields-of = l-lower-block .before .before .before in
-    let l-if2 = l-fields-of .before .before .before in
-    let l-if1 = l-if2 .before in
-    let st = l-if1 .before .before .before .before in
-    let b = (answered-one (st .args .line .now) (l-fields-of .fields-of .ensures) (l-lower-block .lower-block .ensures)) in let n = (l-get .get .ensures ∙ ap (nodeOf (l-lower-block .lower-block .result .map)) (ap (λ (z : List ℕ). getD z 3 0) (l-fields-of .fields-of .ensures))) in (b .accepted (omega (arith, l-if4 .if4 .left)) .checked, (omega (arith, n, node-under (st .args .line .now) b (omega (arith, l-if4 .if4 .left))), omega (arith, (l-if2 .if2 .left), l-if1 .if1 .left)))
+    let g = c .before .before in
+    let l = lowered (g .before .before) in
+    let z = accepted (g .before .before) in
+    (one l .accepted z .checked, (omega (arith, node-is g, node-under (entry (roomy (ordered l)) .args .line .now) (one l) z), room (roomy (ordered l))))
 
 same-length-4 : tie.Need-same-length-4
 same-length-4 c = search needs
@@ -115,16 +143,14 @@ same-length-5 c = search needs
 
 returns-5 : tie.Need-returns-5
 returns-5 c =
-    let l-put-term = c .before .before in
-    let l-get = l-put-term .before .before .before in
-    let l-if4 = l-get .before .before in
-    let l-lower-block = l-if4 .before .before .before .before in
-    let l-fields-of = l-lower-block .before .before .before in
-    let l-if3 = l-fields-of .before in
-    let l-in-columns = l-if3 .before in
-    let l-if2 = l-in-columns .before in
-    let st = l-if2 .before .before .before .before .before in
-    (done (st .args .pool .now) (st .args .line .now) (st .args .out .now) (st .args .at) _ (l-if2 .if2 .left) (sym (l-in-columns .in-columns .ensures) ∙ not-false _ (l-if3 .if3 .left)) (answered-one (st .args .line .now) (l-fields-of .fields-of .ensures) (l-lower-block .lower-block .ensures)) (omega (arith, l-if4 .if4 .left)) (l-get .get .ensures ∙ ap (nodeOf (l-lower-block .lower-block .result .map)) (ap (λ (z : List ℕ). getD z 3 0) (l-fields-of .fields-of .ensures))) (l-put-term .put-term .ensures), lowered-one (st .args .pool .now) (st .args .line .now) (st .args .out .now) (st .args .at) (l-if2 .if2 .left) (sym (l-in-columns .in-columns .ensures) ∙ not-false _ (l-if3 .if3 .left)) (answered-one (st .args .line .now) (l-fields-of .fields-of .ensures) (l-lower-block .lower-block .ensures)))
+    let p = c .before .before in
+    let g = p .before .before .before in
+    let l = lowered (g .before .before) in
+    let q = ordered l in
+    let a = entry (roomy q) .args in (
+      done (a .pool .now) (a .line .now) (a .out .now) (a .at) _ (roomy q .if2 .left) (in-columns q) (one l) (accepted (g .before .before)) (node-is g) (p .put-term .ensures),
+      lowered-one (a .pool .now) (a .line .now) (a .out .now) (a .at) (roomy q .if2 .left) (in-columns q) (one l),
+    )
 
 pub answer-line-spec : {M : Type 1} → statement M
 answer-line-spec =
@@ -133,7 +159,7 @@ answer-line-spec =
     returns
     sub-if2
     returns-2
-    in-columns-requires
+    line-number-requires
     put-number-requires
     same-length
     returns-3

@@ -6,8 +6,8 @@ use Rattle.neon.specs.Op.{opAt, arrangementAt}
 use Rattle.neon.specs.Refusal.{formNumber}
 use Rattle.neon.proofs.Legal.{accepted}
 use Rattle.form.proofs.Parts.{coded}
-use Rattle.block_check.specs.Records.{instruction}
-use Rattle.block_check.proofs.Refusals.{form-legal}
+use Rattle.record_check.specs.Record.{instruction}
+use Rattle.record_check.proofs.Refusals.{form-legal}
 use borrow.Author.Needs.{needs}
 use Rattle.lower_record.proofs.lower_record.Statement.{statement}
 use Rattle.lower_record.proofs.lower_record.Tie as tie

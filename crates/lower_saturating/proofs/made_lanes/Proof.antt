@@ -5,7 +5,7 @@ use mathlib.Core.List.{[]}
 use Rattle.lower.proofs.Lanes.{LanesKept, lanes-first, lanes-more, lanes-all, lane-fits}
 use native.Mathlib.Nat.{lt-of-lt-of-le}
 use Rattle.lower.specs.Builds.{read, readIf, unread}
-use Rattle.saturating_kinds.specs.Kinds.{usesSecond, sourceBits}
+use Rattle.kinds.specs.Sources.{usesSecond, sourceBits}
 use Rattle.lower_saturating.specs.Lanes.{saturatingAt}
 use Rattle.lower_saturating.proofs.Joining.{made-most}
 use Rattle.lower_saturating.proofs.made_lanes.Statement.{statement}

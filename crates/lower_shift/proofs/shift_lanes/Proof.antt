@@ -5,7 +5,7 @@ use mathlib.Core.List.{[]}
 use Rattle.lower.proofs.Lanes.{LanesKept, lanes-first, lanes-more, lanes-all, lane-fits}
 use native.Mathlib.Nat.{lt-of-lt-of-le}
 use Rattle.lower.specs.Builds.{read, readIf, unread}
-use Rattle.lower_shift_lane.specs.Amounts.{isRegister}
+use Rattle.kinds.specs.Sources.{isRegister}
 use Rattle.lower_shift.specs.Lanes.{shiftAt}
 use Rattle.trees.specs.Arith.{shiftLanes}
 use Rattle.lower_shift.proofs.shift_lanes.Statement.{statement}

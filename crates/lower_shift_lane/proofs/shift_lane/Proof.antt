@@ -4,7 +4,7 @@ use Rattle.lower_shift_lane.proofs.Shifting.{lane-right}
 use Rattle.lower_shift_lane.proofs.Shifting.{lane-register}
 use mathlib.Core.Path.{subst}
 use Rattle.trees.specs.declared.ShiftKind.{ShiftKind}
-use Rattle.lower_shift_lane.specs.Amounts.{AmountIn}
+use Rattle.kinds.specs.Sources.{AmountIn}
 use borrow.Author.Needs.{needs}
 use Rattle.lower_shift_lane.proofs.shift_lane.Statement.{statement}
 use Rattle.lower_shift_lane.proofs.shift_lane.Tie as tie

@@ -3,7 +3,6 @@ use borrow.Author.Tests.{le-leb, lt-leb, not-true, not-false}
 use Prim.Native.Nat.{_≤_, _-_}
 use mathlib.Core.Path.{_≡_, sym, _∙_}
 use mathlib.Core.Bool.{true}
-use denote.Ref.{now}
 use Rattle.pool.specs.Node.{places}
 use Rattle.pool.specs.Rules.{okPool}
 use Rattle.pool_check.proofs.Nodes.{some-bad, one-more, none}
@@ -16,39 +15,37 @@ Inv-loop pool count n₀ n = (n ≤ count) × (okPool pool n ≡ true)
 abbrev μ-loop : tie.MeasureT-loop
 μ-loop pool count n₀ n = count - n
 
+abbrev entry : tie.Else1 Inv-loop μ-loop → tie.Start Inv-loop μ-loop
+entry c = c .before .before .before
+
+-- past the first test there are places for the count
+placed : (c : tie.Else1 Inv-loop μ-loop) → entry c .args .count ≤ places (entry c .args .pool .now)
+placed c = omega (arith, c .before .places .ensures, c .if1 .left)
+
+places-requires : tie.Need-places-requires Inv-loop μ-loop
+places-requires c κs = tt
+
 returns : tie.Need-returns Inv-loop μ-loop
 returns c =
-    let l-if1 = c in
-    let st = l-if1 .before .before in
-    rw (lt-leb (st .args .count) (places (now (st .args .pool))) (omega arith))
+    let a = c .before .before .before .args in
+    rw (lt-leb (a .count) (places (a .pool .now)) (omega (arith, c .before .places .ensures, c .if1 .taken)))
+
+loop-holds : tie.Need-loop-holds Inv-loop μ-loop
+loop-holds c = (omega arith, none (entry c .args .pool .now))
+
+node-ok-requires : tie.Need-node-ok-requires Inv-loop μ-loop
+node-ok-requires c κs = omega (arith, placed (c .before .before))
 
 returns-2 : tie.Need-returns-2 Inv-loop μ-loop
 returns-2 c =
-    let l-if2 = c in
-    let l-if1 = l-if2 .before in
-    let st = l-if1 .before .before in
-    rw (lt-leb (st .args .count) (places (now (st .args .pool))) (omega arith))
-
-loop-holds : tie.Need-loop-holds Inv-loop μ-loop
-loop-holds c =
-    let l-if2 = c in
-    let l-if1 = l-if2 .before in
-    let st = l-if1 .before .before in
-    (omega arith, none (now (st .args .pool)))
-
-node-ok-requires : tie.Need-node-ok-requires Inv-loop μ-loop
-node-ok-requires c κs = omega arith
-
-returns-3 : tie.Need-returns-3 Inv-loop μ-loop
-returns-3 c =
-    let l-if3 = c in
-    let l-node-ok = l-if3 .before in
-    let l-loop-test = l-node-ok .before in
-    let l-loop = l-loop-test .before in
-    let l-if2 = l-loop .before in
-    let l-if1 = l-if2 .before in
-    let st = l-if1 .before .before in
-    rw (le-leb (st .args .count) (places (now (st .args .pool))) (omega arith), some-bad (now (st .args .pool)) (l-loop .loop .n) (st .args .count) (l-loop-test .loop-test .taken) (sym (l-node-ok .node-ok .ensures) ∙ not-true _ (l-if3 .if3 .taken)))
+    let k = c .before in
+    let t = k .before in
+    let s = t .before in
+    let a = entry (s .before) .args in
+    rw (
+      le-leb (a .count) (places (a .pool .now)) (placed (s .before)),
+      some-bad (a .pool .now) (s .loop .n) (a .count) (t .loop-test .taken) (sym (k .node-ok .ensures) ∙ not-true _ (c .if2 .taken)),
+    )
 
 add-n : tie.Need-add-n Inv-loop μ-loop
 add-n c = omega arith
@@ -58,24 +55,16 @@ loop-less c = omega arith
 
 loop-again : tie.Need-loop-again Inv-loop μ-loop
 loop-again c =
-    let l-if3 = c in
-    let l-node-ok = l-if3 .before in
-    let l-loop-test = l-node-ok .before in
-    let l-loop = l-loop-test .before in
-    let l-if2 = l-loop .before in
-    let l-if1 = l-if2 .before in
-    let st = l-if1 .before .before in
-    (omega arith, one-more (now (st .args .pool)) (l-loop .loop .n) (l-loop .loop .inv .1) (sym (l-node-ok .node-ok .ensures) ∙ not-false _ (l-if3 .if3 .left)))
+    let k = c .before in
+    let s = k .before .before in
+    (omega arith, one-more (entry (s .before) .args .pool .now) (s .loop .n) (s .loop .inv .1) (sym (k .node-ok .ensures) ∙ not-false _ (c .if2 .left)))
 
-returns-4 : tie.Need-returns-4 Inv-loop μ-loop
-returns-4 c =
-    let l-loop-test = c in
-    let l-loop = l-loop-test .before in
-    let l-if2 = l-loop .before in
-    let l-if1 = l-if2 .before in
-    let st = l-if1 .before .before in
-    let e : l-loop .loop .n ≡ st .args .count = omega arith in
-    rw (le-leb (st .args .count) (places (now (st .args .pool))) (omega arith), ← e, l-loop .loop .inv .1)
+returns-3 : tie.Need-returns-3 Inv-loop μ-loop
+returns-3 c =
+    let s = c .before in
+    let a = entry (s .before) .args in
+    let e : s .loop .n ≡ a .count = omega arith in
+    rw (le-leb (a .count) (places (a .pool .now)) (placed (s .before)), ← e, s .loop .inv .1)
 
 pub pool-check-spec : {M : Type 1} → statement M
 pool-check-spec =
@@ -83,12 +72,12 @@ pool-check-spec =
     (tie.spec
     Inv-loop
     μ-loop
+    places-requires
     returns
-    returns-2
     loop-holds
     node-ok-requires
-    returns-3
+    returns-2
     add-n
     loop-less
     loop-again
-    returns-4)
+    returns-3)

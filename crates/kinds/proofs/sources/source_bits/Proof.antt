@@ -1,7 +1,7 @@
-use Rattle.saturating_kinds.proofs.Sources.{bits-narrowing, bits-same}
+use Rattle.kinds.proofs.Bits.{bits-narrowing, bits-same}
 use borrow.Author.Needs.{needs}
-use Rattle.saturating_kinds.proofs.source_bits.Statement.{statement}
-use Rattle.saturating_kinds.proofs.source_bits.Tie as tie
+use Rattle.kinds.proofs.sources.source_bits.Statement.{statement}
+use Rattle.kinds.proofs.sources.source_bits.Tie as tie
 
 narrowing-requires : tie.Need-narrowing-requires
 narrowing-requires c κs = search needs

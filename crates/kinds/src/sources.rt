@@ -1,12 +1,32 @@
-// What a saturating kind says of its sources: whether there is a second, and the bits of a source lane. The Rust's
-// saturating_lanes asks this of its kind.
+// The sources that a kind uses: whether there is a second, and the bits of a source lane.
 use trees::SaturatingKind;
+use trees::ShiftKind;
 ghost use mathlib.Core.Path.{_≡_};
 ghost use Prim.Native.Nat.{_≤_};
 ghost use Rattle.trees.specs.Arith.{narrowing as narrowingTree};
-ghost use Rattle.saturating_kinds.specs.Kinds.{usesSecond, sourceBits};
+ghost use Rattle.kinds.specs.Sources.{isRegister, usesSecond, sourceBits};
 
-// The kinds of two sources.
+// The shifts whose amount is the second source.
+pub fn is_register(kind: ShiftKind) -> bool
+    ensures { λ r. ⌜ r ≡ isRegister kind ⌝ }
+{
+    match kind {
+        ShiftKind::LeftImmediate {
+            shift: _,
+            saturate: _,
+        } => false,
+        ShiftKind::RightImmediate {
+            shift: _,
+            rounding: _,
+        } => false,
+        ShiftKind::Register {
+            rounding: _,
+            saturate: _,
+        } => true,
+    }
+}
+
+// The saturating kinds of two sources.
 pub fn uses_second(kind: SaturatingKind) -> bool
     ensures { λ r. ⌜ r ≡ usesSecond kind ⌝ }
 {
@@ -24,7 +44,7 @@ pub fn uses_second(kind: SaturatingKind) -> bool
     }
 }
 
-// The kinds whose source lanes have twice the bits of the result's.
+// The saturating kinds whose source lanes have twice the bits of the result's.
 pub fn narrowing(kind: SaturatingKind) -> bool
     ensures { λ r. ⌜ r ≡ narrowingTree kind ⌝ }
 {

@@ -4,7 +4,7 @@ use mathlib.Core.Bool.{Bool, true, false}
 use Prim.Native.Nat.{ℕ, _*_}
 use Rattle.trees.specs.declared.SaturatingKind.{SaturatingKind}
 use Rattle.trees.specs.Arith.{narrowing}
-use Rattle.saturating_kinds.specs.Kinds.{sourceBits}
+use Rattle.kinds.specs.Sources.{sourceBits}
 
 pub bits-narrowing : {b : Bool} (kind : SaturatingKind) (n : ℕ) → b ≡ narrowing kind → b ≡ true → n * 2 ≡ sourceBits kind n
 bits-narrowing kind n e q = rw (← e, q) refl

@@ -1,9 +1,27 @@
--- What a saturating kind says of its sources: whether there is a second, the bits of a source lane, and the lanes and amounts of its rows.
+-- What a kind says of its sources: whether there is a second, the bits of a source lane, and the lanes and amounts of its rows.
 use mathlib.Core.Bool.{Bool, true, false, cond}
-use Prim.Native.Nat.{ℕ, _*_, _≤_}
+use Prim.Native.Nat.{ℕ, _*_, _≤_, _<_}
+use Rattle.trees.specs.declared.ShiftKind.{ShiftKind}
+use Rattle.trees.specs.declared.ShiftKind.the-variants.{LeftImmediate, RightImmediate, Register}
 use Rattle.trees.specs.declared.SaturatingKind.{SaturatingKind}
 use Rattle.trees.specs.declared.SaturatingKind.the-variants.{AddSub, Halving, Narrow, ShiftNarrow, DoublingMultiplyHigh, Unary}
 use Rattle.trees.specs.Arith.{narrowing}
+
+-- ---- shifts
+
+-- whether the amount is the second source
+abbrev pub isRegister : ShiftKind → Bool
+isRegister (LeftImmediate shift saturate) = false
+isRegister (RightImmediate shift rounding) = false
+isRegister (Register rounding saturate) = true
+
+-- an immediate is of its row, for lanes of n bits
+abbrev pub AmountIn : ShiftKind → ℕ → Type 0
+AmountIn (LeftImmediate shift saturate) n = shift < n
+AmountIn (RightImmediate shift rounding) n = (1 ≤ shift) × (shift ≤ n)
+AmountIn (Register rounding saturate) n = Unit {0}
+
+-- ---- saturating kinds
 
 abbrev pub usesSecond : SaturatingKind → Bool
 usesSecond (AddSub op to) = true
