@@ -8,7 +8,7 @@ use native.Mathlib.Nat.{mul-one, mul-le-mul-left, one-le-mul}
 use Rattle.terms.specs.Expr.{Expr, Concat}
 use Rattle.pool.specs.declared.Node.{Node}
 use Rattle.pool.specs.declared.Built.{Built}
-use Rattle.pool.specs.Growth.{Grown, Reach, AllReached, Made}
+use Rattle.pool.specs.Growth.{Room, Grown, Reach, AllReached, Sized, Made}
 use Rattle.nodes.specs.Builders.{MadeConcat, MadeExtract}
 use Rattle.pool.proofs.Laws.{is-kept, reach-kept, reach-trans, grown-trans}
 use Rattle.pool.proofs.Steps.{start, step, finish, forget, stay, given}
@@ -56,14 +56,15 @@ module _ (lane : Expr → Expr → Expr → ℕ → Expr) {m n bits : ℕ} {d fi
         made = λ {td} {ta} {tb} v x y w. subst (λ (i : ℕ). Made w0 k w1 (r .node .0) (r .count) bits (lane td ta tb i) ins) z (e .made v x y w);
       })
 
-  pub lanes-more : {w0 w1 w2 w3 : List ℕ} {r1 r2 r3 : Built} {i : ℕ} {also : List ℕ} → 1 ≤ bits → 1 ≤ i → bits * (i + 1) ≤ 129 → n + 1 ≤ m
+  pub lanes-more : {w0 w1 w2 w3 : List ℕ} {r1 r2 r3 : Built} {i lanes : ℕ} {also : List ℕ} → 1 ≤ bits → 1 ≤ i → i < lanes → bits * lanes ≤ 128 → n + 1 ≤ m
       → LanesTo w0 k w1 r1 m bits d first second lane ins i
       → Lowers w1 (r1 .count) w2 r2 n bits d first second (λ td ta tb. lane td ta tb i) also
       → MadeConcat w2 (r2 .count) w3 r3 (r2 .node) (r1 .node)
       → LanesTo w0 k w3 r3 m bits d first second lane ins (i + 1)
-  lanes-more {w0} {w1} {w2} {w3} {r1} {r2} {r3} {i} lb li lw lm e1 e2 e3 =
+  lanes-more {w0} {w1} {w2} {w3} {r1} {r2} {r3} {i} {lanes} lb li lh lw lm e1 e2 e3 =
       let some : 1 ≤ bits * i = one-le-mul lb li in
       let total : bits + bits * i ≡ bits * (i + 1) = omega arith in
+      let most : bits * (i + 1) ≤ 129 = omega (arith, mul-le-mul-left bits lh) in
       record {
         sized = omega (arith, e1 .sized, e2 .sized, e3 .sized);
         made = λ {td} {ta} {tb} v x y z.
@@ -71,7 +72,7 @@ module _ (lane : Expr → Expr → Expr → ℕ → Expr) {m n bits : ℕ} {d fi
             let s1 = step (start v [] tt) [] (forget m1) in
             let m2 = e2 .made (s1 .valid) (source-kept (m1 .grown) x) (source-kept (m1 .grown) y) (source-kept (m1 .grown) z) in
             let s2 = step s1 [] (forget m2) in
-            let m3 = e3 .made {s = bits * (i + 1)} (s2 .valid) lb some total lw (s2 .env .0) (s2 .env .1 .0) in
+            let m3 = e3 .made {s = bits * (i + 1)} (s2 .valid) lb some total most (s2 .env .0) (s2 .env .1 .0) in
             let m = finish (step s2 (0 ∷ 1 ∷ []) m3) tt in
             rw (concat-next i (lane td ta tb) li)
             (record {
@@ -90,6 +91,17 @@ pub lanes-all : (lane : Expr → Expr → Expr → ℕ → Expr) (m bits : ℕ) 
     → LanesTo w0 k w1 r m bits d first second lane ins lanes
 lanes-all lane m bits {d} {first} {second} {ins} {k} {w0} {w1} {r} e h =
     subst (λ (j : ℕ). LanesTo w0 k w1 r m bits d first second lane ins j) e h
+
+-- room for the nodes of a lane, of which m with its concatenation: for lane 0, for lane i above i lanes, and then for the concatenation
+module _ {old : List ℕ} {k m lanes : ℕ} (room : Room old k (m * lanes)) where
+  pub room-first : {n : ℕ} → n ≤ m → 1 ≤ lanes → Room old k n
+  room-first h l = omega (arith, room, mul-le-mul-left m l)
+
+  pub room-lane : {ws : List ℕ} {r c n i : ℕ} → n ≤ m → i < lanes → Sized old k ws r c (m * i) → Room ws c n
+  room-lane h l s = omega (arith, room, s, mul-le-mul-left m l)
+
+  pub room-concat : {ws ws′ : List ℕ} {r r′ c c′ n i : ℕ} → n + 1 ≤ m → i < lanes → Sized old k ws r c (m * i) → Sized ws c ws′ r′ c′ n → Room ws′ c′ 1
+  room-concat h l s t = omega (arith, room, s, t, mul-le-mul-left m l)
 
 -- a lane lies within the lanes' bits
 pub lane-fits : (bits i lanes : ℕ) {w : ℕ} → i < lanes → bits * lanes ≤ w → bits * i + bits ≤ w

@@ -1,11 +1,10 @@
 use native.Mathlib.Omega.{arith}
-use Prim.Native.Nat.{_*_, _-_, _≤_}
-use mathlib.Core.Path.{_≡_}
-use mathlib.Core.List.{[]}
-use Rattle.lower.proofs.Lanes.{LanesKept, lanes-first, lanes-more, lanes-all, lane-fits}
 use native.Mathlib.Nat.{lt-of-lt-of-le}
-use Rattle.lower.specs.Builds.{read, readIf, unread}
+use Prim.Native.Nat.{_*_, _-_, _≤_}
+use mathlib.Core.List.{[]}
 use Rattle.kinds.specs.Sources.{isRegister}
+use Rattle.lower.specs.Builds.{read, readIf, unread}
+use Rattle.lower.proofs.Lanes.{LanesTo, LanesKept, lanes-first, lanes-more, lanes-all, room-first, room-lane, room-concat}
 use Rattle.lower_shift.specs.Lanes.{shiftAt}
 use Rattle.trees.specs.Arith.{shiftLanes}
 use Rattle.lower_shift.proofs.shift_lanes.Statement.{statement}
@@ -13,82 +12,79 @@ use Rattle.lower_shift.proofs.shift_lanes.Tie as tie
 
 abbrev Inv-loop : tie.InvT-loop
 Inv-loop pool₀ count kind signed first second lane-bits lanes acc₀ i₀ pool acc i =
-    (1 ≤ i) × (i ≤ lanes) × LanesKept count 26 lane-bits unread (read first (lane-bits * lanes)) (readIf (isRegister kind) second (lane-bits * lanes)) (shiftAt kind signed lane-bits) ([]) pool₀ acc₀ pool acc i
+    (1 ≤ i)
+    × (i ≤ lanes)
+    × LanesKept count 26 lane-bits unread (read first (lane-bits * lanes)) (readIf (isRegister kind) second (lane-bits * lanes)) (shiftAt kind signed lane-bits) [] pool₀ acc₀ pool acc i
 
 abbrev μ-loop : tie.MeasureT-loop
 μ-loop pool₀ count kind signed first second lane-bits lanes acc₀ i₀ pool acc i = lanes - i
+
+abbrev entry : tie.At-loop Inv-loop μ-loop → tie.Start Inv-loop μ-loop
+entry c = c .before .before .before .before .before .before .before
+
+-- the lanes so far, over the pool at entry
+so-far : (c : tie.At-loop Inv-loop μ-loop) → let a = entry c .args in
+    LanesTo (a .pool .now) (a .count) (c .loop .pool) (c .loop .acc) 26 (a .lane-bits) unread (read (a .first) (a .lane-bits * a .lanes)) (readIf (isRegister (a .kind)) (a .second) (a .lane-bits * a .lanes))
+    (shiftAt (a .kind) (a .signed) (a .lane-bits)) [] (c .loop .i)
+so-far c =
+    let lane0 = c .before .before .before in
+    c .loop .inv .2 _ (lanes-first _ {m = 26} (lane0 .before .first .ensures) (omega arith) (lane0 .shift-at .ensures))
 
 first-requires : tie.Need-first-requires Inv-loop μ-loop
 first-requires c κs = tt
 
 shift-at-requires : tie.Need-shift-at-requires Inv-loop μ-loop
 shift-at-requires c κs =
-    let l-first = c in
-    let st = l-first .before .before .before in
-    (omega (arith, st .pre, l-first .first .ensures), ((omega (arith, st .pre, l-first .first .ensures), λ u. lt-of-lt-of-le (st .pre .1 .0 .1 u) (omega (arith, st .pre, l-first .first .ensures))), (st .pre .1 .1 .0, st .pre .1 .1 .1, st .pre .1 .1 .2, omega (arith, st .pre, l-first .first .ensures), st .pre .1 .1 .4)))
+    let p = c .before .before .before .pre in
+    let w = p .1 .1 in
+    (room-first (p .0) (omega arith) (w .3), (p .1 .0, (w .0, w .1, w .2, omega (arith, c .first .ensures, w .3), w .4)))
 
 loop-holds : tie.Need-loop-holds Inv-loop μ-loop
-loop-holds c =
-    let st = c .before .before .before .before .before .before in
-    (omega arith, omega (arith, st .pre), λ old d. d)
+loop-holds c = (omega arith, c .before .before .before .before .before .before .pre .1 .1 .3, λ old d. d)
 
 shift-at-requires-2 : tie.Need-shift-at-requires-2 Inv-loop μ-loop
 shift-at-requires-2 c κs =
-    let l-loop-test = c .before in
-    let l-loop = l-loop-test .before in
-    let l-shift-at = l-loop .before .before .before in
-    let l-first = l-shift-at .before in
-    let st = l-first .before .before .before in
-    (omega (arith, st .pre, (l-loop .loop .inv .2 _ (lanes-first (shiftAt (st .args .kind) (st .args .signed) (st .args .lane-bits)) {m = 26} (l-first .first .ensures) (omega arith) (l-shift-at .shift-at .ensures))) .sized, l-loop-test .loop-test .taken), ((omega (arith, st .pre, (l-loop .loop .inv .2 _ (lanes-first (shiftAt (st .args .kind) (st .args .signed) (st .args .lane-bits)) {m = 26} (l-first .first .ensures) (omega arith) (l-shift-at .shift-at .ensures))) .sized, l-loop-test .loop-test .taken), λ u. lt-of-lt-of-le (st .pre .1 .0 .1 u) (omega (arith, st .pre, (l-loop .loop .inv .2 _ (lanes-first (shiftAt (st .args .kind) (st .args .signed) (st .args .lane-bits)) {m = 26} (l-first .first .ensures) (omega arith) (l-shift-at .shift-at .ensures))) .sized, l-loop-test .loop-test .taken))), (st .pre .1 .1 .0, st .pre .1 .1 .1, st .pre .1 .1 .2, omega (arith, st .pre, (l-loop .loop .inv .2 _ (lanes-first (shiftAt (st .args .kind) (st .args .signed) (st .args .lane-bits)) {m = 26} (l-first .first .ensures) (omega arith) (l-shift-at .shift-at .ensures))) .sized, l-loop-test .loop-test .taken), st .pre .1 .1 .4)))
+    let t = c .before in
+    let p = entry (t .before) .pre in
+    let w = p .1 .1 in
+    let s = so-far (t .before) .sized in
+    (room-lane (p .0) (omega arith) (t .loop-test .taken) s, ((lt-of-lt-of-le (p .1 .0 .0) (s .more), λ u. lt-of-lt-of-le (p .1 .0 .1 u) (s .more)), (w .0, w .1, w .2, t .loop-test .taken, w .4)))
 
 concat-requires : tie.Need-concat-requires Inv-loop μ-loop
 concat-requires c κs =
-    let l-shift-at2 = c .before .before .before in
-    let l-loop-test = l-shift-at2 .before .before in
-    let l-loop = l-loop-test .before in
-    let l-shift-at = l-loop .before .before .before in
-    let l-first = l-shift-at .before in
-    let st = l-first .before .before .before in
-    omega (arith, st .pre, (l-loop .loop .inv .2 _ (lanes-first (shiftAt (st .args .kind) (st .args .signed) (st .args .lane-bits)) {m = 26} (l-first .first .ensures) (omega arith) (l-shift-at .shift-at .ensures))) .sized, l-shift-at2 .shift-at2 .ensures .sized, l-loop-test .loop-test .taken)
+    let l = c .before .before .before in
+    let t = l .before .before in
+    let s = so-far (t .before) .sized in
+    let n = l .shift-at2 .ensures .sized in
+    (room-concat (entry (t .before) .pre .0) (omega arith) (t .loop-test .taken) s n, (n .under, lt-of-lt-of-le (s .under) (n .more)))
+
+abbrev turn : tie.After-slice-known4 Inv-loop μ-loop → tie.In-loop Inv-loop μ-loop
+turn c = c .before .before .before .before .before .before .before .before
 
 add-i : tie.Need-add-i Inv-loop μ-loop
-add-i c =
-    let l-loop-test = c .before .before .before .before .before .before .before .before in
-    let st = l-loop-test .before .before .before .before .before .before .before .before in
-    omega (arith, l-loop-test .loop-test .taken, st .fits .lanes)
+add-i c = omega (arith, turn c .loop-test .taken, entry (turn c .before) .fits .lanes)
 
 loop-less : tie.Need-loop-less Inv-loop μ-loop
-loop-less c =
-    let l-loop-test = c .before .before .before .before .before .before .before .before in
-    omega (arith, l-loop-test .loop-test .taken)
+loop-less c = omega (arith, turn c .loop-test .taken)
 
 loop-again : tie.Need-loop-again Inv-loop μ-loop
 loop-again c =
-    let l-concat = c .before .before in
-    let l-shift-at2 = l-concat .before .before .before .before in
-    let l-loop-test = l-shift-at2 .before .before in
-    let l-loop = l-loop-test .before in
-    let st = l-loop .before .before .before .before .before .before .before in
-    (omega arith, omega (arith, l-loop-test .loop-test .taken), λ old d. lanes-more (shiftAt (st .args .kind) (st .args .signed) (st .args .lane-bits)) (omega (arith, st .pre)) (l-loop .loop .inv .0) (omega (arith, st .pre, lane-fits (st .args .lane-bits) (l-loop .loop .i) (st .args .lanes) {w = 128} (l-loop-test .loop-test .taken) (omega (arith, st .pre)))) (omega arith) (l-loop .loop .inv .2 old d) (l-shift-at2 .shift-at2 .ensures) (l-concat .concat .ensures))
+    let t = turn c in
+    let s = t .before .loop in
+    let w = entry (t .before) .pre .1 .1 in
+    let j = c .before .before in
+    let l = j .before .before .before .before in (
+      omega arith,
+      omega (arith, t .loop-test .taken),
+      λ old d. lanes-more _ (omega (arith, w .0)) (s .inv .0) (t .loop-test .taken) (w .4) (omega arith) (s .inv .2 old d) (l .shift-at2 .ensures) (j .concat .ensures),
+    )
 
 same-length : tie.Need-same-length Inv-loop μ-loop
-same-length c =
-    let l-loop = c .before in
-    let l-shift-at = l-loop .before .before .before in
-    let l-first = l-shift-at .before in
-    let st = l-first .before .before .before in
-    omega (arith, (l-loop .loop .inv .2 _ (lanes-first (shiftAt (st .args .kind) (st .args .signed) (st .args .lane-bits)) {m = 26} (l-first .first .ensures) (omega arith) (l-shift-at .shift-at .ensures))) .sized)
+same-length c = so-far (c .before) .sized .long
 
 returns : tie.Need-returns Inv-loop μ-loop
 unfolding shiftLanes
-returns c =
-    let l-loop-test = c in
-    let l-loop = l-loop-test .before in
-    let l-shift-at = l-loop .before .before .before in
-    let l-first = l-shift-at .before in
-    let st = l-first .before .before .before in
-    let e : l-loop .loop .i ≡ st .args .lanes = omega (arith, l-loop .loop .inv .1, l-loop-test .loop-test .left) in
-    lanes-all (shiftAt (st .args .kind) (st .args .signed) (st .args .lane-bits)) 26 (st .args .lane-bits) e (l-loop .loop .inv .2 _ (lanes-first (shiftAt (st .args .kind) (st .args .signed) (st .args .lane-bits)) {m = 26} (l-first .first .ensures) (omega arith) (l-shift-at .shift-at .ensures)))
+returns c = lanes-all _ _ _ (omega (arith, c .before .loop .inv .1, c .loop-test .left)) (so-far (c .before))
 
 pub shift-lanes-spec : {M : Type 1} → statement M
 shift-lanes-spec =

@@ -1,9 +1,8 @@
 use native.Mathlib.Omega.{arith}
-use Prim.Native.Nat.{_-_, _≤_}
-use mathlib.Core.Path.{_≡_}
 use native.Mathlib.Nat.{le-refl}
+use Prim.Native.Nat.{_-_, _≤_}
 use Rattle.lower_bits.specs.Layers.{zerosAt}
-use Rattle.lower_bits.proofs.Layering.{BitsKept, bits-none, bits-more, bits-all, zerosTo, zeros-none, zeros-more}
+use Rattle.lower_bits.proofs.Layering.{BitsTo, BitsKept, bits-none, bits-more, bits-all, zerosTo, zeros-none, zeros-more}
 use Rattle.lower_bits.proofs.counts.leading_zeros.Statement.{statement}
 use Rattle.lower_bits.proofs.counts.leading_zeros.Tie as tie
 
@@ -13,57 +12,50 @@ Inv-loop pool₀ count value bits acc₀ i₀ pool acc i = (i ≤ bits) × BitsK
 abbrev μ-loop : tie.MeasureT-loop
 μ-loop pool₀ count value bits acc₀ i₀ pool acc i = bits - i
 
+abbrev entry : tie.At-loop Inv-loop μ-loop → tie.Start Inv-loop μ-loop
+entry c = c .before .before .before .before .before .before
+
+-- the bits so far, over the pool at entry
+so-far : (c : tie.At-loop Inv-loop μ-loop) → let a = entry c .args in
+    BitsTo (a .pool .now) (a .count) (c .loop .pool) (c .loop .acc) 5 (a .bits) (a .value) (zerosTo (a .bits)) (c .loop .i)
+so-far c =
+    let s = entry c in
+    c .loop .inv .1 _ (bits-none 5 (zerosTo (s .args .bits)) (s .args .bits) (s .pre .1 .1) (s .pre .1 .2) (le-refl _) (zeros-none (s .args .bits)) (c .before .before .before .konst .ensures))
+
 konst-requires : tie.Need-konst-requires Inv-loop μ-loop
-konst-requires c κs =
-    let st = c .before .before in
-    omega (arith, st .pre)
+konst-requires c κs = omega (arith, c .before .before .pre)
 
 loop-holds : tie.Need-loop-holds Inv-loop μ-loop
-loop-holds c =
-    (omega arith, λ old d. d)
+loop-holds c = (omega arith, λ old d. d)
 
 zeros-at-requires : tie.Need-zeros-at-requires Inv-loop μ-loop
 zeros-at-requires c κs =
-    let l-loop-test = c .before in
-    let l-loop = l-loop-test .before in
-    let l-konst = l-loop .before .before .before in
-    let st = l-konst .before .before .before in
-    omega (arith, st .pre, (l-loop .loop .inv .1 _ (bits-none 5 (zerosTo (st .args .bits)) (st .args .bits) (st .pre .1 .1) (st .pre .1 .2) (le-refl _) (zeros-none (st .args .bits)) (l-konst .konst .ensures))) .sized, l-loop-test .loop-test .taken)
+    let t = c .before in
+    omega (arith, entry (t .before) .pre, so-far (t .before) .sized, t .loop-test .taken)
+
+abbrev turn : tie.After-slice-known3 Inv-loop μ-loop → tie.In-loop Inv-loop μ-loop
+turn c = c .before .before .before .before
 
 add-i : tie.Need-add-i Inv-loop μ-loop
-add-i c =
-    let l-loop-test = c .before .before .before .before in
-    let st = l-loop-test .before .before .before .before .before .before .before in
-    omega (arith, l-loop-test .loop-test .taken, st .fits .bits)
+add-i c = omega (arith, turn c .loop-test .taken, entry (turn c .before) .fits .bits)
 
 loop-less : tie.Need-loop-less Inv-loop μ-loop
-loop-less c =
-    let l-loop-test = c .before .before .before .before in
-    omega (arith, l-loop-test .loop-test .taken)
+loop-less c = omega (arith, turn c .loop-test .taken)
 
 loop-again : tie.Need-loop-again Inv-loop μ-loop
 loop-again c =
-    let l-zeros-at = c .before .before in
-    let l-loop-test = l-zeros-at .before .before in
-    let l-loop = l-loop-test .before in
-    let st = l-loop .before .before .before .before .before .before in
-    (omega (arith, l-loop-test .loop-test .taken), λ old d. bits-more 5 (zerosTo (st .args .bits)) (zerosAt (st .args .bits)) (zeros-more (st .args .bits) (l-loop .loop .i)) (l-loop .loop .inv .1 old d) (l-zeros-at .zeros-at .ensures))
+    let t = turn c in
+    let s = t .before .loop in
+    let n = entry (t .before) .args .bits in
+    (omega (arith, t .loop-test .taken), λ old d. bits-more 5 (zerosTo n) (zerosAt n) (zeros-more n (s .i)) (s .inv .1 old d) (c .before .before .zeros-at .ensures))
 
 same-length : tie.Need-same-length Inv-loop μ-loop
-same-length c =
-    let l-loop = c .before in
-    let l-konst = l-loop .before .before .before in
-    let st = l-konst .before .before .before in
-    omega (arith, (l-loop .loop .inv .1 _ (bits-none 5 (zerosTo (st .args .bits)) (st .args .bits) (st .pre .1 .1) (st .pre .1 .2) (le-refl _) (zeros-none (st .args .bits)) (l-konst .konst .ensures))) .sized)
+same-length c = so-far (c .before) .sized .long
 
 returns : tie.Need-returns Inv-loop μ-loop
 returns c =
-    let l-loop-test = c in
-    let l-loop = l-loop-test .before in
-    let l-konst = l-loop .before .before .before in
-    let st = l-konst .before .before .before in
-    let e : l-loop .loop .i ≡ st .args .bits = omega (arith, l-loop .loop .inv .0, l-loop-test .loop-test .left) in
-    bits-all 5 (zerosTo (st .args .bits)) (st .pre .1 .1) e (l-loop .loop .inv .1 _ (bits-none 5 (zerosTo (st .args .bits)) (st .args .bits) (st .pre .1 .1) (st .pre .1 .2) (le-refl _) (zeros-none (st .args .bits)) (l-konst .konst .ensures)))
+    let s = c .before in
+    bits-all 5 (zerosTo (entry s .args .bits)) (entry s .pre .1 .1) (omega (arith, s .loop .inv .0, c .loop-test .left)) (so-far s)
 
 pub leading-zeros-spec : {M : Type 1} → statement M
 leading-zeros-spec =

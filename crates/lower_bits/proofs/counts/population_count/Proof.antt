@@ -1,8 +1,7 @@
 use native.Mathlib.Omega.{arith}
 use Prim.Native.Nat.{_-_, _≤_}
-use mathlib.Core.Path.{_≡_}
 use Rattle.lower_bits.specs.Layers.{countAt}
-use Rattle.lower_bits.proofs.Layering.{BitsKept, bits-none, bits-more, bits-all, countTo, count-none, count-more}
+use Rattle.lower_bits.proofs.Layering.{BitsTo, BitsKept, bits-none, bits-more, bits-all, countTo, count-none, count-more}
 use Rattle.lower_bits.proofs.counts.population_count.Statement.{statement}
 use Rattle.lower_bits.proofs.counts.population_count.Tie as tie
 
@@ -12,57 +11,50 @@ Inv-loop pool₀ count value lane-bits acc₀ i₀ pool acc i = (i ≤ lane-bits
 abbrev μ-loop : tie.MeasureT-loop
 μ-loop pool₀ count value lane-bits acc₀ i₀ pool acc i = lane-bits - i
 
+abbrev entry : tie.At-loop Inv-loop μ-loop → tie.Start Inv-loop μ-loop
+entry c = c .before .before .before .before .before .before
+
+-- the bits so far, over the pool at entry
+so-far : (c : tie.At-loop Inv-loop μ-loop) → let a = entry c .args in
+    BitsTo (a .pool .now) (a .count) (c .loop .pool) (c .loop .acc) 3 (a .lane-bits) (a .value) (countTo (a .lane-bits)) (c .loop .i)
+so-far c =
+    let s = entry c in
+    c .loop .inv .1 _ (bits-none 3 (countTo (s .args .lane-bits)) 0 (s .pre .1 .1) (s .pre .1 .2) (omega arith) (count-none (s .args .lane-bits)) (c .before .before .before .konst .ensures))
+
 konst-requires : tie.Need-konst-requires Inv-loop μ-loop
-konst-requires c κs =
-    let st = c .before .before in
-    omega (arith, st .pre)
+konst-requires c κs = omega (arith, c .before .before .pre)
 
 loop-holds : tie.Need-loop-holds Inv-loop μ-loop
-loop-holds c =
-    (omega arith, λ old d. d)
+loop-holds c = (omega arith, λ old d. d)
 
 count-at-requires : tie.Need-count-at-requires Inv-loop μ-loop
 count-at-requires c κs =
-    let l-loop-test = c .before in
-    let l-loop = l-loop-test .before in
-    let l-konst = l-loop .before .before .before in
-    let st = l-konst .before .before .before in
-    omega (arith, st .pre, (l-loop .loop .inv .1 _ (bits-none 3 (countTo (st .args .lane-bits)) 0 (st .pre .1 .1) (st .pre .1 .2) (omega arith) (count-none (st .args .lane-bits)) (l-konst .konst .ensures))) .sized, l-loop-test .loop-test .taken)
+    let t = c .before in
+    omega (arith, entry (t .before) .pre, so-far (t .before) .sized, t .loop-test .taken)
+
+abbrev turn : tie.After-slice-known3 Inv-loop μ-loop → tie.In-loop Inv-loop μ-loop
+turn c = c .before .before .before .before
 
 add-i : tie.Need-add-i Inv-loop μ-loop
-add-i c =
-    let l-loop-test = c .before .before .before .before in
-    let st = l-loop-test .before .before .before .before .before .before .before in
-    omega (arith, l-loop-test .loop-test .taken, st .fits .lane-bits)
+add-i c = omega (arith, turn c .loop-test .taken, entry (turn c .before) .fits .lane-bits)
 
 loop-less : tie.Need-loop-less Inv-loop μ-loop
-loop-less c =
-    let l-loop-test = c .before .before .before .before in
-    omega (arith, l-loop-test .loop-test .taken)
+loop-less c = omega (arith, turn c .loop-test .taken)
 
 loop-again : tie.Need-loop-again Inv-loop μ-loop
 loop-again c =
-    let l-count-at = c .before .before in
-    let l-loop-test = l-count-at .before .before in
-    let l-loop = l-loop-test .before in
-    let st = l-loop .before .before .before .before .before .before in
-    (omega (arith, l-loop-test .loop-test .taken), λ old d. bits-more 3 (countTo (st .args .lane-bits)) (countAt (st .args .lane-bits)) (count-more (st .args .lane-bits) (l-loop .loop .i)) (l-loop .loop .inv .1 old d) (l-count-at .count-at .ensures))
+    let t = turn c in
+    let s = t .before .loop in
+    let n = entry (t .before) .args .lane-bits in
+    (omega (arith, t .loop-test .taken), λ old d. bits-more 3 (countTo n) (countAt n) (count-more n (s .i)) (s .inv .1 old d) (c .before .before .count-at .ensures))
 
 same-length : tie.Need-same-length Inv-loop μ-loop
-same-length c =
-    let l-loop = c .before in
-    let l-konst = l-loop .before .before .before in
-    let st = l-konst .before .before .before in
-    omega (arith, (l-loop .loop .inv .1 _ (bits-none 3 (countTo (st .args .lane-bits)) 0 (st .pre .1 .1) (st .pre .1 .2) (omega arith) (count-none (st .args .lane-bits)) (l-konst .konst .ensures))) .sized)
+same-length c = so-far (c .before) .sized .long
 
 returns : tie.Need-returns Inv-loop μ-loop
 returns c =
-    let l-loop-test = c in
-    let l-loop = l-loop-test .before in
-    let l-konst = l-loop .before .before .before in
-    let st = l-konst .before .before .before in
-    let e : l-loop .loop .i ≡ st .args .lane-bits = omega (arith, l-loop .loop .inv .0, l-loop-test .loop-test .left) in
-    bits-all 3 (countTo (st .args .lane-bits)) (st .pre .1 .1) e (l-loop .loop .inv .1 _ (bits-none 3 (countTo (st .args .lane-bits)) 0 (st .pre .1 .1) (st .pre .1 .2) (omega arith) (count-none (st .args .lane-bits)) (l-konst .konst .ensures)))
+    let s = c .before in
+    bits-all 3 (countTo (entry s .args .lane-bits)) (entry s .pre .1 .1) (omega (arith, s .loop .inv .0, c .loop-test .left)) (so-far s)
 
 pub population-count-spec : {M : Type 1} → statement M
 population-count-spec =

@@ -1,9 +1,10 @@
 use native.Mathlib.Omega.{arith}
+use native.Mathlib.Nat.{lt-of-lt-of-le}
 use Prim.Native.Nat.{_-_, _≤_}
-use mathlib.Core.Path.{_≡_, refl}
+use mathlib.Core.Path.{refl}
 use mathlib.Core.List.{[], _∷_}
 use Rattle.lower.specs.Builds.{read, unread}
-use Rattle.lower.proofs.Lanes.{LanesKept, lanes-first, lanes-more}
+use Rattle.lower.proofs.Lanes.{LanesTo, LanesKept, lanes-first, lanes-more, room-lane, room-concat}
 use Rattle.lower_bits.specs.Layers.{reversedAt}
 use Rattle.lower_bits.proofs.Bitwise.{reversed-bit, reversed-all}
 use Rattle.lower_bits.proofs.counts.reverse_bits.Statement.{statement}
@@ -16,79 +17,73 @@ Inv-loop pool₀ count value lane-bits top acc₀ i₀ pool acc i =
 abbrev μ-loop : tie.MeasureT-loop
 μ-loop pool₀ count value lane-bits top acc₀ i₀ pool acc i = lane-bits - i
 
+abbrev entry : tie.At-loop Inv-loop μ-loop → tie.Start Inv-loop μ-loop
+entry c = c .before .before .before .before .before .before
+
+-- the bits so far, over the pool at entry
+so-far : (c : tie.At-loop Inv-loop μ-loop) → let a = entry c .args in
+    LanesTo (a .pool .now) (a .count) (c .loop .pool) (c .loop .acc) 2 1 unread (read (a .value) (a .lane-bits)) unread (reversedAt (a .lane-bits))
+    (a .value .0 ∷ []) (c .loop .i)
+so-far c =
+    let s = entry c in
+    let bit0 = c .before .before .before in
+    c .loop .inv .2 _ (lanes-first _ {m = 2} refl (omega arith) (reversed-bit (s .args .lane-bits) 0 (s .pre .1 .1) (omega arith) (bit0 .extract .ensures)))
+
 sub-top : tie.Need-sub-top Inv-loop μ-loop
-sub-top c =
-    let st = c .before in
-    omega (arith, st .pre)
+sub-top c = c .before .pre .1 .1
 
 extract-requires : tie.Need-extract-requires Inv-loop μ-loop
-extract-requires c κs =
-    let st = c .before .before in
-    omega (arith, st .pre)
+extract-requires c κs = let p = c .before .before .pre in omega (arith, p)
 
 loop-holds : tie.Need-loop-holds Inv-loop μ-loop
-loop-holds c =
-    let st = c .before .before .before .before .before in
-    (omega arith, omega (arith, st .pre), λ old d. d)
+loop-holds c = (omega arith, c .before .before .before .before .before .pre .1 .1, λ old d. d)
 
 sub-at : tie.Need-sub-at Inv-loop μ-loop
-sub-at c =
-    let l-loop-test = c in
-    let st = l-loop-test .before .before .before .before .before .before .before in
-    omega (arith, st .pre, l-loop-test .loop-test .taken)
+sub-at c = omega (arith, entry (c .before) .pre .1 .1, c .loop-test .taken)
 
 extract-requires-2 : tie.Need-extract-requires-2 Inv-loop μ-loop
 extract-requires-2 c κs =
-    let l-loop-test = c .before in
-    let l-loop = l-loop-test .before in
-    let l-extract = l-loop .before .before .before in
-    let st = l-extract .before .before .before in
-    omega (arith, st .pre, (l-loop .loop .inv .2 _ (lanes-first (reversedAt (st .args .lane-bits)) {m = 2} refl (omega arith) (reversed-bit (st .args .lane-bits) 0 (st .pre .1 .1) (omega arith) (l-extract .extract .ensures)))) .sized, l-loop-test .loop-test .taken)
+    let t = c .before in
+    let p = entry (t .before) .pre in
+    let s = so-far (t .before) .sized in
+    (room-lane (p .0) (omega arith) (t .loop-test .taken) s, (lt-of-lt-of-le (p .1 .0) (s .more), omega arith, omega (arith, p .1)))
 
 concat-requires : tie.Need-concat-requires Inv-loop μ-loop
 concat-requires c κs =
-    let l-extract2 = c .before .before .before in
-    let l-loop-test = l-extract2 .before .before in
-    let l-loop = l-loop-test .before in
-    let l-extract = l-loop .before .before .before in
-    let st = l-extract .before .before .before in
-    omega (arith, st .pre, (l-loop .loop .inv .2 _ (lanes-first (reversedAt (st .args .lane-bits)) {m = 2} refl (omega arith) (reversed-bit (st .args .lane-bits) 0 (st .pre .1 .1) (omega arith) (l-extract .extract .ensures)))) .sized, l-extract2 .extract2 .ensures .sized, l-loop-test .loop-test .taken)
+    let l = c .before .before .before in
+    let t = l .before .before in
+    let s = so-far (t .before) .sized in
+    let n = l .extract2 .ensures .sized in
+    (room-concat (entry (t .before) .pre .0) (omega arith) (t .loop-test .taken) s n, (n .under, lt-of-lt-of-le (s .under) (n .more)))
+
+abbrev turn : tie.After-slice-known4 Inv-loop μ-loop → tie.In-loop Inv-loop μ-loop
+turn c = c .before .before .before .before .before .before .before .before
 
 add-i : tie.Need-add-i Inv-loop μ-loop
-add-i c =
-    let l-loop-test = c .before .before .before .before .before .before .before .before in
-    let st = l-loop-test .before .before .before .before .before .before .before in
-    omega (arith, l-loop-test .loop-test .taken, st .fits .lane-bits)
+add-i c = omega (arith, turn c .loop-test .taken, entry (turn c .before) .fits .lane-bits)
 
 loop-less : tie.Need-loop-less Inv-loop μ-loop
-loop-less c =
-    let l-loop-test = c .before .before .before .before .before .before .before .before in
-    omega (arith, l-loop-test .loop-test .taken)
+loop-less c = omega (arith, turn c .loop-test .taken)
 
 loop-again : tie.Need-loop-again Inv-loop μ-loop
 loop-again c =
-    let l-concat = c .before .before in
-    let l-extract2 = l-concat .before .before .before .before in
-    let l-loop-test = l-extract2 .before .before in
-    let l-loop = l-loop-test .before in
-    let st = l-loop .before .before .before .before .before .before in
-    (omega arith, omega (arith, l-loop-test .loop-test .taken), λ old d. lanes-more (reversedAt (st .args .lane-bits)) (omega arith) (l-loop .loop .inv .0) (omega (arith, st .pre, l-loop-test .loop-test .taken)) (omega arith) (l-loop .loop .inv .2 old d) (reversed-bit (st .args .lane-bits) (l-loop .loop .i) (l-loop-test .loop-test .taken) (omega arith) (l-extract2 .extract2 .ensures)) (l-concat .concat .ensures))
+    let t = turn c in
+    let s = t .before .loop in
+    let e = entry (t .before) in
+    let j = c .before .before in
+    let l = j .before .before .before .before in (
+      omega arith,
+      omega (arith, t .loop-test .taken),
+      λ old d.
+          lanes-more _ (omega arith) (s .inv .0) (t .loop-test .taken) (omega (arith, e .pre .1 .2)) (omega arith) (s .inv .2 old d)
+          (reversed-bit (e .args .lane-bits) (s .i) (t .loop-test .taken) (omega arith) (l .extract2 .ensures)) (j .concat .ensures),
+    )
 
 same-length : tie.Need-same-length Inv-loop μ-loop
-same-length c =
-    let l-loop = c .before in
-    let l-extract = l-loop .before .before .before in
-    let st = l-extract .before .before .before in
-    omega (arith, (l-loop .loop .inv .2 _ (lanes-first (reversedAt (st .args .lane-bits)) {m = 2} refl (omega arith) (reversed-bit (st .args .lane-bits) 0 (st .pre .1 .1) (omega arith) (l-extract .extract .ensures)))) .sized)
+same-length c = so-far (c .before) .sized .long
 
 returns : tie.Need-returns Inv-loop μ-loop
-returns c =
-    let l-loop-test = c in
-    let l-loop = l-loop-test .before in
-    let l-extract = l-loop .before .before .before in
-    let st = l-extract .before .before .before in
-    let e : l-loop .loop .i ≡ st .args .lane-bits = omega (arith, l-loop .loop .inv .1, l-loop-test .loop-test .left) in
-    reversed-all e (l-loop .loop .inv .2 _ (lanes-first (reversedAt (st .args .lane-bits)) {m = 2} refl (omega arith) (reversed-bit (st .args .lane-bits) 0 (st .pre .1 .1) (omega arith) (l-extract .extract .ensures))))
+returns c = reversed-all (omega (arith, c .before .loop .inv .1, c .loop-test .left)) (so-far (c .before))
 
 pub reverse-bits-spec : {M : Type 1} → statement M
 reverse-bits-spec =
