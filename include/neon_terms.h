@@ -29,7 +29,7 @@
 extern "C" {
 #endif
 
-/* The numbers. The first in order wins: one instruction 1 to 6; text 1, 5, 9; block 11, 8, 6, then record by record 2, 3, 4, 7. */
+/* The numbers. The first in order wins: one instruction 1 to 6; text 1, 5, 9; block 13, 8, 6, then record by record 2, 3, 4, 7. */
 enum neon_number {
     NEON_DONE = 0,
     NEON_BAD_POOL = 1,          /* count above places, or a node breaks a rule */
@@ -42,7 +42,7 @@ enum neon_number {
     NEON_LONG_BLOCK = 8,        /* more than 63 records */
     NEON_SHORT_BUFFER = 9,      /* the text is longer than the buffer */
     NEON_LINE = 10,             /* of the line program alone */
-    NEON_SHORT_RESULTS = 11     /* fewer than NEON_RESULTS words for the results of a block */
+    NEON_SHORT_RESULTS = 13     /* fewer than NEON_RESULTS words for the results of a block */
 };
 
 enum neon_kind {

@@ -115,9 +115,9 @@ fn arguments(r: &mut Rng, pool: &[u64], count: usize) -> ([u64; 3], [usize; 3]) 
 struct Seen {
     ways: [u64; KINDS],
     bad: u64,
-    instruction: [u64; 12],
-    text: [u64; 12],
-    block: [u64; 12],
+    instruction: [u64; 14],
+    text: [u64; 14],
+    block: [u64; 14],
 }
 
 fn try_instruction(r: &mut Rng, lent: &mut Words, old: &[u64], count: usize, seen: &mut Seen) {
@@ -195,7 +195,7 @@ fn try_block(r: &mut Rng, lent: &mut Words, old: &[u64], seen: &mut Seen) {
     let mut results = words(&vec![tail; entries]);
     let number = native::lower_block(lent, &records.concat(), &mut results);
     if entries < 34 {
-        assert_eq!(number, 11);
+        assert_eq!(number, 13);
         assert!(lent.items() == old && results.items().iter().all(|&x| x == tail), "short results, and something written");
     } else {
         assert_eq!(number, want, "{records:?} in {} words", old.len());

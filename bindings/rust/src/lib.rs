@@ -46,7 +46,7 @@ pub enum Number {
     /// An input line is not in columns: of the line program alone.
     Line = 10,
     /// Too few words are lent for the results of a block.
-    ShortResults = 11,
+    ShortResults = 13,
 }
 
 impl Number {

@@ -58,7 +58,7 @@ put-all l m position h =
 -- ---- whether there are words enough
 
 module _ (lent : List ℕ) where
-  pub too-few : length lent < 34 → 11 ≡ resultsNumber lent
+  pub too-few : length lent < 34 → 13 ≡ resultsNumber lent
   unfolding resultsNumber
   too-few h = rw (lt-leb 34 (length lent) h)
 
@@ -70,6 +70,6 @@ module _ (lent : List ℕ) where
   unfolding resultsNumber
   accepted h = go (leb 34 (length lent)) refl h
     where
-      go : (b : Bool) → leb 34 (length lent) ≡ b → unless b 11 0 ≤ 0 → 34 ≤ length lent
+      go : (b : Bool) → leb 34 (length lent) ≡ b → unless b 13 0 ≤ 0 → 34 ≤ length lent
       go true e z = leb-true _ _ e
       go false e z = absurd (omega arith)

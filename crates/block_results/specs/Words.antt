@@ -16,6 +16,6 @@ nodesOf m r (suc k) = nodeOf m r ∷ nodesOf m (suc r) k
 abbrev pub put : List ℕ → RegisterMap → (position : ℕ) → List ℕ
 put old m position = nodesOf m 0 32 ++ (m .count ∷ position ∷ drop 34 old)
 
--- 11 where fewer than 34 words are lent
+-- 13 where fewer than 34 words are lent
 unfoldable pub resultsNumber : List ℕ → ℕ
-resultsNumber lent = unless (leb 34 (length lent)) 11 0
+resultsNumber lent = unless (leb 34 (length lent)) 13 0

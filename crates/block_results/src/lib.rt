@@ -9,7 +9,7 @@ ghost use Rattle.block_results.specs.Words.{resultsNumber, put};
 const RESULTS: usize = 34;
 
 // No number of document 01: too few words are lent for the results.
-const SHORT_RESULTS: u64 = 11;
+const SHORT_RESULTS: u64 = 13;
 
 // 0, or the number that refuses a slice for the results.
 pub fn results_number(results: &[u64]) -> u64

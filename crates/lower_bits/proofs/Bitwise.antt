@@ -102,10 +102,6 @@ bitwise-at {first = first} {n = n} {lanes = lanes} {j = j} op h e1 e2 =
 
 -- ---- how many nodes
 
--- as many as i lanes and one more take are as many as all take, where lane i is one of them
-pub lane-more : (c i lanes : ℕ) → i < lanes → c * i + c ≤ c * lanes
-lane-more c i lanes h = lane-fits c i lanes h (omega arith)
-
 -- of lanes of 8 bits or more, in a register
 pub nodes-most : (n lanes : ℕ) → 8 ≤ n → n * lanes ≤ 128 → (5 * n + 3) * lanes ≤ 688
 nodes-most n lanes l h = omega (arith, mul-le-mul-right lanes l)
