@@ -4,7 +4,7 @@ ghost use mathlib.Core.Path.{_≡_};
 ghost use Prim.Native.Nat.{_+_, _*_, _<_};
 ghost use lib.ListN.{length};
 ghost use Rattle.pool.specs.Node.{wordAt, widthAt};
-ghost use Rattle.node_fields.specs.Fields.{kindNumber, opA, opB, opC};
+ghost use Rattle.node_fields.specs.Fields.{kindNumber, opA, opB, opC, leftOf, rightOf};
 
 pub fn kind_of(p: &[u64], n: Node) -> u64
     requires { ⌜ 4 * n .0 + 3 < length (now p) ⌝ }
@@ -44,6 +44,29 @@ pub fn third(p: &[u64], n: Node) -> Node
 {
     let at = 4 * n.0;
     Node((p[at + 1] / 4294967296) as usize)
+}
+
+// The left one of the two operands that an operator or a comma stands between in the text.
+pub fn left(p: &[u64], n: Node) -> Node
+    requires { ⌜ 4 * n .0 + 3 < length (now p) ⌝ }
+    ensures { λ r. ⌜ r .0 ≡ leftOf (now (p .entry)) (n .0) ⌝ }
+{
+    if kind_of(p, n) == 15 {
+        second(p, n)
+    } else {
+        first(p, n)
+    }
+}
+
+pub fn right(p: &[u64], n: Node) -> Node
+    requires { ⌜ 4 * n .0 + 3 < length (now p) ⌝ }
+    ensures { λ r. ⌜ r .0 ≡ rightOf (now (p .entry)) (n .0) ⌝ }
+{
+    if kind_of(p, n) == 15 {
+        third(p, n)
+    } else {
+        second(p, n)
+    }
 }
 
 pub fn low(p: &[u64], n: Node) -> u64

@@ -11,9 +11,9 @@ use Rattle.terms.specs.Display.{decimal, hexadecimal, display}
 use Rattle.pool.specs.Node.{kinds, kindAt, widthAt, wordAt, wide}
 use Rattle.node_rules.proofs.Numbers.{within}
 use Rattle.node_fields.specs.Fields.{kindNumber, opA, opB, opC}
-use Rattle.text_operators.specs.Between.{betweenText, Pair}
+use Rattle.text_operators.specs.Between.{betweenText}
 use Rattle.text_parts.specs.Text.{text, openOf, openText, endText, single, Ready}
-use Rattle.text_parts.proofs.Operands.{Single, single-kinds, to-nineteen}
+use Rattle.text_parts.proofs.Operands.{Pair, Single, single-kinds, to-nineteen}
 use Rattle.text_parts.proofs.Tree.{bracket, end-range, end-width, whole-var, whole-const, whole-ite, whole-pair, whole-single}
 
 pub an-operator : {k : ℕ} → 3 ≤ k → k < 15 → Pair k

@@ -5,7 +5,7 @@ ghost use mathlib.Core.List.{[], _∷_};
 ghost use Prim.Native.Nat.{_≤_, _<_};
 ghost use lib.ListN.{length};
 ghost use Rattle.digits.specs.Writing.{Room, Wrote};
-ghost use Rattle.text_operators.specs.Between.{Pair, betweenText};
+ghost use Rattle.text_operators.specs.Between.{Joined, betweenText};
 
 // The one character of the operators 3 to 8.
 fn sign(k: u64) -> u8
@@ -22,9 +22,9 @@ fn sign(k: u64) -> u8
     }
 }
 
-// The operator between two operands, and a Concat's comma.
+// The operator between two operands, and the comma of an Ite's arms and of a Concat.
 pub fn put_between(k: u64, buf: &mut [u8], at: usize) -> usize
-    requires { ⌜ Pair k × Room (now buf) at (betweenText k) ⌝ }
+    requires { ⌜ Joined k × Room (now buf) at (betweenText k) ⌝ }
     ensures { λ r. ⌜ Wrote (now (buf .entry)) at (betweenText k) r (now (buf .exit)) ⌝ }
 {
     if k < 9 {

@@ -17,7 +17,6 @@ use Rattle.pool.specs.Rules.{widthBefore, okKind, okPool, Valid}
 use Rattle.pool.proofs.Facts.{valid-node}
 use Rattle.node_rules.proofs.Numbers.{within, is-bad}
 use Rattle.node_fields.specs.Fields.{kindNumber, opA, opB, opC}
-use Rattle.text_operators.specs.Between.{Pair}
 use Rattle.text_parts.specs.Text.{Ready, single}
 use Rattle.node_rules.proofs.Kept.{Ok, Two, Three, One, register, bv-two, compare-two, ite-three, extract-one, extract-range, concat-two, zext-one, wide-bad, wide-var, wide-const, wide-bv, wide-ite, wide-extract, wide-concat, wide-zext, most-bad, most-var, most-const, most-bv, most-compare, most-ite, most-extract, most-concat, most-zext}
 
@@ -150,6 +149,13 @@ pub record Condition (ws : List ℕ) (n m : ℕ) : Type 0 where
   pub before : m < n
   pub ready : Ready ws m
   pub flat : widthAt ws m ≡ 0
+
+-- 3 to 14, or 17
+pub record Pair (k : ℕ) : Type 0 where
+  pub from : 3 ≤ k
+  pub to : k < 18
+  pub no-ite : k ≡ 15 → ⊥
+  pub no-extract : k ≡ 16 → ⊥
 
 -- 16, or 18 and more
 pub record Single (k : ℕ) : Type 0 where

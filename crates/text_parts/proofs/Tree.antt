@@ -13,9 +13,9 @@ use Rattle.pool.specs.Unfold.{shapeOf, earlier, unfoldAt}
 use Rattle.pool.proofs.Laws.{unfold-step}
 use Rattle.node_rules.proofs.Numbers.{within}
 use Rattle.node_fields.specs.Fields.{kindNumber, opA, opB, opC}
-use Rattle.text_operators.specs.Between.{betweenOf, betweenText, Pair}
+use Rattle.text_operators.specs.Between.{betweenOf, betweenText}
 use Rattle.text_parts.specs.Text.{text, openOf, openText, rangeText, widthText, endOf, endText, Ready}
-use Rattle.text_parts.proofs.Operands.{Single, pair-kinds, single-kinds, to-nineteen, compare-low, compare-high, ite-a, ite-b, ite-c, pair-a, pair-b, single-a}
+use Rattle.text_parts.proofs.Operands.{Pair, Single, pair-kinds, single-kinds, to-nineteen, compare-low, compare-high, ite-a, ite-b, ite-c, pair-a, pair-b, single-a}
 
 -- ---- by the number κ of the kind
 

@@ -23,6 +23,9 @@ behind-more {n = n} u v = record { wrote = wrote-then (u .wrote) (v .wrote); sam
 pub behind-as : {l m : RefT (List ℕ)} {i j : ℕ} {u s : List ℕ} → u ≡ s → WroteBehind l i s j m → WroteBehind l i u j m
 behind-as {l} {m} {i} {j} {u} {s} e h = subst (λ (z : List ℕ). WroteBehind l i z j m) (sym e) h
 
+pub behind-at : {l m m′ : RefT (List ℕ)} {i j j′ : ℕ} {a : List ℕ} → m ≡ m′ → j ≡ j′ → WroteBehind l i a j′ m′ → WroteBehind l i a j m
+behind-at p q h = rw (p, q) h
+
 -- the buffer whole
 pub behind-whole : {l m : RefT (List ℕ)} {i k : ℕ} {a : List ℕ} → WroteBehind l i a k m → m ≡ at-last l (sets (now l) i a)
 behind-whole {l} u = u .same ∙ ap (λ (z : List ℕ). at-last l z) (u .wrote .after-is)

@@ -3,8 +3,9 @@
 use digits::put;
 use node_fields::first;
 use node_fields::kind_of;
+use node_fields::left;
+use node_fields::right;
 use node_fields::second;
-use node_fields::third;
 use node_fields::width_of;
 use pool::Node;
 use text_operators::put_between;
@@ -32,21 +33,17 @@ fn write_term(p: &&[u64], n: Node, buf: &mut &mut [u8], at: usize) -> usize
     if k < 3 {
         return put_leaf(*p, n, k, *buf, at);
     }
-    let i = put_open(k, *buf, at);
+    let mut i = put_open(k, *buf, at);
     if k == 15 {
         let j = write_condition(p, first(*p, n), buf, i);
-        let l = put(b", ", *buf, j);
-        let m = write_term(p, second(*p, n), buf, l);
-        let o = put(b", ", *buf, m);
-        let q = write_term(p, third(*p, n), buf, o);
-        return put(b")", *buf, q);
+        i = put(b", ", *buf, j);
     }
-    let j = write_term(p, first(*p, n), buf, i);
+    let j = write_term(p, left(*p, n), buf, i);
     if is_single(k) {
         return put_end(*p, n, k, *buf, j);
     }
     let l = put_between(k, *buf, j);
-    let m = write_term(p, second(*p, n), buf, l);
+    let m = write_term(p, right(*p, n), buf, l);
     put(b")", *buf, m)
 }
 

@@ -1,10 +1,12 @@
 use Prim.Native.Nat.{ℕ, _≤_}
 use mathlib.Core.Path.{_≡_}
+use mathlib.Core.Logic.{⊎-elim}
+use native.Mathlib.Nat.{eq-or-lt-of-le}
 use native.Mathlib.Omega.{arith}
 use Rattle.pool.specs.Node.{kindAt, kinds}
 use Rattle.terms.specs.Display.{bytes}
 use Rattle.digits.proofs.Laws.{room-as, wrote-as}
-use Rattle.text_operators.specs.Between.{Pair, betweenText}
+use Rattle.text_operators.specs.Between.{Joined, betweenText}
 use borrow.Author.Needs.{needs}
 use Rattle.text_operators.proofs.put_between.Statement.{statement}
 use Rattle.text_operators.proofs.put_between.Tie as tie
@@ -12,14 +14,14 @@ use Rattle.text_operators.proofs.put_between.Tie as tie
 from-15 : {k : ℕ} → 9 ≤ k → (k ≡ 9 → ⊥) → (k ≡ 10 → ⊥) → (k ≡ 11 → ⊥) → (k ≡ 12 → ⊥) → (k ≡ 13 → ⊥) → (k ≡ 14 → ⊥) → 15 ≤ k
 from-15 h a b c d e f = omega arith
 
-is-concat : {k : ℕ} → Pair k → 15 ≤ k → betweenText k ≡ bytes ", "
+from-15-comma : {k : ℕ} → Joined k → 15 ≤ k → betweenText k ≡ bytes ", "
 unfolding betweenText kindAt kinds
-is-concat {k} p l = let e : k ≡ 17 = omega (arith, p .no-ite, p .no-extract) in rw e
+from-15-comma {k} p l = ⊎-elim (λ e. rw (← e)) (λ h. let e : k ≡ 17 = omega (arith, p .to, p .no-extract) in rw e) (eq-or-lt-of-le l)
 
--- what is none of 9 to 14 is a Concat
-a-comma : {k : ℕ} → Pair k → 9 ≤ k → (((((Unit {0} × (k ≡ 9 → ⊥)) × (k ≡ 10 → ⊥)) × (k ≡ 11 → ⊥)) × (k ≡ 12 → ⊥)) × (k ≡ 13 → ⊥)) × (k ≡ 14 → ⊥)
+-- what is none of 9 to 14 is an Ite or a Concat
+a-comma : {k : ℕ} → Joined k → 9 ≤ k → (((((Unit {0} × (k ≡ 9 → ⊥)) × (k ≡ 10 → ⊥)) × (k ≡ 11 → ⊥)) × (k ≡ 12 → ⊥)) × (k ≡ 13 → ⊥)) × (k ≡ 14 → ⊥)
     → betweenText k ≡ bytes ", "
-a-comma p h r = is-concat p (from-15 h (r .0 .0 .0 .0 .0 .1) (r .0 .0 .0 .0 .1) (r .0 .0 .0 .1) (r .0 .0 .1) (r .0 .1) (r .1))
+a-comma p h r = from-15-comma p (from-15 h (r .0 .0 .0 .0 .0 .1) (r .0 .0 .0 .0 .1) (r .0 .0 .0 .1) (r .0 .0 .1) (r .0 .1) (r .1))
 
 sign-requires : tie.Need-sign-requires
 sign-requires c κs = search needs

@@ -11,8 +11,9 @@ use Rattle.text_terms.proofs.+write_condition+write_term.Lts-write_term
 use Rattle.digits.proofs.put.Reads as put-reads
 use Rattle.node_fields.proofs.first.Reads as first-reads
 use Rattle.node_fields.proofs.kind_of.Reads as kind-of-reads
+use Rattle.node_fields.proofs.left.Reads as left-reads
+use Rattle.node_fields.proofs.right.Reads as right-reads
 use Rattle.node_fields.proofs.second.Reads as second-reads
-use Rattle.node_fields.proofs.third.Reads as third-reads
 use Rattle.text_operators.proofs.put_between.Reads as put-between-reads
 use Rattle.text_parts.proofs.is_single.Reads as is-single-reads
 use Rattle.text_parts.proofs.put_end.Reads as put-end-reads
@@ -55,4 +56,4 @@ write-condition-claims t = (put-reads.Asked, put-reads.Learnt, first-reads.Asked
 
 -- what the functions that `write_term` calls ask and ensure
 abbrev pub write-term-claims : ℕ → write-term-lts.Claims
-write-term-claims t = (kind-of-reads.Asked, kind-of-reads.Learnt, put-leaf-reads.Asked, put-leaf-reads.Learnt, put-open-reads.Asked, put-open-reads.Learnt, first-reads.Asked, first-reads.Learnt, write-condition-below t, write-condition.Post, put-reads.Asked, put-reads.Learnt, second-reads.Asked, second-reads.Learnt, write-term-below t, write-term.Post, third-reads.Asked, third-reads.Learnt, is-single-reads.Asked, is-single-reads.Learnt, put-end-reads.Asked, put-end-reads.Learnt, put-between-reads.Asked, put-between-reads.Learnt)
+write-term-claims t = (kind-of-reads.Asked, kind-of-reads.Learnt, put-leaf-reads.Asked, put-leaf-reads.Learnt, put-open-reads.Asked, put-open-reads.Learnt, first-reads.Asked, first-reads.Learnt, write-condition-below t, write-condition.Post, put-reads.Asked, put-reads.Learnt, left-reads.Asked, left-reads.Learnt, write-term-below t, write-term.Post, is-single-reads.Asked, is-single-reads.Learnt, put-end-reads.Asked, put-end-reads.Learnt, put-between-reads.Asked, put-between-reads.Learnt, right-reads.Asked, right-reads.Learnt)
