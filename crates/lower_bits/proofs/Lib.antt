@@ -1,2 +1,1 @@
-pub mod Layering
-pub mod Bitwise
+pub mod Lanes

@@ -1,1 +1,1 @@
-pub mod Layers
+pub mod Lanes

@@ -1,36 +1,15 @@
-// The Rust's neon/lower/arith.rs: bitwise_unary_lane and bitwise_unary_lanes, the functions of a lane's own bits.
+// The Rust's neon/lower/arith.rs: bitwise_unary_lanes, the functions of a lane's own bits lane by lane.
+use lower_bits_lane::bitwise_unary_lane;
 use neon::Lane;
 use pool::Built;
 use pool::Node;
 use trees::BitwiseUnary;
-ghost use mathlib.Core.List.{[], _∷_};
+ghost use mathlib.Core.List.{[]};
 ghost use Prim.Native.Nat.{_+_, _*_, _≤_, _<_};
 ghost use Rattle.pool.specs.Growth.{Room};
-ghost use Rattle.trees.specs.Arith.{bitwiseUnaryLane, bitwiseUnaryLanes};
-ghost use Rattle.lower.specs.Builds.{Builds1, Lowers, read, unread};
-ghost use Rattle.lower_bits.specs.Layers.{bitwiseAt};
-
-pub mod counts;
-
-fn bitwise_unary_lane(
-    pool: &mut [u64],
-    count: usize,
-    op: BitwiseUnary,
-    value: Node,
-    lane_bits: u64,
-) -> Built
-    requires { ⌜ Room (now pool) count (5 * «lane_bits» + 1) ⌝ }
-    requires { ⌜ (value .0 < count) × (2 ≤ «lane_bits») × («lane_bits» ≤ 64) ⌝ }
-    ensures { λ r. ⌜ Builds1 (now (pool .entry)) count (now (pool .exit)) r (5 * «lane_bits» + 1) value «lane_bits» «lane_bits»
-        (λ v. bitwiseUnaryLane op v «lane_bits») (value .0 ∷ []) ⌝ }
-{
-    match op {
-        BitwiseUnary::PopulationCount => counts::population_count(pool, count, value, lane_bits),
-        BitwiseUnary::LeadingZeros => counts::leading_zeros(pool, count, value, lane_bits),
-        BitwiseUnary::LeadingSignBits => counts::leading_sign_bits(pool, count, value, lane_bits),
-        BitwiseUnary::ReverseBits => counts::reverse_bits(pool, count, value, lane_bits),
-    }
-}
+ghost use Rattle.trees.specs.Arith.{bitwiseUnaryLanes};
+ghost use Rattle.lower.specs.Builds.{Lowers, read, unread};
+ghost use Rattle.lower_bits.specs.Lanes.{bitwiseAt};
 
 // Lane `index` of the answer.
 fn bitwise_at(

@@ -1,6 +1,6 @@
 use native.Mathlib.Omega.{arith}
 use Rattle.lower.proofs.Lanes.{lane-fits}
-use Rattle.lower_bits.proofs.Bitwise.{bitwise-at}
+use Rattle.lower_bits.proofs.Lanes.{bitwise-at}
 use borrow.Author.Needs.{needs}
 use Rattle.lower_bits.proofs.bitwise_at.Statement.{statement}
 use Rattle.lower_bits.proofs.bitwise_at.Tie as tie

@@ -4,7 +4,7 @@ use Prim.Native.Nat.{_+_, _*_, _-_, _≤_}
 use mathlib.Core.List.{[]}
 use Rattle.lower.specs.Builds.{read, unread}
 use Rattle.lower.proofs.Lanes.{LanesTo, LanesKept, lanes-first, lanes-more, lanes-all, room-first, room-lane, room-concat}
-use Rattle.lower_bits.specs.Layers.{bitwiseAt}
+use Rattle.lower_bits.specs.Lanes.{bitwiseAt}
 use Rattle.trees.specs.Arith.{bitwiseUnaryLanes}
 use Rattle.lower_bits.proofs.bitwise_unary_lanes.Statement.{statement}
 use Rattle.lower_bits.proofs.bitwise_unary_lanes.Tie as tie

@@ -1,6 +1,6 @@
 use native.Mathlib.Omega.{arith}
 use mathlib.Core.Path.{refl}
-use Rattle.lower_bits.proofs.Bitwise.{nodes-most}
+use Rattle.lower_bits.proofs.Lanes.{nodes-most}
 use Rattle.lower_neon.proofs.Sources.{lanes-le, room-less, ready, as-is, not-read, within}
 use borrow.Author.Needs.{needs}
 use Rattle.lower_neon.proofs.neon_value.Statement.{statement}

@@ -1,10 +1,10 @@
 use native.Mathlib.Omega.{arith}
 use native.Mathlib.Nat.{le-refl}
 use Prim.Native.Nat.{_-_, _≤_}
-use Rattle.lower_bits.specs.Layers.{zerosAt}
-use Rattle.lower_bits.proofs.Layering.{BitsTo, BitsKept, bits-none, bits-more, bits-all, zerosTo, zeros-none, zeros-more}
-use Rattle.lower_bits.proofs.counts.leading_zeros.Statement.{statement}
-use Rattle.lower_bits.proofs.counts.leading_zeros.Tie as tie
+use Rattle.lower_bits_lane.specs.Layers.{zerosAt}
+use Rattle.lower_bits_lane.proofs.Layering.{BitsTo, BitsKept, bits-none, bits-more, bits-all, zerosTo, zeros-none, zeros-more}
+use Rattle.lower_bits_lane.proofs.counts.leading_zeros.Statement.{statement}
+use Rattle.lower_bits_lane.proofs.counts.leading_zeros.Tie as tie
 
 abbrev Inv-loop : tie.InvT-loop
 Inv-loop pool₀ count value bits acc₀ i₀ pool acc i = (i ≤ bits) × BitsKept count 5 bits value (zerosTo bits) pool₀ acc₀ pool acc i

@@ -1,7 +1,7 @@
-use Rattle.lower_bits.proofs.Bitwise.{lane-count, lane-zeros, lane-signs, lane-reversed}
+use Rattle.lower_bits_lane.proofs.Bitwise.{lane-count, lane-zeros, lane-signs, lane-reversed}
 use borrow.Author.Needs.{needs}
-use Rattle.lower_bits.proofs.bitwise_unary_lane.Statement.{statement}
-use Rattle.lower_bits.proofs.bitwise_unary_lane.Tie as tie
+use Rattle.lower_bits_lane.proofs.bitwise_unary_lane.Statement.{statement}
+use Rattle.lower_bits_lane.proofs.bitwise_unary_lane.Tie as tie
 
 enum-told : tie.Need-enum-told
 enum-told c = search needs

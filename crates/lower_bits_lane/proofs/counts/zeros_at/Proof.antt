@@ -1,8 +1,8 @@
 use native.Mathlib.Omega.{arith}
-use Rattle.lower_bits.proofs.Layering.{zeros-at}
+use Rattle.lower_bits_lane.proofs.Layering.{zeros-at}
 use borrow.Author.Needs.{needs}
-use Rattle.lower_bits.proofs.counts.zeros_at.Statement.{statement}
-use Rattle.lower_bits.proofs.counts.zeros_at.Tie as tie
+use Rattle.lower_bits_lane.proofs.counts.zeros_at.Statement.{statement}
+use Rattle.lower_bits_lane.proofs.counts.zeros_at.Tie as tie
 
 extract-requires : tie.Need-extract-requires
 extract-requires c κs = search needs

@@ -1,8 +1,8 @@
 use native.Mathlib.Omega.{arith}
-use Rattle.lower_bits.proofs.Bitwise.{sign-bits}
+use Rattle.lower_bits_lane.proofs.Bitwise.{sign-bits}
 use borrow.Author.Needs.{needs}
-use Rattle.lower_bits.proofs.counts.leading_sign_bits.Statement.{statement}
-use Rattle.lower_bits.proofs.counts.leading_sign_bits.Tie as tie
+use Rattle.lower_bits_lane.proofs.counts.leading_sign_bits.Statement.{statement}
+use Rattle.lower_bits_lane.proofs.counts.leading_sign_bits.Tie as tie
 
 sub-width : tie.Need-sub-width
 sub-width c = search needs

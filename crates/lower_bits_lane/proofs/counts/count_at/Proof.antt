@@ -1,7 +1,7 @@
-use Rattle.lower_bits.proofs.Layering.{count-at}
+use Rattle.lower_bits_lane.proofs.Layering.{count-at}
 use borrow.Author.Needs.{needs}
-use Rattle.lower_bits.proofs.counts.count_at.Statement.{statement}
-use Rattle.lower_bits.proofs.counts.count_at.Tie as tie
+use Rattle.lower_bits_lane.proofs.counts.count_at.Statement.{statement}
+use Rattle.lower_bits_lane.proofs.counts.count_at.Tie as tie
 
 extract-requires : tie.Need-extract-requires
 extract-requires c κs = search needs

@@ -1,9 +1,9 @@
 use native.Mathlib.Omega.{arith}
 use Prim.Native.Nat.{_-_, _≤_}
-use Rattle.lower_bits.specs.Layers.{countAt}
-use Rattle.lower_bits.proofs.Layering.{BitsTo, BitsKept, bits-none, bits-more, bits-all, countTo, count-none, count-more}
-use Rattle.lower_bits.proofs.counts.population_count.Statement.{statement}
-use Rattle.lower_bits.proofs.counts.population_count.Tie as tie
+use Rattle.lower_bits_lane.specs.Layers.{countAt}
+use Rattle.lower_bits_lane.proofs.Layering.{BitsTo, BitsKept, bits-none, bits-more, bits-all, countTo, count-none, count-more}
+use Rattle.lower_bits_lane.proofs.counts.population_count.Statement.{statement}
+use Rattle.lower_bits_lane.proofs.counts.population_count.Tie as tie
 
 abbrev Inv-loop : tie.InvT-loop
 Inv-loop pool₀ count value lane-bits acc₀ i₀ pool acc i = (i ≤ lane-bits) × BitsKept count 3 lane-bits value (countTo lane-bits) pool₀ acc₀ pool acc i

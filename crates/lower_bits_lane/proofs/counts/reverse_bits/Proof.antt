@@ -5,10 +5,10 @@ use mathlib.Core.Path.{refl}
 use mathlib.Core.List.{[], _∷_}
 use Rattle.lower.specs.Builds.{read, unread}
 use Rattle.lower.proofs.Lanes.{LanesTo, LanesKept, lanes-first, lanes-more, room-lane, room-concat}
-use Rattle.lower_bits.specs.Layers.{reversedAt}
-use Rattle.lower_bits.proofs.Bitwise.{reversed-bit, reversed-all}
-use Rattle.lower_bits.proofs.counts.reverse_bits.Statement.{statement}
-use Rattle.lower_bits.proofs.counts.reverse_bits.Tie as tie
+use Rattle.lower_bits_lane.specs.Layers.{reversedAt}
+use Rattle.lower_bits_lane.proofs.Bitwise.{reversed-bit, reversed-all}
+use Rattle.lower_bits_lane.proofs.counts.reverse_bits.Statement.{statement}
+use Rattle.lower_bits_lane.proofs.counts.reverse_bits.Tie as tie
 
 abbrev Inv-loop : tie.InvT-loop
 Inv-loop pool₀ count value lane-bits top acc₀ i₀ pool acc i =

@@ -15,7 +15,7 @@ use Rattle.nodes.specs.Builders.{MadeConst, MadeBv, MadeCompare, MadeIte, MadeE
 use Rattle.pool.proofs.Steps.{start, step, finish, forget, given}
 use Rattle.trees.specs.Arith.{leadingZeros, populationCount}
 use Rattle.lower.specs.Builds.{Builds1, Builds2}
-use Rattle.lower_bits.specs.Layers.{zerosAt, countAt}
+use Rattle.lower_bits_lane.specs.Layers.{zerosAt, countAt}
 
 -- a number of at most n fits n bits
 pub fits : (n c : ℕ) → c ≤ n → c < 2 ^ n
