@@ -13,7 +13,7 @@ use Rattle.terms.specs.Expr.{Expr}
 use Rattle.neon.specs.declared.Instruction.{Instruction}
 use Rattle.neon.specs.Op.{Op, opAt, Arrangement, arrangementAt, full, view}
 use Rattle.neon.specs.Form.{form, hasSecond, readsD, byElement, firstFull, secondFull, firstBits, secondBits}
-use Rattle.neon.specs.Refusal.{Legal}
+use Rattle.neon.specs.Refusal.{reserve, Legal}
 use Rattle.neon.proofs.Legal.{accepted, m-le}
 use Rattle.trees.specs.Neon.{resultTree}
 use Rattle.trees.specs.Block.{readTree, widenTree, recordTree, treeStep}
@@ -61,7 +61,7 @@ module _ (m : RegisterMap) (ok : MapOk m) (c : Instruction) (hd : c .d < 32) (hn
   after-at : nodeOf (written m (c .d) (b5 .node .0) (b5 .count)) (c .d) ≡ b5 .node .0
   after-at = written-at m (c .d) (b5 .node .0) (b5 .count) in-map
 
-  sizes : (m .count ≤ b5 .count) × (b5 .count ≤ m .count + 1024)
+  sizes : (m .count ≤ b5 .count) × (b5 .count ≤ m .count + reserve)
   sizes =
       (omega (arith, r1 .more, r2 .more, r3 .more, f .sized, w .sized), omega (arith, r1 .most, r2 .most, r3 .most, f .sized, w .sized))
 

@@ -1,40 +1,99 @@
-use Rattle.lower_record.proofs.Recording.{recorded, registers-in, nodes-in}
-use Rattle.register_reads.proofs.Reading.{read-flags, widen-flag}
 use native.Mathlib.Omega.{arith}
 use mathlib.Core.Path.{_≡_, refl, _∙_}
-use Rattle.neon.specs.Op.{opAt, arrangementAt}
+use Prim.Native.Nat.{_+_, _<_}
+use Rattle.neon.specs.declared.Instruction.{Instruction}
+use Rattle.neon.specs.Op.{Op, opAt, Arrangement, arrangementAt}
 use Rattle.neon.specs.Refusal.{formNumber}
 use Rattle.neon.proofs.Legal.{accepted}
+use Rattle.pool.specs.Growth.{Room}
+use Rattle.form.specs.Code.{OfCode}
 use Rattle.form.proofs.Parts.{coded}
+use Rattle.register_map.specs.Map.{nodeOf}
+use Rattle.register_reads.proofs.Reading.{read-flags, widen-flag}
 use Rattle.record_check.specs.Record.{instruction}
 use Rattle.record_check.proofs.Refusals.{form-legal}
+use Rattle.lower_neon.specs.Family.{mostNodes}
+use Rattle.lower_record.proofs.Recording.{recorded, registers-in, nodes-in}
 use borrow.Author.Needs.{needs}
 use Rattle.lower_record.proofs.lower_record.Statement.{statement}
 use Rattle.lower_record.proofs.lower_record.Tie as tie
+
+-- ---- the record, its registers and their nodes
+
+abbrev the : tie.Start → Instruction
+the s = let a = s .args in instruction (a .operation) (a .arrangement) (a .i) (a .d) (a .n) (a .m)
+
+registers : (s : tie.Start) → (the s .d < 32) × (the s .n < 32) × (the s .m < 32)
+registers s = registers-in (the s) (s .pre .1 .1)
+
+nodes : (s : tie.Start) → let m = s .args .map in
+    (nodeOf m (the s .d) < m .count) × (nodeOf m (the s .n) < m .count) × (nodeOf m (the s .m) < m .count)
+nodes s = nodes-in (s .args .map) (s .pre .1 .0) (the s) (s .pre .1 .1)
+
+-- ---- from each call back to the call before it that matters
+
+abbrev entry : tie.After-form-code → tie.Start
+entry c = c .before .before
+
+abbrev code : tie.After-read-if → tie.After-form-code
+code c = c .before .before .before .before .before
+
+abbrev first : tie.After-read-if2 → tie.After-read-if
+first c = c .before .before .before .before .before .before .before
+
+abbrev second : tie.After-read-if3 → tie.After-read-if2
+second c = c .before .before .before .before .before .before
+
+abbrev old : tie.After-lower-form → tie.After-read-if3
+old c = c .before .before .before .before
+
+abbrev result : tie.After-widen → tie.After-lower-form
+result c = c .before .before .before .before
+
+-- ---- what the form code says holds of the form
+
+legal : (c : tie.After-form-code) → let a = entry c .args in formNumber (a .operation) (a .arrangement) (a .i) 0 ≡ 0
+legal c = form-legal (the (entry c)) (entry c .pre .1 .1)
+
+says : {P : Op → Arrangement → Type 0} (c : tie.After-form-code) → OfCode (c .form-code .result) P
+    → let a = entry c .args in P (opAt (a .operation)) (arrangementAt (a .arrangement))
+says c h =
+    let a = entry c .args in
+    let k = coded (a .operation) (a .arrangement) (a .i) 0 (legal c) in
+    h (opAt (a .operation)) (arrangementAt (a .arrangement)) (k .0) (c .form-code .ensures ∙ k .1)
+
+-- ---- the room that is left after each call
+
+after-first : (c : tie.After-read-if) → Room (c .read-if .last .0) (c .read-if .result .count) (mostNodes + 3)
+after-first c = omega (arith, entry (code c) .pre .0, c .read-if .ensures .most, c .read-if .ensures .long)
+
+after-second : (c : tie.After-read-if2) → Room (c .read-if2 .last .0) (c .read-if2 .result .count) (mostNodes + 2)
+after-second c = omega (arith, after-first (first c), c .read-if2 .ensures .most, c .read-if2 .ensures .long)
+
+after-old : (c : tie.After-read-if3) → Room (c .read-if3 .last .0) (c .read-if3 .result .count) (mostNodes + 1)
+after-old c = omega (arith, after-second (second c), c .read-if3 .ensures .most, c .read-if3 .ensures .long)
+
+after-result : (c : tie.After-lower-form) → Room (c .lower-form .last .0) (c .lower-form .result .count) 1
+after-result c = omega (arith, after-old (old c), c .lower-form .ensures .sized)
+
+-- ---- the calls
 
 form-code-requires : tie.Need-form-code-requires
 form-code-requires c κs = search needs
 
 is-full-requires : tie.Need-is-full-requires
-is-full-requires c κs =
-    let st = c .before .before in
-    accepted (instruction (st .args .operation) (st .args .arrangement) (st .args .i) (st .args .d) (st .args .n) (st .args .m)) (st .pre .1 .1) .form-of .arranged
+is-full-requires c κs = let s = entry c in accepted (the s) (s .pre .1 .1) .form-of .arranged
 
 first-full-requires : tie.Need-first-full-requires
 first-full-requires c κs = search needs
 
 get-requires : tie.Need-get-requires
-get-requires c κs =
-    let st = c .before .before .before .before .before in
-    let r = registers-in (instruction (st .args .operation) (st .args .arrangement) (st .args .i) (st .args .d) (st .args .n) (st .args .m)) (st .pre .1 .1) in
-    omega (arith, r .0, r .1, r .2)
+get-requires c κs = omega (arith, registers (entry (c .before .before .before)))
 
 read-if-requires : tie.Need-read-if-requires
 read-if-requires c κs =
-    let l-get = c in
-    let st = l-get .before .before .before .before .before .before in
-    let q = nodes-in (st .args .map) (st .pre .1 .0) (instruction (st .args .operation) (st .args .arrangement) (st .args .i) (st .args .d) (st .args .n) (st .args .m)) (st .pre .1 .1) in
-    (record { words = omega (arith, st .pre .0 .words, st .pre .0 .numbers); numbers = omega (arith, st .pre .0 .words, st .pre .0 .numbers) }, omega (arith, q .0, q .1, q .2, l-get .get .ensures))
+    let s = entry (c .before .before .before .before) in
+    (omega (arith, s .pre .0), omega (arith, nodes s, c .get .ensures))
 
 has-second-requires : tie.Need-has-second-requires
 has-second-requires c κs = search needs
@@ -43,104 +102,73 @@ second-full-requires : tie.Need-second-full-requires
 second-full-requires c κs = search needs
 
 get-requires-2 : tie.Need-get-requires-2
-get-requires-2 c κs =
-    let st = c .before .before .before .before .before .before .before .before .before .before .before .before in
-    let r = registers-in (instruction (st .args .operation) (st .args .arrangement) (st .args .i) (st .args .d) (st .args .n) (st .args .m)) (st .pre .1 .1) in
-    omega (arith, r .0, r .1, r .2)
+get-requires-2 c κs = omega (arith, registers (entry (code (c .before .before .before .before .before))))
 
 read-if-requires-2 : tie.Need-read-if-requires-2
 read-if-requires-2 c κs =
-    let l-get2 = c in
-    let l-read-if = l-get2 .before .before .before .before .before .before in
-    let st = l-read-if .before .before .before .before .before .before .before in
-    let q = nodes-in (st .args .map) (st .pre .1 .0) (instruction (st .args .operation) (st .args .arrangement) (st .args .i) (st .args .d) (st .args .n) (st .args .m)) (st .pre .1 .1) in
-    (record { words = omega (arith, st .pre .0 .words, st .pre .0 .numbers, l-read-if .read-if .ensures .more, l-read-if .read-if .ensures .most, l-read-if .read-if .ensures .long); numbers = omega (arith, st .pre .0 .words, st .pre .0 .numbers, l-read-if .read-if .ensures .more, l-read-if .read-if .ensures .most, l-read-if .read-if .ensures .long) }, omega (arith, q .0, q .1, q .2, l-get2 .get2 .ensures, l-read-if .read-if .ensures .more, l-read-if .read-if .ensures .most, l-read-if .read-if .ensures .long))
+    let r = c .before .before .before .before .before .before in
+    (omega (arith, after-first r), omega (arith, nodes (entry (code r)), c .get2 .ensures, r .read-if .ensures .more))
 
 reads-d-requires : tie.Need-reads-d-requires
 reads-d-requires c κs = search needs
 
 get-requires-3 : tie.Need-get-requires-3
-get-requires-3 c κs =
-    let st = c .before .before .before .before .before .before .before .before .before .before .before .before .before .before .before .before .before .before in
-    let r = registers-in (instruction (st .args .operation) (st .args .arrangement) (st .args .i) (st .args .d) (st .args .n) (st .args .m)) (st .pre .1 .1) in
-    omega (arith, r .0, r .1, r .2)
+get-requires-3 c κs = omega (arith, registers (entry (code (first (c .before .before .before .before)))))
 
 read-if-requires-3 : tie.Need-read-if-requires-3
 read-if-requires-3 c κs =
-    let l-get3 = c in
-    let l-read-if2 = l-get3 .before .before .before .before .before in
-    let l-read-if = l-read-if2 .before .before .before .before .before .before .before in
-    let st = l-read-if .before .before .before .before .before .before .before in
-    let q = nodes-in (st .args .map) (st .pre .1 .0) (instruction (st .args .operation) (st .args .arrangement) (st .args .i) (st .args .d) (st .args .n) (st .args .m)) (st .pre .1 .1) in
-    (record { words = omega (arith, st .pre .0 .words, st .pre .0 .numbers, l-read-if .read-if .ensures .more, l-read-if .read-if .ensures .most, l-read-if .read-if .ensures .long, l-read-if2 .read-if2 .ensures .more, l-read-if2 .read-if2 .ensures .most, l-read-if2 .read-if2 .ensures .long); numbers = omega (arith, st .pre .0 .words, st .pre .0 .numbers, l-read-if .read-if .ensures .more, l-read-if .read-if .ensures .most, l-read-if .read-if .ensures .long, l-read-if2 .read-if2 .ensures .more, l-read-if2 .read-if2 .ensures .most, l-read-if2 .read-if2 .ensures .long) }, omega (arith, q .0, q .1, q .2, l-get3 .get3 .ensures, l-read-if .read-if .ensures .more, l-read-if .read-if .ensures .most, l-read-if .read-if .ensures .long, l-read-if2 .read-if2 .ensures .more, l-read-if2 .read-if2 .ensures .most, l-read-if2 .read-if2 .ensures .long))
+    let r = c .before .before .before .before .before in
+    let f = first r in (
+      omega (arith, after-second r),
+      omega (arith, nodes (entry (code f)), c .get3 .ensures, r .read-if2 .ensures .more, f .read-if .ensures .more),
+    )
 
 lower-form-requires : tie.Need-lower-form-requires
 lower-form-requires c κs =
-    let l-read-if3 = c .before .before .before in
-    let l-reads-d = l-read-if3 .before .before in
-    let l-read-if2 = l-reads-d .before .before .before .before in
-    let l-has-second = l-read-if2 .before .before .before in
-    let l-read-if = l-has-second .before .before .before .before in
-    let l-form-code = l-read-if .before .before .before .before .before in
-    let st = l-form-code .before .before in
-    let z : formNumber (st .args .operation) (st .args .arrangement) (st .args .i) 0 ≡ 0 = form-legal (instruction (st .args .operation) (st .args .arrangement) (st .args .i) (st .args .d) (st .args .n) (st .args .m)) (st .pre .1 .1) in
-    let k = coded (st .args .operation) (st .args .arrangement) (st .args .i) 0 z in
-    let e = l-form-code .form-code .ensures ∙ k .1 in
-    (record { words = omega (arith, st .pre .0 .words, st .pre .0 .numbers, l-read-if .read-if .ensures .more, l-read-if .read-if .ensures .most, l-read-if .read-if .ensures .long, l-read-if2 .read-if2 .ensures .more, l-read-if2 .read-if2 .ensures .most, l-read-if2 .read-if2 .ensures .long, l-read-if3 .read-if3 .ensures .more, l-read-if3 .read-if3 .ensures .most, l-read-if3 .read-if3 .ensures .long); numbers = omega (arith, st .pre .0 .words, st .pre .0 .numbers, l-read-if .read-if .ensures .more, l-read-if .read-if .ensures .most, l-read-if .read-if .ensures .long, l-read-if2 .read-if2 .ensures .more, l-read-if2 .read-if2 .ensures .most, l-read-if2 .read-if2 .ensures .long, l-read-if3 .read-if3 .ensures .more, l-read-if3 .read-if3 .ensures .most, l-read-if3 .read-if3 .ensures .long) }, (z, (omega (arith, l-read-if .read-if .ensures .under refl, l-read-if2 .read-if2 .ensures .more, l-read-if2 .read-if2 .ensures .most, l-read-if2 .read-if2 .ensures .long, l-read-if3 .read-if3 .ensures .more, l-read-if3 .read-if3 .ensures .most, l-read-if3 .read-if3 .ensures .long), (λ u. omega (arith, l-read-if2 .read-if2 .ensures .under (l-has-second .has-second .ensures (opAt (st .args .operation)) (arrangementAt (st .args .arrangement)) (k .0) e ∙ u), l-read-if3 .read-if3 .ensures .more, l-read-if3 .read-if3 .ensures .most, l-read-if3 .read-if3 .ensures .long)), (λ u. l-read-if3 .read-if3 .ensures .under (l-reads-d .reads-d .ensures (opAt (st .args .operation)) (arrangementAt (st .args .arrangement)) (k .0) e ∙ u)))))
+    let o = c .before .before .before in
+    let s = second o in
+    let f = first s in
+    let last = o .read-if3 .ensures .more in (
+      omega (arith, after-old o),
+      (legal (code f), (
+        omega (arith, f .read-if .ensures .under refl, s .read-if2 .ensures .more, last),
+        λ u. omega (arith, s .read-if2 .ensures .under (says (code f) (s .before .before .before .has-second .ensures) ∙ u), last),
+        λ u. o .read-if3 .ensures .under (says (code f) (o .before .before .reads-d .ensures) ∙ u),
+      )),
+    )
 
 widen-requires : tie.Need-widen-requires
-widen-requires c κs =
-    let l-lower-form = c .before .before .before in
-    let l-read-if3 = l-lower-form .before .before .before .before in
-    let l-read-if2 = l-read-if3 .before .before .before .before .before .before in
-    let l-read-if = l-read-if2 .before .before .before .before .before .before .before in
-    let st = l-read-if .before .before .before .before .before .before .before in
-    (record { words = omega (arith, st .pre .0 .words, st .pre .0 .numbers, l-read-if .read-if .ensures .more, l-read-if .read-if .ensures .most, l-read-if .read-if .ensures .long, l-read-if2 .read-if2 .ensures .more, l-read-if2 .read-if2 .ensures .most, l-read-if2 .read-if2 .ensures .long, l-read-if3 .read-if3 .ensures .more, l-read-if3 .read-if3 .ensures .most, l-read-if3 .read-if3 .ensures .long, l-lower-form .lower-form .ensures .sized); numbers = omega (arith, st .pre .0 .words, st .pre .0 .numbers, l-read-if .read-if .ensures .more, l-read-if .read-if .ensures .most, l-read-if .read-if .ensures .long, l-read-if2 .read-if2 .ensures .more, l-read-if2 .read-if2 .ensures .most, l-read-if2 .read-if2 .ensures .long, l-read-if3 .read-if3 .ensures .more, l-read-if3 .read-if3 .ensures .most, l-read-if3 .read-if3 .ensures .long, l-lower-form .lower-form .ensures .sized) }, l-lower-form .lower-form .ensures .sized .under)
+widen-requires c κs = let r = c .before .before .before in (after-result r, r .lower-form .ensures .sized .under)
 
 set-requires : tie.Need-set-requires
-set-requires c κs =
-    let st = c .before .before .before .before .before .before .before .before .before .before .before .before .before .before .before .before .before .before .before .before .before .before .before .before .before .before .before .before .before .before in
-    let r = registers-in (instruction (st .args .operation) (st .args .arrangement) (st .args .i) (st .args .d) (st .args .n) (st .args .m)) (st .pre .1 .1) in
-    omega (arith, r .0, r .1, r .2)
+set-requires c κs = omega (arith, registers (entry (code (first (second (old (result (c .before .before))))))))
 
 same-length : tie.Need-same-length
 same-length c =
-    let l-widen = c .before .before .before in
-    let l-lower-form = l-widen .before .before .before .before in
-    let l-read-if3 = l-lower-form .before .before .before .before in
-    let l-read-if2 = l-read-if3 .before .before .before .before .before .before in
-    let l-read-if = l-read-if2 .before .before .before .before .before .before .before in
-    omega (arith, l-read-if .read-if .ensures .more, l-read-if .read-if .ensures .most, l-read-if .read-if .ensures .long, l-read-if2 .read-if2 .ensures .more, l-read-if2 .read-if2 .ensures .most, l-read-if2 .read-if2 .ensures .long, l-read-if3 .read-if3 .ensures .more, l-read-if3 .read-if3 .ensures .most, l-read-if3 .read-if3 .ensures .long, l-lower-form .lower-form .ensures .sized, l-widen .widen .ensures .sized)
+    let w = c .before .before .before in
+    let r = result w in
+    let o = old r in
+    let s = second o in
+    omega (arith, first s .read-if .ensures .long, s .read-if2 .ensures .long, o .read-if3 .ensures .long, r .lower-form .ensures .sized, w .widen .ensures .sized)
 
 returns : tie.Need-returns
 returns c =
-    let l-set = c in
-    let l-widen = l-set .before .before .before in
-    let l-lower-form = l-widen .before .before .before .before in
-    let l-read-if3 = l-lower-form .before .before .before .before in
-    let l-get3 = l-read-if3 .before in
-    let l-reads-d = l-get3 .before in
-    let l-read-if2 = l-reads-d .before .before .before .before in
-    let l-get2 = l-read-if2 .before in
-    let l-second-full = l-get2 .before in
-    let l-has-second = l-second-full .before in
-    let l-read-if = l-has-second .before .before .before .before in
-    let l-get = l-read-if .before in
-    let l-first-full = l-get .before in
-    let l-is-full = l-first-full .before .before in
-    let l-form-code = l-is-full .before in
-    let st = l-form-code .before .before in
-    let r = registers-in (instruction (st .args .operation) (st .args .arrangement) (st .args .i) (st .args .d) (st .args .n) (st .args .m)) (st .pre .1 .1) in
-    let z : formNumber (st .args .operation) (st .args .arrangement) (st .args .i) 0 ≡ 0 = form-legal (instruction (st .args .operation) (st .args .arrangement) (st .args .i) (st .args .d) (st .args .n) (st .args .m)) (st .pre .1 .1) in
-    let k = coded (st .args .operation) (st .args .arrangement) (st .args .i) 0 z in
-    let e = l-form-code .form-code .ensures ∙ k .1 in
-    rw (l-set .set .ensures)
-    (recorded (st .args .map) (st .pre .1 .0) (instruction (st .args .operation) (st .args .arrangement) (st .args .i) (st .args .d) (st .args .n) (st .args .m)) (r .0) (r .1) (r .2) (opAt (st .args .operation)) (arrangementAt (st .args .arrangement)) refl refl
-    (l-get .get .ensures) (l-get2 .get2 .ensures) (l-get3 .get3 .ensures)
-    (read-flags refl (l-first-full .first-full .ensures (opAt (st .args .operation)) (arrangementAt (st .args .arrangement)) (k .0) e) (l-read-if .read-if .ensures))
-    (read-flags (l-has-second .has-second .ensures (opAt (st .args .operation)) (arrangementAt (st .args .arrangement)) (k .0) e) (l-second-full .second-full .ensures (opAt (st .args .operation)) (arrangementAt (st .args .arrangement)) (k .0) e) (l-read-if2 .read-if2 .ensures))
-    (read-flags (l-reads-d .reads-d .ensures (opAt (st .args .operation)) (arrangementAt (st .args .arrangement)) (k .0) e) (l-is-full .is-full .ensures) (l-read-if3 .read-if3 .ensures))
-    (l-lower-form .lower-form .ensures) (widen-flag (l-is-full .is-full .ensures) (l-widen .widen .ensures)))
+    let w = c .before .before .before in
+    let r = result w in
+    let o = old r in
+    let s = second o in
+    let f = first s in
+    let k = code f in
+    let a = entry k .args in
+    let in32 = registers (entry k) in
+    let full = f .before .before .before .before .is-full .ensures in
+    rw (c .set .ensures)
+    (recorded (a .map) (entry k .pre .1 .0) (the (entry k)) (in32 .0) (in32 .1) (in32 .2) (opAt (a .operation)) (arrangementAt (a .arrangement)) refl refl
+    (f .before .get .ensures) (s .before .get2 .ensures) (o .before .get3 .ensures)
+    (read-flags refl (says k (f .before .before .first-full .ensures)) (f .read-if .ensures))
+    (read-flags (says k (s .before .before .before .has-second .ensures)) (says k (s .before .before .second-full .ensures)) (s .read-if2 .ensures))
+    (read-flags (says k (o .before .before .reads-d .ensures)) full (o .read-if3 .ensures))
+    (r .lower-form .ensures) (widen-flag full (w .widen .ensures)))
 
 pub lower-record-spec : {M : Type 1} → statement M
 lower-record-spec =
