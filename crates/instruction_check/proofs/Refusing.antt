@@ -13,7 +13,7 @@ use Rattle.neon.specs.Op.{Op, opAt, Arrangement, arrangementAt, full, bitsIf}
 use Rattle.neon.specs.Form.{form, hasSecond, readsD, firstFull, secondFull, byElement}
 use Rattle.neon.specs.Refusal.{formNumber, reserve}
 use Rattle.neon.proofs.Legal.{formed, form-rest, form-first}
-use Rattle.pool.specs.Node.{widthAt, places}
+use Rattle.pool.specs.Node.{none, widthAt, places}
 use Rattle.pool.specs.Rules.{okPool, poolOk}
 use Rattle.instruction_check.specs.Number.{sourceOk, sourcesOk, instructionNumber}
 
@@ -27,7 +27,7 @@ words-for ws count h = omega (arith, within-places ws count h)
 -- ---- one source
 
 module _ (ws : List ℕ) (count : ℕ) (wanted full : Bool) (node : ℕ) where
-  pub source-none : not wanted ≡ true → eqb node 65535 ≡ sourceOk ws count wanted (bitsIf full) node
+  pub source-none : not wanted ≡ true → eqb node none ≡ sourceOk ws count wanted (bitsIf full) node
   source-none e = rw (not-true wanted e) refl
 
   pub source-above : not wanted ≡ false → count ≤ node → false ≡ sourceOk ws count wanted (bitsIf full) node
@@ -65,48 +65,50 @@ module _ (ws : List ℕ) (count operation arrangement i d n m : ℕ) where
   abbrev sources : Bool
   sources = sourcesOk ws count (opAt operation) (arrangementAt arrangement) d n m
 
+  abbrev enough : Bool
+  enough = leb (count + reserve) (places ws)
+
+  -- what follows the form's numbers
+  abbrev rest : ℕ
+  rest = unless sources 5 (unless enough 6 0)
+
   pub number-pool : poolOk ws count ≡ false → 1 ≡ number
   unfolding instructionNumber
   number-pool e = rw e refl
 
   pub number-form : {k : ℕ} → poolOk ws count ≡ true → k ≡ formNumber operation arrangement i 0 → (k ≡ 0 → ⊥) → k ≡ number
   unfolding instructionNumber
-  number-form p q f = rw p (q ∙ form-first operation arrangement i (unless sources 5 (unless (leb (count + reserve) (places ws)) 6 0)) (λ z. f (q ∙ z)))
+  number-form p q f = rw p (q ∙ form-first operation arrangement i rest (λ z. f (q ∙ z)))
 
-  pub number-sources : {k : ℕ} → poolOk ws count ≡ true → k ≡ formNumber operation arrangement i 0 → k ≡ 0 → sources ≡ false → 5 ≡ number
-  unfolding instructionNumber
-  number-sources p q e s =
-      rw p (sym (form-rest operation arrangement i (unless sources 5 (unless (leb (count + reserve) (places ws)) 6 0)) (sym q ∙ e) ∙ rw s refl))
+  -- past the form
+  module _ (p : poolOk ws count ≡ true) (z : formNumber operation arrangement i 0 ≡ 0) where
+    number-rest : number ≡ rest
+    unfolding instructionNumber
+    number-rest = rw p (form-rest operation arrangement i rest z)
 
-  pub number-room : {k : ℕ} → poolOk ws count ≡ true → k ≡ formNumber operation arrangement i 0 → k ≡ 0 → sources ≡ true → places ws - count < 1024 → 6 ≡ number
-  unfolding instructionNumber
-  number-room p q e s h =
-      rw p
-      (sym (form-rest operation arrangement i (unless sources 5 (unless (leb (count + reserve) (places ws)) 6 0)) (sym q ∙ e)
-      ∙ rw (s, lt-leb (count + reserve) (places ws) (omega (arith, h, within-places ws count p))) refl))
+    pub number-sources : sources ≡ false → 5 ≡ number
+    number-sources s = rw (number-rest, s) refl
 
-  pub number-done : {k : ℕ} → poolOk ws count ≡ true → k ≡ formNumber operation arrangement i 0 → k ≡ 0 → sources ≡ true → 1024 ≤ places ws - count → 0 ≡ number
-  unfolding instructionNumber
-  number-done p q e s h =
-      rw p
-      (sym (form-rest operation arrangement i (unless sources 5 (unless (leb (count + reserve) (places ws)) 6 0)) (sym q ∙ e)
-      ∙ rw (s, le-leb (count + reserve) (places ws) (omega (arith, h, within-places ws count p))) refl))
+    pub number-room : sources ≡ true → places ws - count < reserve → 6 ≡ number
+    number-room s h = rw (number-rest, s, lt-leb (count + reserve) (places ws) (omega (arith, h, within-places ws count p))) refl
+
+    pub number-done : sources ≡ true → reserve ≤ places ws - count → 0 ≡ number
+    number-done s h = rw (number-rest, s, le-leb (count + reserve) (places ws) (omega (arith, h, within-places ws count p))) refl
 
   -- an instruction that is accepted
   pub record Passed : Type 0 where
     pub pool-ok : poolOk ws count ≡ true
     pub form-ok : formNumber operation arrangement i 0 ≡ 0
     pub sources-ok : sources ≡ true
-    pub room : count + 1024 ≤ places ws
+    pub room : count + reserve ≤ places ws
 
   pub passes : number ≡ 0 → Passed
   unfolding instructionNumber
   passes e =
-      let rest = unless sources 5 (unless (leb (count + reserve) (places ws)) 6 0) in
       let p = passed (poolOk ws count) (λ z. omega arith) e in
       let q = formed operation arrangement i rest (p .1) in
       let s = passed sources (λ z. omega arith) (q .1) in
-      let t = passed (leb (count + reserve) (places ws)) (λ z. omega arith) (s .1) in
+      let t = passed enough (λ z. omega arith) (s .1) in
       record {
         pool-ok = p .0;
         form-ok = subst (λ (x : ℕ). formNumber operation arrangement i x ≡ 0) (q .1) (p .1);

@@ -14,7 +14,7 @@ use Rattle.trees.specs.declared.NeonShape.{NeonShape}
 use Rattle.trees.specs.Neon.{shapeOf, neonValue, resultTree}
 use Rattle.pool.specs.declared.Node.{Node}
 use Rattle.pool.specs.declared.Built.{Built}
-use Rattle.pool.specs.Growth.{NodeIs, Room}
+use Rattle.pool.specs.Growth.{NodeIs}
 use Rattle.lower.specs.Builds.{Source, SourceIs, Below, Lowers, read, readIf, unread, withLower}
 use Rattle.lower_neon.specs.Family.{readsSecond, readsOld, keepsLower, oldWidth, firstWidth, secondWidth, FamilyIn, mostNodes}
 use Rattle.lower_neon.proofs.Rows.{Row}
@@ -22,9 +22,6 @@ use Rattle.lower_neon.proofs.Rows.{Row}
 -- at most 16 lanes
 pub lanes-le : (n k : ℕ) → 8 ≤ n → n * k ≤ 128 → k ≤ 16
 lanes-le n k h l = omega (arith, mul-le-mul-right k h)
-
-pub room-less : {ws : List ℕ} {k m m′ : ℕ} → m ≤ m′ → Room ws k m′ → Room ws k m
-room-less h r = record { words = omega (arith, r .words); numbers = omega (arith, r .numbers) }
 
 -- what a family asks of its sources and lanes
 abbrev pub Ready : (c : ℕ) (second d : Node) (n k i : ℕ) → NeonOp → Type 0

@@ -4,9 +4,8 @@ use mathlib.Core.Path.{_≡_}
 use Prim.Native.Nat.{ℕ, _+_, _*_, _/_, _≤_}
 use Rattle.trees.specs.declared.NeonOp.{NeonOp}
 use Rattle.trees.specs.declared.NeonOp.the-variants.{Shift, ShiftInsert, MixedSignAdd, DoublingLong, Saturating, BitwiseUnary, AbsoluteDifference, HighNarrow}
-use Rattle.kinds.specs.Sources.{isRegister, AmountIn}
+use Rattle.kinds.specs.Sources.{isRegister, AmountIn, usesSecond, sourceBits, KindIn}
 use Rattle.lower_doubling.specs.Elements.{accumulates, factorBits, secondFactorBits}
-use Rattle.kinds.specs.Sources.{usesSecond, sourceBits, KindIn}
 
 -- a bound on the nodes that a form adds
 abbrev pub mostNodes : ℕ

@@ -1,7 +1,9 @@
 use native.Mathlib.Omega.{arith}
 use mathlib.Core.Path.{_≡_, refl}
-use Prim.Native.Nat.{_-_, _/_, _≤_}
+use Prim.Native.Nat.{_-_, _/_, _≤_, _<_}
 use lib.ListN.{length}
+use Rattle.neon.specs.Refusal.{reserve}
+use Rattle.pool.specs.Growth.{Room}
 use Rattle.block_check.specs.Records.{recordsFrom}
 use Rattle.block_check.proofs.Refusals.{from-length}
 use Rattle.block.specs.Block.{Runs}
@@ -15,58 +17,61 @@ Inv-loop pool₀ records count map₀ j₀ pool map j = (count ≡ length record
 abbrev μ-loop : tie.MeasureT-loop
 μ-loop pool₀ records count map₀ j₀ pool map j = count - j
 
+abbrev entry : tie.At-loop Inv-loop μ-loop → tie.Start Inv-loop μ-loop
+entry c = c .before .before .before
+
+-- record j is whole, and has its reserve
+in-records : (c : tie.In-loop Inv-loop μ-loop) → c .before .loop .j < length (entry (c .before) .args .records .now) / 6
+in-records c = omega (arith, c .before .loop .inv .0, c .loop-test .taken)
+
+room : (c : tie.In-loop Inv-loop μ-loop) → let l = c .before .loop in Room (l .pool) (l .map .count) reserve
+room c =
+    let l = c .before .loop in
+    let s = entry (c .before) in
+    omega (arith, s .pre .0, l .inv .2 .long, l .inv .2 .most, from-length (s .args .records .now) 0 (l .j), in-records c)
+
 loop-holds : tie.Need-loop-holds Inv-loop μ-loop
 unfolding recordsFrom
-loop-holds c =
-    let st = c .before .before in
-    (refl, omega arith, runs-none (st .pre .1 .0))
+loop-holds c = (refl, omega arith, runs-none (c .before .before .pre .1 .0))
 
 record-at-requires : tie.Need-record-at-requires Inv-loop μ-loop
-record-at-requires c κs =
-    let l-loop-test = c in
-    let l-loop = l-loop-test .before in
-    omega (arith, l-loop .loop .inv .0, l-loop-test .loop-test .taken)
+record-at-requires c κs = omega (arith, in-records c)
 
 lower-record-requires : tie.Need-lower-record-requires Inv-loop μ-loop
 lower-record-requires c κs =
-    let l-record-at = c .before in
-    let l-loop-test = l-record-at .before in
-    let l-loop = l-loop-test .before in
-    let st = l-loop .before .before .before in
-    let n = from-length (st .args .records .now) 0 (l-loop .loop .j) in
-    (record { words = omega (arith, st .pre .0 .words, l-loop .loop .inv, l-loop .loop .inv .2 .long, l-loop .loop .inv .2 .most, n, l-loop-test .loop-test .taken); numbers = omega (arith, st .pre .0 .numbers, l-loop .loop .inv, l-loop .loop .inv .2 .most, n, l-loop-test .loop-test .taken) }, (l-loop .loop .inv .2 .map-ok, rw (l-record-at .record-at .ensures) (legal-here (st .args .records .now) (l-loop .loop .j) (st .pre .1 .1) (omega (arith, l-loop .loop .inv .0, l-loop-test .loop-test .taken)))))
+    let r = c .before in
+    let t = r .before in
+    let s = entry (t .before) in
+    let l = t .before .loop in
+    (room t, (l .inv .2 .map-ok, rw (r .record-at .ensures) (legal-here (s .args .records .now) (l .j) (s .pre .1 .1) (in-records t))))
+
+abbrev turn : tie.After-slice-known2 Inv-loop μ-loop → tie.In-loop Inv-loop μ-loop
+turn c = c .before .before .before .before .before
 
 add-j : tie.Need-add-j Inv-loop μ-loop
-add-j c =
-    let l-loop-test = c .before .before .before .before .before in
-    let l-loop = l-loop-test .before in
-    omega (arith, l-loop .loop .inv .0, l-loop-test .loop-test .taken)
+add-j c = omega (arith, in-records (turn c))
 
 loop-less : tie.Need-loop-less Inv-loop μ-loop
-loop-less c =
-    let l-loop-test = c .before .before .before .before .before in
-    omega (arith, l-loop-test .loop-test .taken)
+loop-less c = omega (arith, turn c .loop-test .taken)
 
 loop-again : tie.Need-loop-again Inv-loop μ-loop
 loop-again c =
-    let l-lower-record = c .before .before in
-    let l-record-at = l-lower-record .before .before in
-    let l-loop-test = l-record-at .before in
-    let l-loop = l-loop-test .before in
-    let st = l-loop .before .before .before in
-    (l-loop .loop .inv .0, omega (arith, l-loop-test .loop-test .taken), runs-next (st .args .records .now) (l-loop .loop .j) (l-loop .loop .inv .2) (rw (l-record-at .record-at .ensures) at (l-lower-record .lower-record .ensures)))
+    let n = c .before .before in
+    let r = n .before .before in
+    let t = r .before in
+    let l = t .before .loop in (
+      l .inv .0,
+      omega (arith, t .loop-test .taken),
+      runs-next (entry (t .before) .args .records .now) (l .j) (l .inv .2) (rw (r .record-at .ensures) at (n .lower-record .ensures)),
+    )
 
 same-length : tie.Need-same-length Inv-loop μ-loop
-same-length c =
-    let l-loop = c .before in
-    omega (arith, l-loop .loop .inv .2 .long)
+same-length c = omega (arith, c .before .loop .inv .2 .long)
 
 returns : tie.Need-returns Inv-loop μ-loop
 returns c =
-    let l-loop-test = c in
-    let l-loop = l-loop-test .before in
-    let st = l-loop .before .before .before in
-    runs-all (st .args .records .now) (l-loop .loop .j) (omega (arith, l-loop .loop .inv .0, l-loop .loop .inv .1, l-loop-test .loop-test .left)) (l-loop .loop .inv .2)
+    let l = c .before .loop in
+    runs-all (entry (c .before) .args .records .now) (l .j) (omega (arith, l .inv .0, l .inv .1, c .loop-test .left)) (l .inv .2)
 
 pub run-records-spec : {M : Type 1} → statement M
 run-records-spec =

@@ -1,55 +1,50 @@
 use native.Mathlib.Omega.{arith}
-use denote.Ref.{now}
+use Prim.Native.Nat.{_+_, _*_, _≤_}
+use lib.ListN.{length}
+use Rattle.pool.specs.Node.{none}
 use Rattle.instruction_check.proofs.Refusing.{within-places, words-for, source-none, source-above, source-full, source-half}
 use Rattle.instruction_check.proofs.source_ok.Statement.{statement}
 use Rattle.instruction_check.proofs.source_ok.Tie as tie
 
+abbrev entry : tie.Else2 → tie.Start
+entry c = c .before .before
+
+-- past the second test the node is one of the pool
+in-pool : (c : tie.Else2) → let a = entry c .args in (4 * a .node + 4 ≤ length (a .pool .now)) × (a .node + 1 ≤ none)
+in-pool c =
+    let s = entry c in
+    let a = s .args in
+    omega (arith, c .if2 .left, words-for (a .pool .now) (a .count) (s .pre), within-places (a .pool .now) (a .count) (s .pre))
+
 returns : tie.Need-returns
-returns c =
-    let l-if1 = c in
-    let st = l-if1 .before in
-    source-none (now (st .args .pool)) (st .args .count) (st .args .wanted) (st .args .full) (st .args .node) (l-if1 .if1 .taken)
+returns c = let a = c .before .args in source-none (a .pool .now) (a .count) (a .wanted) (a .full) (a .node) (c .if1 .taken)
 
 returns-2 : tie.Need-returns-2
 returns-2 c =
-    let l-if2 = c in
-    let l-if1 = l-if2 .before in
-    let st = l-if1 .before in
-    source-above (now (st .args .pool)) (st .args .count) (st .args .wanted) (st .args .full) (st .args .node) (l-if1 .if1 .left) (l-if2 .if2 .taken)
+    let e = c .before in
+    let a = e .before .args in
+    source-above (a .pool .now) (a .count) (a .wanted) (a .full) (a .node) (e .if1 .left) (c .if2 .taken)
 
 mul-at : tie.Need-mul-at
-mul-at c =
-    let l-if2 = c in
-    let st = l-if2 .before .before in
-    omega (arith, l-if2 .if2 .left, words-for (now (st .args .pool)) (st .args .count) (st .pre), within-places (now (st .args .pool)) (st .args .count) (st .pre))
+mul-at c = omega (arith, in-pool c)
 
 mul-width : tie.Need-mul-width
-mul-width c =
-    let l-if2 = c in
-    let st = l-if2 .before .before in
-    omega (arith, l-if2 .if2 .left, words-for (now (st .args .pool)) (st .args .count) (st .pre), within-places (now (st .args .pool)) (st .args .count) (st .pre))
+mul-width c = omega (arith, in-pool c)
 
 shared-slice-read-width : tie.Need-shared-slice-read-width
-shared-slice-read-width c =
-    let l-if2 = c .before in
-    let st = l-if2 .before .before in
-    omega (arith, l-if2 .if2 .left, words-for (now (st .args .pool)) (st .args .count) (st .pre))
+shared-slice-read-width c = omega (arith, in-pool (c .before))
 
 returns-3 : tie.Need-returns-3
 returns-3 c =
-    let l-if3 = c in
-    let l-if2 = l-if3 .before .before in
-    let l-if1 = l-if2 .before in
-    let st = l-if1 .before in
-    source-full (now (st .args .pool)) (st .args .count) (st .args .wanted) (st .args .full) (st .args .node) (l-if1 .if1 .left) (l-if2 .if2 .left) (l-if3 .if3 .taken)
+    let e = c .before .before in
+    let a = entry e .args in
+    source-full (a .pool .now) (a .count) (a .wanted) (a .full) (a .node) (e .before .if1 .left) (e .if2 .left) (c .if3 .taken)
 
 returns-4 : tie.Need-returns-4
 returns-4 c =
-    let l-if3 = c in
-    let l-if2 = l-if3 .before .before in
-    let l-if1 = l-if2 .before in
-    let st = l-if1 .before in
-    source-half (now (st .args .pool)) (st .args .count) (st .args .wanted) (st .args .full) (st .args .node) (l-if1 .if1 .left) (l-if2 .if2 .left) (l-if3 .if3 .left)
+    let e = c .before .before in
+    let a = entry e .args in
+    source-half (a .pool .now) (a .count) (a .wanted) (a .full) (a .node) (e .before .if1 .left) (e .if2 .left) (c .if3 .left)
 
 pub source-ok-spec : {M : Type 1} → statement M
 source-ok-spec =

@@ -1,11 +1,45 @@
 use native.Mathlib.Omega.{arith}
 use Rattle.facts.proofs.Numbers.{half-fits}
+use Rattle.pool.specs.Growth.{Room}
 use Rattle.lower_multiply_high.proofs.Doubling.{multiply-high}
 use borrow.Author.Needs.{needs}
 use Rattle.lower_multiply_high.proofs.multiply_high_lane.Statement.{
   statement,
 }
 use Rattle.lower_multiply_high.proofs.multiply_high_lane.Tie as tie
+
+-- ---- back from each sum to the one before it, and the room that is left after it
+
+abbrev extended : tie.After-bv → tie.After-extend
+extended c = c .before .before .before .before .before .before .before .before
+
+abbrev entry : tie.After-bv → tie.Start
+entry c = extended c .before .before .before .before
+
+after-product : (c : tie.After-bv) → Room (c .bv .last .0) (c .bv .result .count) 13
+after-product c =
+    let b = c .before .before .before .before in
+    omega (arith, entry c .pre .0, extended c .extend .ensures .sized, b .extend2 .ensures .sized, c .bv .ensures .sized)
+
+abbrev product : tie.After-bv2 → tie.After-bv
+product c = c .before .before .before .before .before .before .before .before
+
+after-doubled : (c : tie.After-bv2) → Room (c .bv2 .last .0) (c .bv2 .result .count) 11
+after-doubled c = omega (arith, after-product (product c), c .before .before .before .before .konst .ensures .sized, c .bv2 .ensures .sized)
+
+abbrev doubled : tie.After-plus-if → tie.After-bv2
+doubled c = c .before .before .before .before
+
+after-rounded : (c : tie.After-plus-if) → Room (c .plus-if .last .0) (c .plus-if .result .count) 9
+after-rounded c = omega (arith, after-doubled (doubled c), c .plus-if .ensures .sized)
+
+abbrev rounded : tie.After-bv3 → tie.After-plus-if
+rounded c = c .before .before .before .before .before .before .before .before
+
+after-high : (c : tie.After-bv3) → Room (c .bv3 .last .0) (c .bv3 .result .count) 7
+after-high c = omega (arith, after-rounded (rounded c), c .before .before .before .before .konst2 .ensures .sized, c .bv3 .ensures .sized)
+
+-- ---- the calls
 
 mul-wide : tie.Need-mul-wide
 mul-wide c = search needs
@@ -29,92 +63,76 @@ bv-requires : tie.Need-bv-requires
 bv-requires c κs = search needs
 
 konst-requires : tie.Need-konst-requires
-konst-requires c κs = search needs
+konst-requires c κs = omega (arith, entry (c .before .before .before) .pre .1, after-product (c .before .before .before))
 
 bv-requires-2 : tie.Need-bv-requires-2
 bv-requires-2 c κs =
-    let l-konst = c .before .before .before in
-    let l-bv = l-konst .before .before .before .before in
-    let l-extend2 = l-bv .before .before .before .before in
-    let l-extend = l-extend2 .before .before .before .before in
-    let st = l-extend .before .before .before .before in
-    omega (arith, st .pre, l-extend .extend .ensures .sized, l-extend2 .extend2 .ensures .sized, l-bv .bv .ensures .sized, l-konst .konst .ensures .sized)
+    let k = c .before .before .before in
+    let p = k .before .before .before .before in
+    omega (arith, after-product p, p .bv .ensures .sized, k .konst .ensures .sized)
 
 plus-if-requires : tie.Need-plus-if-requires
 plus-if-requires c κs =
-    let l-bv2 = c .before .before .before in
-    let l-konst = l-bv2 .before .before .before .before in
-    let l-bv = l-konst .before .before .before .before in
-    let l-extend2 = l-bv .before .before .before .before in
-    let l-extend = l-extend2 .before .before .before .before in
-    let l-power = l-extend .before .before in
-    let st = l-power .before .before in
-    (omega (arith, st .pre, l-extend .extend .ensures .sized, l-extend2 .extend2 .ensures .sized, l-bv .bv .ensures .sized, l-konst .konst .ensures .sized, l-bv2 .bv2 .ensures .sized), (omega (arith, st .pre, l-extend .extend .ensures .sized, l-extend2 .extend2 .ensures .sized, l-bv .bv .ensures .sized, l-konst .konst .ensures .sized, l-bv2 .bv2 .ensures .sized), omega (arith, st .pre), omega (arith, st .pre), rw (l-power .power .ensures) (half-fits (st .args .lane-bits) _ (st .pre .1 .2) (omega (arith, st .pre)))))
+    let d = c .before .before .before in
+    let s = entry (product d) in
+    let half = extended (product d) .before .before .power .ensures in (
+      omega (arith, after-doubled d),
+      (
+        d .bv2 .ensures .sized .under,
+        omega (arith, s .pre),
+        omega (arith, s .pre),
+        rw half (half-fits (s .args .lane-bits) _ (s .pre .1 .2) (omega (arith, s .pre))),
+      ),
+    )
 
 konst-requires-2 : tie.Need-konst-requires-2
 konst-requires-2 c κs =
-    let l-plus-if = c .before .before .before in
-    let l-bv2 = l-plus-if .before .before .before .before in
-    let l-konst = l-bv2 .before .before .before .before in
-    let l-bv = l-konst .before .before .before .before in
-    let l-extend2 = l-bv .before .before .before .before in
-    let l-extend = l-extend2 .before .before .before .before in
-    let st = l-extend .before .before .before .before in
-    omega (arith, st .pre, l-extend .extend .ensures .sized, l-extend2 .extend2 .ensures .sized, l-bv .bv .ensures .sized, l-konst .konst .ensures .sized, l-bv2 .bv2 .ensures .sized, l-plus-if .plus-if .ensures .sized)
+    let r = c .before .before .before in
+    omega (arith, entry (product (doubled r)) .pre .1, after-rounded r)
 
 bv-requires-3 : tie.Need-bv-requires-3
 bv-requires-3 c κs =
-    let l-konst2 = c .before .before .before in
-    let l-plus-if = l-konst2 .before .before .before .before in
-    let l-bv2 = l-plus-if .before .before .before .before in
-    let l-konst = l-bv2 .before .before .before .before in
-    let l-bv = l-konst .before .before .before .before in
-    let l-extend2 = l-bv .before .before .before .before in
-    let l-extend = l-extend2 .before .before .before .before in
-    let st = l-extend .before .before .before .before in
-    omega (arith, st .pre, l-extend .extend .ensures .sized, l-extend2 .extend2 .ensures .sized, l-bv .bv .ensures .sized, l-konst .konst .ensures .sized, l-bv2 .bv2 .ensures .sized, l-plus-if .plus-if .ensures .sized, l-konst2 .konst2 .ensures .sized)
+    let k = c .before .before .before in
+    let r = k .before .before .before .before in
+    omega (arith, after-rounded r, r .plus-if .ensures .sized, k .konst2 .ensures .sized)
 
 clamp-requires : tie.Need-clamp-requires
 clamp-requires c κs =
-    let l-bv3 = c .before .before .before in
-    let l-konst2 = l-bv3 .before .before .before .before in
-    let l-plus-if = l-konst2 .before .before .before .before in
-    let l-bv2 = l-plus-if .before .before .before .before in
-    let l-konst = l-bv2 .before .before .before .before in
-    let l-bv = l-konst .before .before .before .before in
-    let l-extend2 = l-bv .before .before .before .before in
-    let l-extend = l-extend2 .before .before .before .before in
-    let st = l-extend .before .before .before .before in
-    omega (arith, st .pre, l-extend .extend .ensures .sized, l-extend2 .extend2 .ensures .sized, l-bv .bv .ensures .sized, l-konst .konst .ensures .sized, l-bv2 .bv2 .ensures .sized, l-plus-if .plus-if .ensures .sized, l-konst2 .konst2 .ensures .sized, l-bv3 .bv3 .ensures .sized)
+    let h = c .before .before .before in
+    omega (arith, entry (product (doubled (rounded h))) .pre .1, after-high h, h .bv3 .ensures .sized)
 
 same-length : tie.Need-same-length
 same-length c =
-    let l-clamp = c .before .before in
-    let l-bv3 = l-clamp .before .before .before .before in
-    let l-konst2 = l-bv3 .before .before .before .before in
-    let l-plus-if = l-konst2 .before .before .before .before in
-    let l-bv2 = l-plus-if .before .before .before .before in
-    let l-konst = l-bv2 .before .before .before .before in
-    let l-bv = l-konst .before .before .before .before in
-    let l-extend2 = l-bv .before .before .before .before in
-    let l-extend = l-extend2 .before .before .before .before in
-    let st = l-extend .before .before .before .before in
-    omega (arith, st .pre, l-extend .extend .ensures .sized, l-extend2 .extend2 .ensures .sized, l-bv .bv .ensures .sized, l-konst .konst .ensures .sized, l-bv2 .bv2 .ensures .sized, l-plus-if .plus-if .ensures .sized, l-konst2 .konst2 .ensures .sized, l-bv3 .bv3 .ensures .sized, l-clamp .clamp .ensures .sized)
+    let l = c .before .before in
+    let h = l .before .before .before .before in
+    let r = rounded h in
+    let d = doubled r in
+    let p = product d in
+    omega (
+      arith,
+      extended p .extend .ensures .sized,
+      p .before .before .before .before .extend2 .ensures .sized,
+      p .bv .ensures .sized,
+      d .before .before .before .before .konst .ensures .sized,
+      d .bv2 .ensures .sized,
+      r .plus-if .ensures .sized,
+      h .before .before .before .before .konst2 .ensures .sized,
+      h .bv3 .ensures .sized,
+      l .clamp .ensures .sized,
+    )
 
 returns : tie.Need-returns
 returns c =
-    let l-clamp = c .before .before in
-    let l-bv3 = l-clamp .before .before .before .before in
-    let l-konst2 = l-bv3 .before .before .before .before in
-    let l-plus-if = l-konst2 .before .before .before .before in
-    let l-bv2 = l-plus-if .before .before .before .before in
-    let l-konst = l-bv2 .before .before .before .before in
-    let l-bv = l-konst .before .before .before .before in
-    let l-extend2 = l-bv .before .before .before .before in
-    let l-extend = l-extend2 .before .before .before .before in
-    let l-power = l-extend .before .before in
-    let st = l-power .before .before in
-    multiply-high (st .args .rounding) (st .pre .1 .2) (st .pre .1 .3) (l-power .power .ensures) (l-extend .extend .ensures) (l-extend2 .extend2 .ensures) (l-bv .bv .ensures) (l-konst .konst .ensures) (l-bv2 .bv2 .ensures) (l-plus-if .plus-if .ensures) (l-konst2 .konst2 .ensures) (l-bv3 .bv3 .ensures) (l-clamp .clamp .ensures)
+    let l = c .before .before in
+    let h = l .before .before .before .before in
+    let r = rounded h in
+    let d = doubled r in
+    let p = product d in
+    let e = extended p in
+    let s = entry p in
+    multiply-high (s .args .rounding) (s .pre .1 .2) (s .pre .1 .3) (e .before .before .power .ensures)
+    (e .extend .ensures) (p .before .before .before .before .extend2 .ensures) (p .bv .ensures) (d .before .before .before .before .konst .ensures)
+    (d .bv2 .ensures) (r .plus-if .ensures) (h .before .before .before .before .konst2 .ensures) (h .bv3 .ensures) (l .clamp .ensures)
 
 pub multiply-high-lane-spec : {M : Type 1} → statement M
 multiply-high-lane-spec =

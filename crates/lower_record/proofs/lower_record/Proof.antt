@@ -130,11 +130,14 @@ lower-form-requires c κs =
     let f = first s in
     let last = o .read-if3 .ensures .more in (
       omega (arith, after-old o),
-      (legal (code f), (
-        omega (arith, f .read-if .ensures .under refl, s .read-if2 .ensures .more, last),
-        λ u. omega (arith, s .read-if2 .ensures .under (says (code f) (s .before .before .before .has-second .ensures) ∙ u), last),
-        λ u. o .read-if3 .ensures .under (says (code f) (o .before .before .reads-d .ensures) ∙ u),
-      )),
+      (
+        legal (code f),
+        (
+          omega (arith, f .read-if .ensures .under refl, s .read-if2 .ensures .more, last),
+          λ u. omega (arith, s .read-if2 .ensures .under (says (code f) (s .before .before .before .has-second .ensures) ∙ u), last),
+          λ u. o .read-if3 .ensures .under (says (code f) (o .before .before .reads-d .ensures) ∙ u),
+        ),
+      ),
     )
 
 widen-requires : tie.Need-widen-requires

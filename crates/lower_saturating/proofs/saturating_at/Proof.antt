@@ -1,71 +1,101 @@
 use native.Mathlib.Omega.{arith}
-use mathlib.Core.Path.{sym, _∙_}
+use mathlib.Core.Bool.{true}
+use mathlib.Core.Path.{_≡_, sym, subst, _∙_}
+use Prim.Native.Nat.{ℕ, _+_, _*_, _≤_}
+use Rattle.kinds.specs.Sources.{usesSecond}
 use Rattle.lower.proofs.Lanes.{lane-fits}
 use Rattle.lower_saturating.proofs.Joining.{source-least, at-two, at-one}
 use borrow.Author.Needs.{needs}
 use Rattle.lower_saturating.proofs.saturating_at.Statement.{statement}
 use Rattle.lower_saturating.proofs.saturating_at.Tie as tie
 
+-- ---- the places, and the bits of a source lane
+
+abbrev entry : tie.After-source-bits → tie.Start
+entry c = c .before .before
+
+fits : (c : tie.After-source-bits) → let n = c .source-bits .result in (1 ≤ n) × (n * entry c .args .index .0 + n ≤ 128)
+fits c =
+    let a = entry c .args in
+    let p = entry c .pre .1 .1 in
+    let e = c .source-bits .ensures in (
+      omega (arith, p .0, source-least (a .kind) (a .lane-bits), e),
+      lane-fits (c .source-bits .result) (a .index .0) (a .lanes) {w = 128} (p .3) (subst (λ (x : ℕ). x * a .lanes ≤ 128) (sym e) (p .4)),
+    )
+
+abbrev first : tie.After-uses-second → tie.After-extract-lane
+first c = c .before .before .before
+
+abbrev bits : tie.After-uses-second → tie.After-source-bits
+bits c = first c .before .before
+
+-- ---- two sources
+
 source-bits-requires : tie.Need-source-bits-requires
 source-bits-requires c κs = search needs
 
 extract-lane-requires : tie.Need-extract-lane-requires
-extract-lane-requires c κs =
-    let l-source-bits = c .before in
-    let st = l-source-bits .before .before in
-    omega (arith, st .pre .0, st .pre .1 .0 .0, st .pre .1 .1 .0, source-least (st .args .kind) (st .args .lane-bits), l-source-bits .source-bits .ensures, lane-fits (l-source-bits .source-bits .result) (st .args .index .0) (st .args .lanes) {w = 128} (st .pre .1 .1 .3) (rw (l-source-bits .source-bits .ensures) (st .pre .1 .1 .4)))
+extract-lane-requires c κs = omega (arith, entry (c .before) .pre .0, entry (c .before) .pre .1 .0 .0, fits (c .before))
 
 uses-second-requires : tie.Need-uses-second-requires
 uses-second-requires c κs = search needs
 
+used : (c : tie.Then1) → usesSecond (entry (bits (c .before)) .args .kind) ≡ true
+used c = sym (c .before .uses-second .ensures) ∙ c .if1 .taken
+
 extract-lane-requires-2 : tie.Need-extract-lane-requires-2
 extract-lane-requires-2 c κs =
-    let l-if1 = c .before in
-    let l-uses-second = l-if1 .before in
-    let l-extract-lane = l-uses-second .before .before .before in
-    let l-source-bits = l-extract-lane .before .before in
-    let st = l-source-bits .before .before in
-    omega (arith, st .pre .0, st .pre .1 .1 .0, st .pre .1 .0 .1 (sym (l-uses-second .uses-second .ensures) ∙ l-if1 .if1 .taken), l-extract-lane .extract-lane .ensures .sized, source-least (st .args .kind) (st .args .lane-bits), l-source-bits .source-bits .ensures, lane-fits (l-source-bits .source-bits .result) (st .args .index .0) (st .args .lanes) {w = 128} (st .pre .1 .1 .3) (rw (l-source-bits .source-bits .ensures) (st .pre .1 .1 .4)))
+    let u = c .before in
+    let s = entry (bits (u .before)) in
+    omega (arith, s .pre .0, s .pre .1 .0 .1 (used u), first (u .before) .extract-lane .ensures .sized, fits (bits (u .before)))
 
 saturating-lane-requires : tie.Need-saturating-lane-requires
 saturating-lane-requires c κs =
-    let l-extract-lane2 = c .before .before .before in
-    let l-extract-lane = l-extract-lane2 .before .before .before .before .before .before in
-    let st = l-extract-lane .before .before .before .before in
-    (omega (arith, st .pre, l-extract-lane .extract-lane .ensures .sized, l-extract-lane2 .extract-lane2 .ensures .sized), (omega (arith, l-extract-lane .extract-lane .ensures .sized, l-extract-lane2 .extract-lane2 .ensures .sized), omega (arith, l-extract-lane2 .extract-lane2 .ensures .sized), st .pre .1 .1 .0, st .pre .1 .1 .2))
+    let b = c .before .before .before in
+    let a = b .before .before .before .before .before .before in
+    let s = entry (a .before .before) in (
+      omega (arith, s .pre .0, a .extract-lane .ensures .sized, b .extract-lane2 .ensures .sized),
+      (
+        omega (arith, a .extract-lane .ensures .sized, b .extract-lane2 .ensures .sized),
+        b .extract-lane2 .ensures .sized .under,
+        s .pre .1 .1 .0,
+        s .pre .1 .1 .2,
+      ),
+    )
 
 same-length : tie.Need-same-length
 same-length c = search needs
 
 returns : tie.Need-returns
 returns c =
-    let l-saturating-lane = c .before .before in
-    let l-extract-lane2 = l-saturating-lane .before .before .before .before in
-    let l-if1 = l-extract-lane2 .before .before in
-    let l-uses-second = l-if1 .before in
-    let l-extract-lane = l-uses-second .before .before .before in
-    let l-source-bits = l-extract-lane .before .before in
-    let st = l-source-bits .before .before in
-    at-two (st .args .kind) (st .args .signed) (st .pre .1 .1 .3) (l-source-bits .source-bits .ensures) (sym (l-uses-second .uses-second .ensures) ∙ l-if1 .if1 .taken) (l-extract-lane .extract-lane .ensures) (l-extract-lane2 .extract-lane2 .ensures) (l-saturating-lane .saturating-lane .ensures)
+    let l = c .before .before in
+    let b = l .before .before .before .before in
+    let u = b .before .before in
+    let k = bits (u .before) in
+    let s = entry k in
+    at-two (s .args .kind) (s .args .signed) (s .pre .1 .1 .3) (k .source-bits .ensures) (used u) (first (u .before) .extract-lane .ensures)
+    (b .extract-lane2 .ensures) (l .saturating-lane .ensures)
+
+-- ---- one
 
 saturating-lane-requires-2 : tie.Need-saturating-lane-requires-2
 saturating-lane-requires-2 c κs =
-    let l-extract-lane = c .before .before .before .before .before in
-    let st = l-extract-lane .before .before .before .before in
-    (omega (arith, st .pre, l-extract-lane .extract-lane .ensures .sized), (omega (arith, l-extract-lane .extract-lane .ensures .sized), omega (arith, l-extract-lane .extract-lane .ensures .sized), st .pre .1 .1 .0, st .pre .1 .1 .2))
+    let a = c .before .before .before .before .before in
+    let s = entry (a .before .before) in
+    let under = a .extract-lane .ensures .sized .under in
+    (omega (arith, s .pre .0, a .extract-lane .ensures .sized), (under, under, s .pre .1 .1 .0, s .pre .1 .1 .2))
 
 same-length-2 : tie.Need-same-length-2
 same-length-2 c = search needs
 
 returns-2 : tie.Need-returns-2
 returns-2 c =
-    let l-saturating-lane2 = c .before .before in
-    let l-if1 = l-saturating-lane2 .before .before in
-    let l-uses-second = l-if1 .before in
-    let l-extract-lane = l-uses-second .before .before .before in
-    let l-source-bits = l-extract-lane .before .before in
-    let st = l-source-bits .before .before in
-    at-one (st .args .kind) (st .args .signed) (st .pre .1 .1 .3) (l-source-bits .source-bits .ensures) (sym (l-uses-second .uses-second .ensures) ∙ l-if1 .if1 .left) (l-extract-lane .extract-lane .ensures) (l-saturating-lane2 .saturating-lane2 .ensures)
+    let l = c .before .before in
+    let e = l .before .before in
+    let u = e .before in
+    let s = entry (bits u) in
+    at-one (s .args .kind) (s .args .signed) (s .pre .1 .1 .3) (bits u .source-bits .ensures) (sym (u .uses-second .ensures) ∙ e .if1 .left)
+    (first u .extract-lane .ensures) (l .saturating-lane2 .ensures)
 
 pub saturating-at-spec : {M : Type 1} → statement M
 saturating-at-spec =
