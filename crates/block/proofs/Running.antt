@@ -11,10 +11,10 @@ use borrow.Author.Tests.{le-leb}
 use Rattle.facts.proofs.Numbers.{before-or-from}
 use Rattle.terms.specs.Expr.{Expr, Var}
 use Rattle.neon.specs.declared.Instruction.{Instruction}
-use Rattle.neon.specs.Refusal.{Legal, AllLegal, blockRefusal}
+use Rattle.neon.specs.Refusal.{reserve, Legal, AllLegal, blockRefusal}
 use Rattle.trees.specs.Block.{treeStep, treeRun}
 use Rattle.pool.specs.declared.Built.{Built}
-use Rattle.pool.specs.Node.{Cell, decode, kindAt, kinds, places}
+use Rattle.pool.specs.Node.{Cell, decode, kindAt, kinds, none, places}
 use Rattle.pool.specs.Rules.{Valid, okPool}
 use Rattle.pool.specs.Growth.{Room, Grown}
 use Rattle.nodes.specs.Builders.{MadeVar}
@@ -143,7 +143,7 @@ first-ok = record { size = refl; below = λ r h. rw (first-is r h) h }
 
 -- ---- the whole
 
-pub all-done : {w0 w1 w2 : List ℕ} {m : RegisterMap} {cs : List Instruction} → 32 + 1024 * length cs ≤ places w0 → Started w0 w1 32 → Runs w1 firstMap w2 m cs
+pub all-done : {w0 w1 w2 : List ℕ} {m : RegisterMap} {cs : List Instruction} → 32 + reserve * length cs ≤ places w0 → Started w0 w1 32 → Runs w1 firstMap w2 m cs
     → Accepted w0 cs w2 m
 all-done {w0} {w1} {w2} {m} {cs} l s r =
     let d = r .made (s .valid) (start-is s) in
@@ -159,17 +159,16 @@ all-done {w0} {w1} {w2} {m} {cs} l s r =
 
 -- what an accepted block of flat records has
 pub record Fits (ws flat : List ℕ) : Type 0 where
-  pub words : 4 * (32 + 1024 * (length flat / 6)) ≤ length ws
-  pub numbers : 32 + 1024 * (length flat / 6) ≤ 65535
-  pub placed : 32 + 1024 * length (recordsOf flat) ≤ places ws
+  pub room : Room ws 0 (32 + reserve * (length flat / 6))
+  pub placed : 32 + reserve * length (recordsOf flat) ≤ places ws
   pub legal : AllLegal (recordsOf flat)
 
 pub fits : (ws flat : List ℕ) {n : ℕ} → n ≡ blockRefusal (places ws) (recordsOf flat) .number → n ≤ 0 → Fits ws flat
 fits ws flat e h =
     let b = block-legal (places ws) (recordsOf flat) (omega (arith, e, h)) in
     let n = from-length flat 0 (length flat / 6) in
-    let l : 32 + 1024 * (length flat / 6) ≤ places ws = rw n at (b .1) in
-    record { words = omega (arith, l, min-le-left (length ws / 4) 65535); numbers = omega (arith, l, min-le-right (length ws / 4) 65535); placed = b .1; legal = b .2 }
+    let l : 32 + reserve * (length flat / 6) ≤ places ws = rw n at (b .1) in
+    record { room = omega (arith, l, min-le-left (length ws / 4) none, min-le-right (length ws / 4) none); placed = b .1; legal = b .2 }
 
 -- a run from the map of the start
 pub runs-first : {w0 w1 : List ℕ} {m m′ : RegisterMap} {cs : List Instruction} → m ≡ firstMap → Runs w0 m w1 m′ cs → Runs w0 firstMap w1 m′ cs

@@ -9,7 +9,7 @@ use lib.ListN.{length, getD, take}
 use lib.Seq.{take-suc, take-all, length-take-le}
 use Rattle.neon.specs.declared.Instruction.{Instruction}
 use Rattle.neon.specs.Refusal.{reserve, Legal, AllLegal, blockRefusal}
-use Rattle.pool.specs.Node.{places, placesIn}
+use Rattle.pool.specs.Node.{none as noNode, places, placesIn}
 use Rattle.pool.specs.Growth.{Room}
 use Rattle.register_map.specs.declared.RegisterMap.{RegisterMap}
 use Rattle.register_map.specs.Map.{firstMap, noMap}
@@ -49,7 +49,7 @@ module _ (w0 : List ℕ) (m0 : RegisterMap) (cs : List Instruction) where
   ran-ok k {w} {m} room legal l r =
       let n : length (take k cs) ≡ k = length-take-le k cs (omega arith) in
       let most : m .count + reserve ≤ m0 .count + reserve * length cs = omega (arith, r .most, n, l) in
-      (record { words = omega (arith, most, room .words, r .long); numbers = omega (arith, most, room .numbers) }, r .map-ok, legal-in cs legal k l)
+      (omega (arith, most, room, r .long), r .map-ok, legal-in cs legal k l)
 
 -- ---- the whole
 
@@ -61,13 +61,13 @@ module _ (w0 : List ℕ) (cs : List Instruction) (r : Refused) (e : Refuses r (b
   pub start-room : r .number ≤ 0 → Room w0 0 32
   start-room h =
       let b = block-legal (places w0) cs (omega (arith, e .0, h)) in
-      record { words = omega (arith, b .1, min-le-left (length w0 / 4) 65535); numbers = omega (arith, b .1, min-le-right (length w0 / 4) 65535) }
+      omega (arith, b .1, min-le-left (length w0 / 4) noNode, min-le-right (length w0 / 4) noNode)
 
   pub run-ok : r .number ≤ 0 → {w1 : List ℕ} {m1 : RegisterMap} → Started w0 w1 32 → m1 ≡ firstMap → Room w1 (m1 .count) (reserve * length cs) × MapOk m1 × AllLegal cs
   run-ok h {w1} {m1} s q =
       let b = block-legal (places w0) cs (omega (arith, e .0, h)) in
       let n : m1 .count ≡ 32 = ap (λ (m : RegisterMap). m .count) q in
-      (record { words = omega (arith, b .1, n, s .grown .long, min-le-left (length w0 / 4) 65535); numbers = omega (arith, b .1, n, min-le-right (length w0 / 4) 65535) }, rw q first-ok, b .2)
+      (omega (arith, b .1, n, s .grown .long, min-le-left (length w0 / 4) noNode, min-le-right (length w0 / 4) noNode), rw q first-ok, b .2)
 
   pub all-accepted : r .number ≤ 0 → {w1 w2 : List ℕ} {m1 m2 : RegisterMap} → Started w0 w1 32 → m1 ≡ firstMap → Runs w1 m1 w2 m2 cs → Answered w0 cs w2 (answer r m2)
   all-accepted h s q t =

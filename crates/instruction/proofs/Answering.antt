@@ -10,7 +10,7 @@ use borrow.Author.Tests.{le-leb}
 use Rattle.facts.proofs.Tests.{and-both}
 use Rattle.neon.specs.Op.{Op, Arrangement, opAt, arrangementAt, view}
 use Rattle.neon.specs.Form.{hasSecond, readsD, firstBits, secondBits}
-use Rattle.neon.specs.Refusal.{formNumber}
+use Rattle.neon.specs.Refusal.{reserve, formNumber}
 use Rattle.trees.specs.Neon.{resultTree}
 use Rattle.pool.specs.declared.Node.{Node}
 use Rattle.pool.specs.declared.Built.{Built}
@@ -53,7 +53,7 @@ module _ (ws : List ℕ) (count operation arrangement i : ℕ) (d n m : Node) (h
   m-is e = source-is ws count (hasSecond o) (secondBits o v) (m .0) (and-both (d-ok && n-ok) m-ok (p .sources-ok) .1) e
 
   room : Room ws count mostNodes
-  room = record { words = omega (arith, p .room); numbers = omega (arith, p .room) }
+  room = omega (arith, p .room)
 
   -- what the lowering of a form asks
   pub asked : Room ws count mostNodes × ((formNumber operation arrangement i 0 ≡ 0)
@@ -64,7 +64,7 @@ module _ (ws : List ℕ) (count operation arrangement i : ℕ) (d n m : Node) (h
   node-is x w q = record { under = q .0; wide = q .1; tree = refl }
 
   -- a pool that grew within its places passes the check
-  checked : (new : List ℕ) (k : ℕ) → length new ≡ length ws → k ≤ count + 1024 → okPool new k ≡ true → poolOk new k ≡ true
+  checked : (new : List ℕ) (k : ℕ) → length new ≡ length ws → k ≤ count + reserve → okPool new k ≡ true → poolOk new k ≡ true
   checked new k e l q =
       let same : places new ≡ places ws = ap placesIn e in
       rw (le-leb k (places new) (omega (arith, same, p .room, l)), q) refl
@@ -76,7 +76,7 @@ module _ (ws : List ℕ) (count operation arrangement i : ℕ) (d n m : Node) (h
   lowered {new} {r} e =
       let valid = and-both (leb count (places ws)) (okPool ws count) (p .pool-ok) .1 in
       let made = e .made valid (λ u. node-is (d .0) (view v) (d-is u)) (λ u. node-is (n .0) (firstBits o v) n-is) (λ u. node-is (m .0) (secondBits o v) (m-is u)) in
-      let most : r .count ≤ count + 1024 = omega (arith, e .sized) in
+      let most : r .count ≤ count + reserve = omega (arith, e .sized) in
       record {
         number = sym h;
         done = λ z.
