@@ -93,7 +93,7 @@ pub fn mixed_sign_add_lanes(
             lanes,
             Lane(i),
         );
-        acc = nodes::concat(pool, lane.count, lane.node, acc.node);
+        acc = simd::concat_lanes(pool, lane.count, lane.node, acc.node);
         i += 1;
     }
     acc

@@ -50,7 +50,7 @@ pub fn bitwise_unary_lanes(
     let mut i = 1;
     while i < lanes {
         let lane = bitwise_at(pool, acc.count, op, first, lane_bits, lanes, Lane(i));
-        acc = nodes::concat(pool, lane.count, lane.node, acc.node);
+        acc = simd::concat_lanes(pool, lane.count, lane.node, acc.node);
         i += 1;
     }
     acc

@@ -105,7 +105,7 @@ pub fn reverse_bits(pool: &mut [u64], count: usize, value: Node, lane_bits: u64)
     while i < lane_bits {
         let at = top - i;
         let bit = nodes::extract(pool, acc.count, value, Bit(at), Bit(at));
-        acc = nodes::concat(pool, bit.count, bit.node, acc.node);
+        acc = simd::concat_lanes(pool, bit.count, bit.node, acc.node);
         i += 1;
     }
     acc

@@ -1,4 +1,4 @@
-// The Rust's lift/simd.rs: cuts of lanes.
+// The Rust's lift/simd.rs: cuts of lanes, and their concatenation.
 use neon::Lane;
 use pool::Bit;
 use pool::Built;
@@ -7,6 +7,7 @@ ghost use mathlib.Core.Path.{_≡_};
 ghost use Prim.Native.Nat.{_+_, _*_, _≤_, _<_};
 ghost use lib.ListN.{length};
 ghost use Rattle.pool.specs.Growth.{Room};
+ghost use Rattle.nodes.specs.Builders.{MadeConcat};
 ghost use Rattle.simd.specs.Cut.{cutFrom, MadeCut, MadeLane};
 
 // The node that a cut of `value` up to the bit hi is taken from.
@@ -41,4 +42,13 @@ pub fn extract_lane(pool: &mut [u64], count: usize, value: Node, bits: u64, inde
 {
     let lo = bits * index.0;
     extract_collapsing(pool, count, value, Bit(lo + bits - 1), Bit(lo))
+}
+
+// One turn of the Rust's loop over a Vec of lanes: `lane` is put above the lanes so far.
+pub fn concat_lanes(pool: &mut [u64], count: usize, lane: Node, acc: Node) -> Built
+    requires { ⌜ Room (now pool) count 1 ⌝ }
+    requires { ⌜ (lane .0 < count) × (acc .0 < count) ⌝ }
+    ensures { λ r. ⌜ MadeConcat (now (pool .entry)) count (now (pool .exit)) r lane acc ⌝ }
+{
+    nodes::concat(pool, count, lane, acc)
 }

@@ -48,8 +48,8 @@ extract-requires-2 c κs =
     let s = so-far (t .before) .sized in
     (room-lane (p .0) (omega arith) (t .loop-test .taken) s, (lt-of-lt-of-le (p .1 .0) (s .more), omega arith, omega (arith, p .1)))
 
-concat-requires : tie.Need-concat-requires Inv-loop μ-loop
-concat-requires c κs =
+concat-lanes-requires : tie.Need-concat-lanes-requires Inv-loop μ-loop
+concat-lanes-requires c κs =
     let l = c .before .before .before in
     let t = l .before .before in
     let s = so-far (t .before) .sized in
@@ -76,7 +76,7 @@ loop-again c =
       omega (arith, t .loop-test .taken),
       λ old d.
           lanes-more _ (omega arith) (s .inv .0) (t .loop-test .taken) (omega (arith, e .pre .1 .2)) (omega arith) (s .inv .2 old d)
-          (reversed-bit (e .args .lane-bits) (s .i) (t .loop-test .taken) (omega arith) (l .extract2 .ensures)) (j .concat .ensures),
+          (reversed-bit (e .args .lane-bits) (s .i) (t .loop-test .taken) (omega arith) (l .extract2 .ensures)) (j .concat-lanes .ensures),
     )
 
 same-length : tie.Need-same-length Inv-loop μ-loop
@@ -96,7 +96,7 @@ reverse-bits-spec =
     loop-holds
     sub-at
     extract-requires-2
-    concat-requires
+    concat-lanes-requires
     add-i
     loop-less
     loop-again
