@@ -35,16 +35,15 @@ returns-2 c =
     let f8 = f12 .before in
     let f4 = f8 .before in
     let f0 = f4 .before in
-    sym
-    (rw (
+    rw (
       eq-eqb _ _ (f0 .before .if1 .left),
-      ← f0 .is-field .ensures,
-      ← f4 .is-field2 .ensures,
-      ← f8 .is-field3 .ensures,
-      ← f12 .is-field4 .ensures,
-      ← f16 .is-field5 .ensures,
-      ← c .is-field6 .ensures,
-    ))
+      f0 .is-field .ensures,
+      f4 .is-field2 .ensures,
+      f8 .is-field3 .ensures,
+      f12 .is-field4 .ensures,
+      f16 .is-field5 .ensures,
+      c .is-field6 .ensures,
+    )
 
 pub in-columns-spec : {M : Type 1} → statement M
 in-columns-spec =

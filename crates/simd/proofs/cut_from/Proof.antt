@@ -1,4 +1,7 @@
 use native.Mathlib.Nat.{le-refl}
+use mathlib.Core.Path.{_≡_}
+use mathlib.Core.Bool.{true}
+use Rattle.simd.specs.Cut.{joinsAt}
 use Rattle.simd.proofs.Cutting.{joined-below}
 use borrow.Author.Needs.{needs}
 use Rattle.simd.proofs.cut_from.Statement.{statement}
@@ -43,7 +46,10 @@ shared-slice-read-if1 c = search needs
 returns : tie.Need-returns
 returns c =
     let a = c .before .before .before .before .before .before .before .before .args in
-    (rw (c .if1 .taken), joined-below (a .pool .now) (a .value .0) (a .hi .0) (c .if1 .taken))
+    let joined : joinsAt (a .pool .now) (a .value .0) (a .hi .0) ≡ true = c .if1 .taken in (
+      rw joined,
+      joined-below (a .pool .now) (a .value .0) (a .hi .0) joined,
+    )
 
 returns-2 : tie.Need-returns-2
 returns-2 c = (rw (c .if1 .left), le-refl _)
