@@ -5,18 +5,21 @@ use digits::less_hex;
 use node_fields::first;
 use node_fields::high;
 use node_fields::kind_of;
+use node_fields::left;
 use node_fields::low;
-use node_fields::second;
-use node_fields::third;
+use node_fields::right;
 use node_fields::width_of;
 use pool::Node;
 use pool_check::pool_check;
 use text_operators::operator_length;
+use text_parts::is_single;
 ghost use mathlib.Core.Path.{_≡_};
-ghost use mathlib.Core.Bool.{true};
+ghost use mathlib.Core.Bool.{true, cond};
 ghost use Prim.Native.Nat.{_+_, _-_, _<_};
+ghost use lib.Dec.{eqb};
 ghost use lib.ListN.{length};
 ghost use Rattle.node_fields.specs.Fields.{kindNumber};
+ghost use Rattle.text_operators.specs.Between.{Joined, betweenText};
 ghost use Rattle.text_parts.specs.Text.{text, Ready, openText, endText, single};
 ghost use Rattle.text_length.specs.Answer.{Measured};
 
@@ -45,34 +48,48 @@ fn less_single(p: &[u64], n: Node, k: u64, b: usize) -> usize
     less(b, decimal_length(width_of(p, n)) + 8)
 }
 
+// How many characters of its own a node with two operands has, or an Ite.
+fn own_length(k: u64) -> usize
+    requires { ⌜ Joined k ⌝ }
+    ensures { λ r. ⌜ r ≡ length (openText k) + cond (eqb k 15) 2 0 + length (betweenText k) + 1 ⌝ }
+{
+    if k < 15 {
+        return operator_length(k) + 2;
+    }
+    if k == 15 { 9 } else { 10 }
+}
+
 // What is left of b when the length of a node's text is taken off it, and 0 where the text is longer. Its own characters
-// are taken off before its operands', so a text of any length is given up once b is used up.
-pub fn measure(p: &[u64], n: Node, b: usize) -> usize
-    requires { ⌜ Ready (now p) (n .0) ⌝ }
-    ensures { λ r. ⌜ r ≡ b - length (text (now (p .entry)) (n .0)) ⌝ }
+// are taken off before its operands', so a text of any length is given up once b is used up. The pool is behind a second
+// reference, as in `write_term`.
+fn less_node(p: &&[u64], n: Node, b: usize) -> usize
+    requires { ⌜ Ready (now (now p)) (n .0) ⌝ }
+    ensures { λ r. ⌜ r ≡ b - length (text (now (now (p .entry))) (n .0)) ⌝ }
 {
     if b == 0 {
         return 0;
     }
-    let k = kind_of(p, n);
+    let k = kind_of(*p, n);
     if k < 3 {
-        return less_leaf(p, n, k, b);
+        return less_leaf(*p, n, k, b);
     }
-    let a = first(p, n);
-    if k < 15 {
-        let c = measure(p, a, less(b, operator_length(k) + 2));
-        return measure(p, second(p, n), c);
+    if is_single(k) {
+        return less_node(p, first(*p, n), less_single(*p, n, k, b));
     }
+    let mut c = less(b, own_length(k));
     if k == 15 {
-        let c = measure(p, a, less(b, 9));
-        let d = measure(p, second(p, n), c);
-        return measure(p, third(p, n), d);
+        c = less_node(p, first(*p, n), c);
     }
-    if k == 17 {
-        let c = measure(p, a, less(b, 10));
-        return measure(p, second(p, n), c);
-    }
-    measure(p, a, less_single(p, n, k, b))
+    let d = less_node(p, left(*p, n), c);
+    less_node(p, right(*p, n), d)
+}
+
+// The same, of a pool at hand.
+pub fn measure(p: &[u64], n: Node, b: usize) -> usize
+    requires { ⌜ Ready (now p) (n .0) ⌝ }
+    ensures { λ r. ⌜ r ≡ b - length (text (now (p .entry)) (n .0)) ⌝ }
+{
+    less_node(&p, n, b)
 }
 
 // A number of document 01, and the text's length.

@@ -14,7 +14,7 @@ use Rattle.text_parts.proofs.Operands.{Pair, pair-a, pair-b}
 use Rattle.text_parts.proofs.Tree.{a-compare, whole-compare}
 use Rattle.text_terms.specs.Behind.{WroteBehind}
 use Rattle.text_terms.proofs.Behind.{behind-one, behind-then, behind-more, behind-as}
-use Rattle.text_terms.proofs.Pieces.{pair-joined}
+use Rattle.text_parts.proofs.Pieces.{pair-joined}
 use Rattle.text_terms.proofs.write_condition.Reads as write-condition
 use Rattle.text_terms.proofs.+write_condition+write_term.Lts-write_condition as write-condition-lts
 use Rattle.text_terms.proofs.+write_condition+write_term.Proof.Writers.{write-condition-at, write-condition-claims}

@@ -15,7 +15,7 @@ use Rattle.text_parts.specs.Text.{text, endText, single}
 use Rattle.text_parts.proofs.Operands.{to-nineteen, ite-a}
 use Rattle.text_terms.specs.Behind.{WroteBehind}
 use Rattle.text_terms.proofs.Behind.{behind-one, behind-then, behind-more, behind-as, behind-at}
-use Rattle.text_terms.proofs.Pieces.{front, rest, front-choice, front-other, room-open, whole, left-term, right-term, a-joined}
+use Rattle.text_parts.proofs.Pieces.{front, rest, front-choice, front-other, room-open, whole, left-term, right-term, a-joined}
 use Rattle.text_terms.proofs.write_term.Reads as write-term
 use Rattle.text_terms.proofs.+write_condition+write_term.Lts-write_term as write-term-lts
 use Rattle.text_terms.proofs.+write_condition+write_term.Proof.Writers.{write-term-at, write-term-claims}

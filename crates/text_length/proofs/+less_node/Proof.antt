@@ -1,0 +1,224 @@
+use mathlib.Core.Bool.{true, false}
+use mathlib.Core.List.{List}
+use mathlib.Core.Logic.{⊎-elim}
+use mathlib.Core.Path.{_≡_, sym, _∙_}
+use Prim.Native.Nat.{ℕ, _-_, _<_}
+use native.Mathlib.Omega.{arith}
+use borrow.Author.Needs.{needs}
+use borrow.Author.Tests.{eq-eqb, ne-eqb}
+use borrow.Fn.Kinds.{In}
+use borrow.Fn.PlainCycle.{Measures, is, falls, and}
+use Rattle.text_parts.specs.Text.{single}
+use Rattle.text_parts.proofs.Operands.{is-single, ite-a, single-a}
+use Rattle.text_parts.proofs.Pieces.{left-term, right-term, a-joined}
+use Rattle.text_length.proofs.Sizes.{before, less-one, less-two}
+use Rattle.text_length.proofs.less_node.Reads as less-node
+use Rattle.text_length.proofs.less_node.Kinds as less-node-kinds
+use Rattle.text_length.proofs.+less_node.Lts-less_node as less-node-lts
+use Rattle.digits.proofs.less.Reads as less-reads
+use Rattle.node_fields.proofs.first.Reads as first-reads
+use Rattle.node_fields.proofs.kind_of.Reads as kind-of-reads
+use Rattle.node_fields.proofs.left.Reads as left-reads
+use Rattle.node_fields.proofs.right.Reads as right-reads
+use Rattle.text_length.proofs.less_leaf.Reads as less-leaf-reads
+use Rattle.text_length.proofs.less_single.Reads as less-single-reads
+use Rattle.text_length.proofs.own_length.Reads as own-length-reads
+use Rattle.text_parts.proofs.is_single.Reads as is-single-reads
+use Rattle.text_length.proofs.+less_node.{statement}
+use Rattle.text_length.proofs.+less_node.Tie.{close}
+
+-- the node number falls at every call
+abbrev μ-less-node : Measures 2 less-node-kinds.ps ℕ
+μ-less-node κs a = a .1 .0 .0
+
+abbrev less-node-at : ℕ → In 2 less-node-kinds.ps
+less-node-at t = and 2 less-node-kinds.ps (is 2 less-node-kinds.ps μ-less-node t) less-node.Pre
+
+abbrev less-node-below : ℕ → In 2 less-node-kinds.ps
+less-node-below t =
+    and 2 less-node-kinds.ps (falls 2 less-node-kinds.ps _<_ μ-less-node t) less-node.Pre
+
+-- what the functions that `less_node` calls ask and ensure
+abbrev claims : ℕ → less-node-lts.Claims
+claims t = (kind-of-reads.Asked, kind-of-reads.Learnt, less-leaf-reads.Asked, less-leaf-reads.Learnt, is-single-reads.Asked, is-single-reads.Learnt, first-reads.Asked, first-reads.Learnt, less-single-reads.Asked, less-single-reads.Learnt, less-node-below t, less-node.Post, own-length-reads.Asked, own-length-reads.Learnt, less-reads.Asked, less-reads.Learnt, left-reads.Asked, left-reads.Learnt, right-reads.Asked, right-reads.Learnt)
+
+module _ (t : ℕ) where
+  abbrev Start : Type 0
+  Start = less-node-lts.Start (claims t) (less-node-at t) less-node.Post
+
+  abbrev pool : Start → List ℕ
+  pool s = s .args .p .now .now
+
+  abbrev node : Start → ℕ
+  node s = s .args .n .0
+
+  -- the kind is read
+  abbrev Read : Type 0
+  Read = less-node-lts.After-kind-of (claims t) (less-node-at t) less-node.Post
+
+  abbrev start : Read → Start
+  start c = c .before .before .before
+
+  abbrev kind : Read → ℕ
+  kind c = c .kind-of .result
+
+  -- a kind with one operand
+  abbrev One : Type 0
+  One = less-node-lts.Then3 (claims t) (less-node-at t) less-node.Post
+
+  abbrev read-one : One → Read
+  read-one c = c .before .before .before
+
+  one-is : (c : One) → single (kind (read-one c)) ≡ true
+  one-is c = sym (c .before .is-single .ensures) ∙ c .if3 .taken
+
+  -- a kind with two, or an Ite
+  abbrev Two : Type 0
+  Two = less-node-lts.Else3 (claims t) (less-node-at t) less-node.Post
+
+  abbrev read-two : Two → Read
+  read-two c = c .before .before .before
+
+  two-is : (c : Two) → single (kind (read-two c)) ≡ false
+  two-is c = sym (c .before .is-single .ensures) ∙ c .if3 .left
+
+  -- its own characters are taken off
+  abbrev Own : Type 0
+  Own = less-node-lts.After-less (claims t) (less-node-at t) less-node.Post
+
+  abbrev two : Own → Two
+  two c = c .before .before
+
+  -- and the condition of an Ite
+  abbrev Conditioned : Type 0
+  Conditioned = less-node-lts.Joined4 (claims t) (less-node-at t) less-node.Post
+
+  condition-less : (c : Conditioned) → let r = read-two (two (c .before)) in
+      let s = start r in c .if4 .c ≡ c .before .less .result - before (pool s) (node s) (s .pre .1) (kind r) (r .kind-of .ensures)
+  condition-less c =
+      ⊎-elim (λ w. rw (eq-eqb _ 15 (w .0 .taken)) (w .4 ∙ (rw (w .2 .ensures) at (w .3 .ensures))))
+      (λ w. rw (ne-eqb _ 15 (w .0 .left)) (omega (arith, w .1)))
+      (c .if4 .came)
+
+  -- ---- the needs
+
+  returns : less-node-lts.Need-returns (claims t) (less-node-at t) less-node.Post
+  returns c = omega arith
+
+  kind-of-requires : less-node-lts.Need-kind-of-requires (claims t) (less-node-at t) less-node.Post
+  kind-of-requires c κs = c .before .before .pre .1 .inside
+
+  less-leaf-requires : less-node-lts.Need-less-leaf-requires (claims t) (less-node-at t) less-node.Post
+  less-leaf-requires c κs = let l = c .before in (start (l .before) .pre .1, l .before .kind-of .ensures, l .if2 .taken)
+
+  returns-2 : less-node-lts.Need-returns-2 (claims t) (less-node-at t) less-node.Post
+  returns-2 c = c .less-leaf .ensures
+
+  is-single-requires : less-node-lts.Need-is-single-requires (claims t) (less-node-at t) less-node.Post
+  is-single-requires c κs = search needs
+
+  first-requires : less-node-lts.Need-first-requires (claims t) (less-node-at t) less-node.Post
+  first-requires c κs = start (read-one (c .before)) .pre .1 .inside
+
+  less-single-requires : less-node-lts.Need-less-single-requires (claims t) (less-node-at t) less-node.Post
+  less-single-requires c κs =
+      let o = c .before .before .before in
+      let r = read-one o in
+      (start r .pre .1, r .kind-of .ensures, one-is o)
+
+  less-node-requires : less-node-lts.Need-less-node-requires (claims t) (less-node-at t) less-node.Post
+  less-node-requires c κs =
+      let f = c .before .before in
+      let o = f .before .before in
+      let r = read-one o in
+      let s = start r in
+      let d = single-a (pool s) (node s) (s .pre .1) _ (r .kind-of .ensures) (is-single _ (one-is o)) in
+      rw (f .first .ensures) (omega (arith, s .pre .0, d .before), d .ready)
+
+  returns-3 : less-node-lts.Need-returns-3 (claims t) (less-node-at t) less-node.Post
+  returns-3 c =
+      let l = c .before in
+      let f = l .before .before in
+      let o = f .before .before in
+      let r = read-one o in
+      let s = start r in
+      less-one (pool s) (node s) (s .pre .1) _ (r .kind-of .ensures) (s .args .b) (is-single _ (one-is o)) (l .less-single .ensures) (rw (f .first .ensures) at (c .less-node .ensures))
+
+  own-length-requires : less-node-lts.Need-own-length-requires (claims t) (less-node-at t) less-node.Post
+  own-length-requires c κs =
+      let r = read-two c in
+      let s = start r in
+      a-joined (pool s) (node s) (s .pre .1) _ (r .kind-of .ensures) (c .before .before .if2 .left) (two-is c)
+
+  less-requires : less-node-lts.Need-less-requires (claims t) (less-node-at t) less-node.Post
+  less-requires c κs = search needs
+
+  first-requires-2 : less-node-lts.Need-first-requires-2 (claims t) (less-node-at t) less-node.Post
+  first-requires-2 c κs = start (read-two (two (c .before .before))) .pre .1 .inside
+
+  less-node-requires-2 : less-node-lts.Need-less-node-requires-2 (claims t) (less-node-at t) less-node.Post
+  less-node-requires-2 c κs =
+      let q = c .before .before in
+      let r = read-two (two (q .before)) in
+      let s = start r in
+      let d = ite-a (pool s) (node s) (s .pre .1) _ (r .kind-of .ensures) (q .if4 .taken) in
+      rw (c .first2 .ensures) (omega (arith, s .pre .0, d .before), d .ready)
+
+  left-requires : less-node-lts.Need-left-requires (claims t) (less-node-at t) less-node.Post
+  left-requires c κs = start (read-two (two (c .before .before))) .pre .1 .inside
+
+  less-node-requires-3 : less-node-lts.Need-less-node-requires-3 (claims t) (less-node-at t) less-node.Post
+  less-node-requires-3 c κs =
+      let w = two (c .before .before .before) in
+      let r = read-two w in
+      let s = start r in
+      let d = left-term (pool s) (node s) (s .pre .1) _ (r .kind-of .ensures) (w .before .before .if2 .left) in
+      rw (c .left .ensures) (omega (arith, s .pre .0, d .before), d .ready)
+
+  right-requires : less-node-lts.Need-right-requires (claims t) (less-node-at t) less-node.Post
+  right-requires c κs = start (read-two (two (c .before .before .before .before .before))) .pre .1 .inside
+
+  less-node-requires-4 : less-node-lts.Need-less-node-requires-4 (claims t) (less-node-at t) less-node.Post
+  less-node-requires-4 c κs =
+      let w = two (c .before .before .before .before .before .before) in
+      let r = read-two w in
+      let s = start r in
+      let d = right-term (pool s) (node s) (s .pre .1) _ (r .kind-of .ensures) (w .before .before .if2 .left) (two-is w) in
+      rw (c .right .ensures) (omega (arith, s .pre .0, d .before), d .ready)
+
+  returns-4 : less-node-lts.Need-returns-4 (claims t) (less-node-at t) less-node.Post
+  returns-4 c =
+      let g = c .before in
+      let l = g .before .before in
+      let f = l .before in
+      let q = f .before .before in
+      let o = q .before in
+      let w = two o in
+      let r = read-two w in
+      let s = start r in
+      less-two (pool s) (node s) (s .pre .1) _ (r .kind-of .ensures) (s .args .b) (w .before .before .if2 .left) (two-is w)
+      (rw (o .before .own-length .ensures) at (o .less .ensures)) (condition-less q) (rw (f .left .ensures) at (l .less-node3 .ensures))
+      (rw (g .right .ensures) at (c .less-node4 .ensures))
+
+pub +less-node-spec : {M : Type 1} → statement M
++less-node-spec =
+    close μ-less-node λ t.
+    less-node-lts.spec (claims t) (less-node-at t) less-node.Post
+    (returns t)
+    (kind-of-requires t)
+    (less-leaf-requires t)
+    (returns-2 t)
+    (is-single-requires t)
+    (first-requires t)
+    (less-single-requires t)
+    (less-node-requires t)
+    (returns-3 t)
+    (own-length-requires t)
+    (less-requires t)
+    (first-requires-2 t)
+    (less-node-requires-2 t)
+    (left-requires t)
+    (less-node-requires-3 t)
+    (right-requires t)
+    (less-node-requires-4 t)
+    (returns-4 t)
