@@ -53,13 +53,17 @@ pub fn put_open(k: u64, buf: &mut [u8], at: usize) -> usize
     requires { ⌜ (3 ≤ k) × (k < 20) × Room (now buf) at (openText k) ⌝ }
     ensures { λ r. ⌜ Wrote (now (buf .entry)) at (openText k) r (now (buf .exit)) ⌝ }
 {
+    if k < 15 {
+        return put(b"(", buf, at);
+    }
+    if k == 16 {
+        return at;
+    }
     match k {
         15 => put(b"ite(", buf, at),
-        16 => at,
         17 => put(b"concat(", buf, at),
         18 => put(b"zext(", buf, at),
-        19 => put(b"sext(", buf, at),
-        _ => put(b"(", buf, at),
+        _ => put(b"sext(", buf, at),
     }
 }
 
