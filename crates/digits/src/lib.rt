@@ -49,10 +49,8 @@ pub fn decimal_length(x: u64) -> usize
     requires { ⌜ x < 1000 ⌝ }
     ensures { λ r. ⌜ (r ≡ length (decimal x)) × (r ≤ 3) ⌝ }
 {
-    if x < 10 {
-        return 1;
-    }
-    if x < 100 { 2 } else { 3 }
+    let two = if x < 10 { 1 } else { 2 };
+    if x < 100 { two } else { two + 1 }
 }
 
 // Decimal digits. Two are written without a call: most numbers have no more.
