@@ -13,13 +13,21 @@ pub fn less(x: usize, y: usize) -> usize
     if x < y { 0 } else { x - y }
 }
 
+// The character of a digit below 10.
+fn decimal_digit(d: u64) -> u8
+    requires { ⌜ d < 10 ⌝ }
+    ensures { λ r. ⌜ r ≡ digit d ⌝ }
+{
+    (48 + d) as u8
+}
+
 // The character of a digit below 16.
-fn digit_of(d: u64) -> u8
+fn hex_digit(d: u64) -> u8
     requires { ⌜ d < 16 ⌝ }
     ensures { λ r. ⌜ r ≡ digit d ⌝ }
 {
     if d < 10 {
-        (48 + d) as u8
+        decimal_digit(d)
     } else {
         (87 + d) as u8
     }
@@ -59,17 +67,17 @@ pub fn put_decimal(x: u64, buf: &mut [u8], at: usize) -> usize
     ensures { λ r. ⌜ Wrote (now (buf .entry)) at (decimal x) r (now (buf .exit)) ⌝ }
 {
     if x < 10 {
-        buf[at] = digit_of(x);
+        buf[at] = decimal_digit(x);
         return at + 1;
     }
     let t = tens_of(x);
     if t.tens < 10 {
-        buf[at] = digit_of(t.tens);
-        buf[at + 1] = digit_of(t.ones);
+        buf[at] = decimal_digit(t.tens);
+        buf[at + 1] = decimal_digit(t.ones);
         return at + 2;
     }
     let i = put_decimal(t.tens, buf, at);
-    buf[i] = digit_of(t.ones);
+    buf[i] = decimal_digit(t.ones);
     i + 1
 }
 
@@ -93,7 +101,7 @@ pub fn put_hex(low: u64, high: u64, buf: &mut [u8], at: usize) -> usize
 {
     if high == 0 {
         if low < 16 {
-            buf[at] = digit_of(low);
+            buf[at] = hex_digit(low);
             return at + 1;
         }
     }
@@ -103,7 +111,7 @@ pub fn put_hex(low: u64, high: u64, buf: &mut [u8], at: usize) -> usize
         buf,
         at,
     );
-    buf[i] = digit_of(low % 16);
+    buf[i] = hex_digit(low % 16);
     i + 1
 }
 

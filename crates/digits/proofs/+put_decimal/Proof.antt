@@ -10,7 +10,7 @@ use borrow.Fn.PlainCycle.{Measures, is, falls, and}
 use Rattle.digits.proofs.put_decimal.Reads as put-decimal
 use Rattle.digits.proofs.put_decimal.Kinds as put-decimal-kinds
 use Rattle.digits.proofs.+put_decimal.Lts-put_decimal as put-decimal-lts
-use Rattle.digits.proofs.digit_of.Reads as digit-of-reads
+use Rattle.digits.proofs.decimal_digit.Reads as decimal-digit-reads
 use Rattle.digits.proofs.tens_of.Reads as tens-of-reads
 use Rattle.digits.proofs.+put_decimal.{statement}
 use Rattle.digits.proofs.+put_decimal.Tie.{close}
@@ -29,17 +29,17 @@ put-decimal-below t =
 -- what the functions that `put_decimal` calls ask and ensure
 abbrev put-decimal-claims : ℕ → put-decimal-lts.Claims
 put-decimal-claims t = (
-  digit-of-reads.Asked,
-  digit-of-reads.Learnt,
+  decimal-digit-reads.Asked,
+  decimal-digit-reads.Learnt,
   tens-of-reads.Asked,
   tens-of-reads.Learnt,
   put-decimal-below t,
   put-decimal.Post,
 )
 
-put-decimal-digit-of-requires : (t : ℕ) → put-decimal-lts.Need-digit-of-requires (put-decimal-claims t) (put-decimal-at t) put-decimal.Post
+put-decimal-decimal-digit-requires : (t : ℕ) → put-decimal-lts.Need-decimal-digit-requires (put-decimal-claims t) (put-decimal-at t) put-decimal.Post
 unfolding decimal
-put-decimal-digit-of-requires t c κs = omega arith
+put-decimal-decimal-digit-requires t c κs = omega arith
 
 put-decimal-slice-write-buf : (t : ℕ) → put-decimal-lts.Need-slice-write-buf (put-decimal-claims t) (put-decimal-at t) put-decimal.Post
 unfolding decimal
@@ -62,18 +62,18 @@ put-decimal-same-length t c = simp length-set
 put-decimal-returns : (t : ℕ) → put-decimal-lts.Need-returns (put-decimal-claims t) (put-decimal-at t) put-decimal.Post
 unfolding decimal
 put-decimal-returns t c =
-    let l-digit-of = c in
-    let l-if1 = l-digit-of .before in
+    let l-decimal-digit = c in
+    let l-if1 = l-decimal-digit .before in
     let st = l-if1 .before .before in
-    wrote-one 10 (st .args .buf .now) (st .args .at) (st .args .x) (l-digit-of .digit-of .result) (l-if1 .if1 .taken) (l-digit-of .digit-of .ensures)
+    wrote-one 10 (st .args .buf .now) (st .args .at) (st .args .x) (l-decimal-digit .decimal-digit .result) (l-if1 .if1 .taken) (l-decimal-digit .decimal-digit .ensures)
 
 put-decimal-tens-of-requires : (t : ℕ) → put-decimal-lts.Need-tens-of-requires (put-decimal-claims t) (put-decimal-at t) put-decimal.Post
 unfolding decimal
 put-decimal-tens-of-requires t c κs = search needs
 
-put-decimal-digit-of-requires-2 : (t : ℕ) → put-decimal-lts.Need-digit-of-requires-2 (put-decimal-claims t) (put-decimal-at t) put-decimal.Post
+put-decimal-decimal-digit-requires-2 : (t : ℕ) → put-decimal-lts.Need-decimal-digit-requires-2 (put-decimal-claims t) (put-decimal-at t) put-decimal.Post
 unfolding decimal
-put-decimal-digit-of-requires-2 t c κs =
+put-decimal-decimal-digit-requires-2 t c κs =
     let l-if2 = c in
     omega (arith, l-if2 .if2 .taken)
 
@@ -86,9 +86,9 @@ put-decimal-slice-write-buf-2 t c =
     let st = l-if1 .before .before in
     omega (arith, length-tens (st .args .x) (l-tens-of .tens-of .result .tens) (l-tens-of .tens-of .result .ones) (l-tens-of .tens-of .ensures .0) (l-tens-of .tens-of .ensures .1) (l-if1 .if1 .left), ap length (digits-one 10 (l-tens-of .tens-of .result .tens) (l-if2 .if2 .taken)), st .pre .1)
 
-put-decimal-digit-of-requires-3 : (t : ℕ) → put-decimal-lts.Need-digit-of-requires-3 (put-decimal-claims t) (put-decimal-at t) put-decimal.Post
+put-decimal-decimal-digit-requires-3 : (t : ℕ) → put-decimal-lts.Need-decimal-digit-requires-3 (put-decimal-claims t) (put-decimal-at t) put-decimal.Post
 unfolding decimal
-put-decimal-digit-of-requires-3 t c κs =
+put-decimal-decimal-digit-requires-3 t c κs =
     let l-tens-of = c .before .before .before in
     omega (arith, l-tens-of .tens-of .ensures .1)
 
@@ -104,12 +104,12 @@ put-decimal-add-buf t c =
 put-decimal-slice-write-buf-3 : (t : ℕ) → put-decimal-lts.Need-slice-write-buf-3 (put-decimal-claims t) (put-decimal-at t) put-decimal.Post
 unfolding decimal
 put-decimal-slice-write-buf-3 t c =
-    let l-digit-of2 = c .before in
-    let l-if2 = l-digit-of2 .before in
+    let l-decimal-digit2 = c .before in
+    let l-if2 = l-decimal-digit2 .before in
     let l-tens-of = l-if2 .before .before in
     let l-if1 = l-tens-of .before in
     let st = l-if1 .before .before in
-    omega (arith, length-tens (st .args .x) (l-tens-of .tens-of .result .tens) (l-tens-of .tens-of .result .ones) (l-tens-of .tens-of .ensures .0) (l-tens-of .tens-of .ensures .1) (l-if1 .if1 .left), ap length (digits-one 10 (l-tens-of .tens-of .result .tens) (l-if2 .if2 .taken)), st .pre .1, length-set (st .args .buf .now) (st .args .at) (l-digit-of2 .digit-of2 .result))
+    omega (arith, length-tens (st .args .x) (l-tens-of .tens-of .result .tens) (l-tens-of .tens-of .result .ones) (l-tens-of .tens-of .ensures .0) (l-tens-of .tens-of .ensures .1) (l-if1 .if1 .left), ap length (digits-one 10 (l-tens-of .tens-of .result .tens) (l-if2 .if2 .taken)), st .pre .1, length-set (st .args .buf .now) (st .args .at) (l-decimal-digit2 .decimal-digit2 .result))
 
 put-decimal-add-result-2 : (t : ℕ) → put-decimal-lts.Need-add-result-2 (put-decimal-claims t) (put-decimal-at t) put-decimal.Post
 unfolding decimal
@@ -127,13 +127,13 @@ put-decimal-same-length-2 t c = simp length-set
 put-decimal-returns-2 : (t : ℕ) → put-decimal-lts.Need-returns-2 (put-decimal-claims t) (put-decimal-at t) put-decimal.Post
 unfolding decimal
 put-decimal-returns-2 t c =
-    let l-digit-of3 = c in
-    let l-digit-of2 = l-digit-of3 .before in
-    let l-if2 = l-digit-of2 .before in
+    let l-decimal-digit3 = c in
+    let l-decimal-digit2 = l-decimal-digit3 .before in
+    let l-if2 = l-decimal-digit2 .before in
     let l-tens-of = l-if2 .before .before in
     let l-if1 = l-tens-of .before in
     let st = l-if1 .before .before in
-    wrote-two (st .args .buf .now) (st .args .at) (st .args .x) (l-tens-of .tens-of .result .tens) (l-tens-of .tens-of .result .ones) (l-digit-of2 .digit-of2 .result) (l-digit-of3 .digit-of3 .result) (l-tens-of .tens-of .ensures .0) (l-tens-of .tens-of .ensures .1) (l-if1 .if1 .left) (l-if2 .if2 .taken) (l-digit-of2 .digit-of2 .ensures) (l-digit-of3 .digit-of3 .ensures)
+    wrote-two (st .args .buf .now) (st .args .at) (st .args .x) (l-tens-of .tens-of .result .tens) (l-tens-of .tens-of .result .ones) (l-decimal-digit2 .decimal-digit2 .result) (l-decimal-digit3 .decimal-digit3 .result) (l-tens-of .tens-of .ensures .0) (l-tens-of .tens-of .ensures .1) (l-if1 .if1 .left) (l-if2 .if2 .taken) (l-decimal-digit2 .decimal-digit2 .ensures) (l-decimal-digit3 .decimal-digit3 .ensures)
 
 put-decimal-put-decimal-requires : (t : ℕ) → put-decimal-lts.Need-put-decimal-requires (put-decimal-claims t) (put-decimal-at t) put-decimal.Post
 unfolding decimal
@@ -143,9 +143,9 @@ put-decimal-put-decimal-requires t c κs =
     let st = l-if1 .before .before in
     (omega (arith, st .pre .0, l-tens-of .tens-of .ensures .0, l-tens-of .tens-of .ensures .1, l-if1 .if1 .left), omega (arith, length-tens (st .args .x) (l-tens-of .tens-of .result .tens) (l-tens-of .tens-of .result .ones) (l-tens-of .tens-of .ensures .0) (l-tens-of .tens-of .ensures .1) (l-if1 .if1 .left), st .pre .1))
 
-put-decimal-digit-of-requires-4 : (t : ℕ) → put-decimal-lts.Need-digit-of-requires-4 (put-decimal-claims t) (put-decimal-at t) put-decimal.Post
+put-decimal-decimal-digit-requires-4 : (t : ℕ) → put-decimal-lts.Need-decimal-digit-requires-4 (put-decimal-claims t) (put-decimal-at t) put-decimal.Post
 unfolding decimal
-put-decimal-digit-of-requires-4 t c κs =
+put-decimal-decimal-digit-requires-4 t c κs =
     let l-tens-of = c .before .before .before .before .before .before in
     omega (arith, l-tens-of .tens-of .ensures .1)
 
@@ -176,33 +176,33 @@ put-decimal-same-length-3 t c =
 put-decimal-returns-3 : (t : ℕ) → put-decimal-lts.Need-returns-3 (put-decimal-claims t) (put-decimal-at t) put-decimal.Post
 unfolding decimal
 put-decimal-returns-3 t c =
-    let l-digit-of4 = c in
-    let l-put-decimal = l-digit-of4 .before .before .before in
+    let l-decimal-digit4 = c in
+    let l-put-decimal = l-decimal-digit4 .before .before .before in
     let l-tens-of = l-put-decimal .before .before .before .before in
     let l-if1 = l-tens-of .before in
     let st = l-if1 .before .before in
-    wrote-tens (st .args .x) (l-tens-of .tens-of .result .tens) (l-tens-of .tens-of .result .ones) (l-digit-of4 .digit-of4 .result) (l-tens-of .tens-of .ensures .0) (l-tens-of .tens-of .ensures .1) (l-if1 .if1 .left) (l-put-decimal .put-decimal .ensures) (l-digit-of4 .digit-of4 .ensures)
+    wrote-tens (st .args .x) (l-tens-of .tens-of .result .tens) (l-tens-of .tens-of .result .ones) (l-decimal-digit4 .decimal-digit4 .result) (l-tens-of .tens-of .ensures .0) (l-tens-of .tens-of .ensures .1) (l-if1 .if1 .left) (l-put-decimal .put-decimal .ensures) (l-decimal-digit4 .decimal-digit4 .ensures)
 
 pub +put-decimal-spec : {M : Type 1} → statement M
 +put-decimal-spec = close μ-put-decimal λ t. put-decimal-lts.spec (put-decimal-claims t)
     (put-decimal-at t)
     put-decimal.Post
-    (put-decimal-digit-of-requires t)
+    (put-decimal-decimal-digit-requires t)
     (put-decimal-slice-write-buf t)
     (put-decimal-add-result t)
     (put-decimal-same-length t)
     (put-decimal-returns t)
     (put-decimal-tens-of-requires t)
-    (put-decimal-digit-of-requires-2 t)
+    (put-decimal-decimal-digit-requires-2 t)
     (put-decimal-slice-write-buf-2 t)
-    (put-decimal-digit-of-requires-3 t)
+    (put-decimal-decimal-digit-requires-3 t)
     (put-decimal-add-buf t)
     (put-decimal-slice-write-buf-3 t)
     (put-decimal-add-result-2 t)
     (put-decimal-same-length-2 t)
     (put-decimal-returns-2 t)
     (put-decimal-put-decimal-requires t)
-    (put-decimal-digit-of-requires-4 t)
+    (put-decimal-decimal-digit-requires-4 t)
     (put-decimal-slice-write-buf-4 t)
     (put-decimal-add-result-3 t)
     (put-decimal-same-length-3 t)

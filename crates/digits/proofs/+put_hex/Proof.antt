@@ -15,7 +15,7 @@ use borrow.Fn.PlainCycle.{Measures, is, falls, and}
 use Rattle.digits.proofs.put_hex.Reads as put-hex
 use Rattle.digits.proofs.put_hex.Kinds as put-hex-kinds
 use Rattle.digits.proofs.+put_hex.Lts-put_hex as put-hex-lts
-use Rattle.digits.proofs.digit_of.Reads as digit-of-reads
+use Rattle.digits.proofs.hex_digit.Reads as hex-digit-reads
 use Rattle.digits.proofs.+put_hex.{statement}
 use Rattle.digits.proofs.+put_hex.Tie.{close}
 
@@ -30,11 +30,11 @@ put-hex-below t = and 1 put-hex-kinds.ps (falls 1 put-hex-kinds.ps _<_ μ-put-he
 
 -- what the functions that `put_hex` calls ask and ensure
 abbrev put-hex-claims : ℕ → put-hex-lts.Claims
-put-hex-claims t = (digit-of-reads.Asked, digit-of-reads.Learnt, put-hex-below t, put-hex.Post)
+put-hex-claims t = (hex-digit-reads.Asked, hex-digit-reads.Learnt, put-hex-below t, put-hex.Post)
 
-put-hex-digit-of-requires : (t : ℕ) → put-hex-lts.Need-digit-of-requires (put-hex-claims t) (put-hex-at t) put-hex.Post
+put-hex-hex-digit-requires : (t : ℕ) → put-hex-lts.Need-hex-digit-requires (put-hex-claims t) (put-hex-at t) put-hex.Post
 unfolding hexadecimal
-put-hex-digit-of-requires t c κs = omega arith
+put-hex-hex-digit-requires t c κs = omega arith
 
 put-hex-slice-write-buf : (t : ℕ) → put-hex-lts.Need-slice-write-buf (put-hex-claims t) (put-hex-at t) put-hex.Post
 unfolding hexadecimal
@@ -50,7 +50,7 @@ put-hex-same-length t c = simp length-set
 
 put-hex-returns : (t : ℕ) → put-hex-lts.Need-returns (put-hex-claims t) (put-hex-at t) put-hex.Post
 unfolding hexadecimal
-put-hex-returns t c = let s = c .before .before .before .before in let e = words-small (s .args .low) (s .args .high) (c .before .before .if1 .taken) in subst (λ (k : ℕ). Wrote (s .args .buf .now) (s .args .at) (digits 16 k) (s .args .at + 1) (set (s .args .buf .now) (s .args .at) (c .digit-of .result))) (sym e) (wrote-one 16 (s .args .buf .now) (s .args .at) (s .args .low) (c .digit-of .result) (c .before .if2 .taken) (c .digit-of .ensures))
+put-hex-returns t c = let s = c .before .before .before .before in let e = words-small (s .args .low) (s .args .high) (c .before .before .if1 .taken) in subst (λ (k : ℕ). Wrote (s .args .buf .now) (s .args .at) (digits 16 k) (s .args .at + 1) (set (s .args .buf .now) (s .args .at) (c .hex-digit .result))) (sym e) (wrote-one 16 (s .args .buf .now) (s .args .at) (s .args .low) (c .hex-digit .result) (c .before .if2 .taken) (c .hex-digit .ensures))
 
 put-hex-mul-put-hex : (t : ℕ) → put-hex-lts.Need-mul-put-hex (put-hex-claims t) (put-hex-at t) put-hex.Post
 unfolding hexadecimal
@@ -73,9 +73,9 @@ put-hex-put-hex-requires t c κs =
     let h = large t (c .before) in
     (subst (λ (k : ℕ). wide (s .args .low / 16 + s .args .high % 16 * 1152921504606846976) (s .args .high / 16) < k) (s .pre .0) (words-less low high h), omega (arith, ap (λ (k : ℕ). length (digits 16 k)) (words-part low high), length-more 16 (wide low high) (omega arith) h, s .pre .1))
 
-put-hex-digit-of-requires-2 : (t : ℕ) → put-hex-lts.Need-digit-of-requires-2 (put-hex-claims t) (put-hex-at t) put-hex.Post
+put-hex-hex-digit-requires-2 : (t : ℕ) → put-hex-lts.Need-hex-digit-requires-2 (put-hex-claims t) (put-hex-at t) put-hex.Post
 unfolding hexadecimal
-put-hex-digit-of-requires-2 t c κs = omega arith
+put-hex-hex-digit-requires-2 t c κs = omega arith
 
 put-hex-slice-write-buf-2 : (t : ℕ) → put-hex-lts.Need-slice-write-buf-2 (put-hex-claims t) (put-hex-at t) put-hex.Post
 unfolding hexadecimal
@@ -109,13 +109,13 @@ put-hex-returns-2 t c =
     let high = s .args .high in
     let h = large t (c .before .before .before .before .before) in
     let w : Wrote (s .args .buf .now) (s .args .at) (digits 16 ((wide low high) / 16)) (c .before .before .before .put-hex .result) (c .before .before .before .put-hex .last .1 .1 .0) = subst (λ (k : ℕ). Wrote (s .args .buf .now) (s .args .at) (digits 16 k) (c .before .before .before .put-hex .result) (c .before .before .before .put-hex .last .1 .1 .0)) (sym (words-part low high)) (c .before .before .before .put-hex .ensures) in
-    wrote-more 16 (wide low high) (c .digit-of2 .result) (omega arith) h w (c .digit-of2 .ensures ∙ ap digit (sym (words-last low high)))
+    wrote-more 16 (wide low high) (c .hex-digit2 .result) (omega arith) h w (c .hex-digit2 .ensures ∙ ap digit (sym (words-last low high)))
 
 pub +put-hex-spec : {M : Type 1} → statement M
 +put-hex-spec = close μ-put-hex λ t. put-hex-lts.spec (put-hex-claims t)
     (put-hex-at t)
     put-hex.Post
-    (put-hex-digit-of-requires t)
+    (put-hex-hex-digit-requires t)
     (put-hex-slice-write-buf t)
     (put-hex-add-result t)
     (put-hex-same-length t)
@@ -123,7 +123,7 @@ pub +put-hex-spec : {M : Type 1} → statement M
     (put-hex-mul-put-hex t)
     (put-hex-add-put-hex t)
     (put-hex-put-hex-requires t)
-    (put-hex-digit-of-requires-2 t)
+    (put-hex-hex-digit-requires-2 t)
     (put-hex-slice-write-buf-2 t)
     (put-hex-add-result-2 t)
     (put-hex-same-length-2 t)
