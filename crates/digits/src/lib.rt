@@ -61,7 +61,24 @@ pub fn decimal_length(x: u64) -> usize
     if x < 100 { two } else { two + 1 }
 }
 
-// Decimal digits. Two are written without a call: most numbers have no more.
+// The digits of a number from 10 on. Two are written without a further call: most numbers have no more.
+fn put_tens(x: u64, buf: &mut [u8], at: usize) -> usize
+    requires { ⌜ 10 ≤ x ⌝ }
+    requires { ⌜ Room (now buf) at (decimal x) ⌝ }
+    ensures { λ r. ⌜ Wrote (now (buf .entry)) at (decimal x) r (now (buf .exit)) ⌝ }
+{
+    let t = tens_of(x);
+    if t.tens < 10 {
+        buf[at] = decimal_digit(t.tens);
+        buf[at + 1] = decimal_digit(t.ones);
+        return at + 2;
+    }
+    let i = put_tens(t.tens, buf, at);
+    buf[i] = decimal_digit(t.ones);
+    i + 1
+}
+
+// Decimal digits.
 pub fn put_decimal(x: u64, buf: &mut [u8], at: usize) -> usize
     requires { ⌜ Room (now buf) at (decimal x) ⌝ }
     ensures { λ r. ⌜ Wrote (now (buf .entry)) at (decimal x) r (now (buf .exit)) ⌝ }
@@ -70,15 +87,7 @@ pub fn put_decimal(x: u64, buf: &mut [u8], at: usize) -> usize
         buf[at] = decimal_digit(x);
         return at + 1;
     }
-    let t = tens_of(x);
-    if t.tens < 10 {
-        buf[at] = decimal_digit(t.tens);
-        buf[at + 1] = decimal_digit(t.ones);
-        return at + 2;
-    }
-    let i = put_decimal(t.tens, buf, at);
-    buf[i] = decimal_digit(t.ones);
-    i + 1
+    put_tens(x, buf, at)
 }
 
 // What is left of b when the number of hexadecimal digits of two words is taken off.
