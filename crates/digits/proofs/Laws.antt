@@ -90,23 +90,39 @@ wrote-more b x r {l} {m} {i} {j} hb h u e =
     (wrote-then u (wrote-byte m j r))
 
 -- two words as one number: the number without its last digit, and that digit
-pub words-part : (low high : ℕ) → (wide low high) / 16 ≡ wide (low / 16 + high % 16 * 1152921504606846976) (high / 16)
+abbrev pub without-last : ℕ → ℕ → ℕ
+without-last low high = wide (low / 16 + high % 16 * 1152921504606846976) (high / 16)
+
+words-part : (low high : ℕ) → wide low high / 16 ≡ without-last low high
 words-part low high = omega arith
 
-pub words-last : (low high : ℕ) → (wide low high) % 16 ≡ low % 16
+words-last : (low high : ℕ) → wide low high % 16 ≡ low % 16
 words-last low high = omega arith
 
 pub words-fit : (low high : ℕ) → low < 18446744073709551616 → low / 16 + high % 16 * 1152921504606846976 < 18446744073709551616
 words-fit low high h = omega arith
 
-pub words-large : (low high : ℕ) → (high ≡ 0 → ⊥) → 16 ≤ wide low high
-words-large low high h = omega arith
-
-pub words-small : (low high : ℕ) → high ≡ 0 → wide low high ≡ low
-words-small low high h = rw h (omega arith)
-
-pub words-less : (low high : ℕ) → 16 ≤ wide low high → wide (low / 16 + high % 16 * 1152921504606846976) (high / 16) < wide low high
+pub words-less : (low high : ℕ) → 16 ≤ wide low high → without-last low high < wide low high
 words-less low high h = subst (λ (k : ℕ). k < wide low high) (words-part low high) (part-less 16 (wide low high) (omega arith) h)
+
+-- one digit is all in the low word
+words-digit : (low high : ℕ) → wide low high < 16 → wide low high ≡ low
+words-digit low high h = omega arith
+
+pub length-digit : (low high : ℕ) → wide low high < 16 → length (digits 16 (wide low high)) ≡ 1
+length-digit low high h = ap length (digits-one 16 (wide low high) h)
+
+pub length-words : (low high : ℕ) → 16 ≤ wide low high → length (digits 16 (wide low high)) ≡ length (digits 16 (without-last low high)) + 1
+length-words low high h = length-more 16 (wide low high) (omega arith) h ∙ ap (λ (k : ℕ). length (digits 16 k) + 1) (words-part low high)
+
+pub wrote-digit : (low high r : ℕ) {l : List ℕ} {i : ℕ} → wide low high < 16 → r ≡ digit low → Wrote l i (digits 16 (wide low high)) (i + 1) (set l i r)
+wrote-digit low high r {l} {i} h e = wrote-one 16 l i (wide low high) r h (e ∙ ap digit (sym (words-digit low high h)))
+
+pub wrote-words : (low high r : ℕ) {l m : List ℕ} {i j : ℕ} → 16 ≤ wide low high → Wrote l i (digits 16 (without-last low high)) j m → r ≡ digit (low % 16)
+    → Wrote l i (digits 16 (wide low high)) (j + 1) (set m j r)
+wrote-words low high r {l} {m} {i} {j} h u e =
+    wrote-more 16 (wide low high) r (omega arith) h (subst (λ (k : ℕ). Wrote l i (digits 16 k) j m) (sym (words-part low high)) u)
+    (e ∙ ap digit (sym (words-last low high)))
 
 -- ---- room for what is still to be written
 

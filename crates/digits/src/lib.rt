@@ -1,6 +1,7 @@
 // Bytes and numbers into a lent buffer. Each writer takes the place where it begins and returns the place after what it wrote.
 ghost use mathlib.Core.Path.{_≡_};
 ghost use Prim.Native.Nat.{_+_, _*_, _-_, _≤_, _<_};
+ghost use lib.Dec.{ltb};
 ghost use lib.ListN.{length};
 ghost use Rattle.terms.specs.Display.{digit, decimal, hexadecimal};
 ghost use Rattle.pool.specs.Node.{wide};
@@ -90,17 +91,40 @@ pub fn put_decimal(x: u64, buf: &mut [u8], at: usize) -> usize
     put_tens(x, buf, at)
 }
 
+// Whether two words are a number of one hexadecimal digit.
+fn one_digit(low: u64, high: u64) -> bool
+    ensures { λ r. ⌜ r ≡ ltb (wide low high) 16 ⌝ }
+{
+    (high == 0) & (low < 16)
+}
+
 // What is left of b when the number of hexadecimal digits of two words is taken off.
 pub fn less_hex(low: u64, high: u64, b: usize) -> usize
     ensures { λ r. ⌜ r ≡ b - length (hexadecimal (wide low high)) ⌝ }
 {
     let c = less(b, 1);
-    if high == 0 {
-        if low < 16 {
-            return c;
-        }
+    if one_digit(low, high) {
+        return c;
     }
     less_hex(low / 16 + high % 16 * 1152921504606846976, high / 16, c)
+}
+
+// The hexadecimal digits of two words, a number from 16 on.
+fn put_sixteens(low: u64, high: u64, buf: &mut [u8], at: usize) -> usize
+    requires { ⌜ 16 ≤ wide low high ⌝ }
+    requires { ⌜ Room (now buf) at (hexadecimal (wide low high)) ⌝ }
+    ensures { λ r. ⌜ Wrote (now (buf .entry)) at (hexadecimal (wide low high)) r (now (buf .exit)) ⌝ }
+{
+    let low_part = low / 16 + high % 16 * 1152921504606846976;
+    let high_part = high / 16;
+    if one_digit(low_part, high_part) {
+        buf[at] = hex_digit(low_part);
+        buf[at + 1] = hex_digit(low % 16);
+        return at + 2;
+    }
+    let i = put_sixteens(low_part, high_part, buf, at);
+    buf[i] = hex_digit(low % 16);
+    i + 1
 }
 
 // Hexadecimal digits of two words.
@@ -108,20 +132,11 @@ pub fn put_hex(low: u64, high: u64, buf: &mut [u8], at: usize) -> usize
     requires { ⌜ Room (now buf) at (hexadecimal (wide low high)) ⌝ }
     ensures { λ r. ⌜ Wrote (now (buf .entry)) at (hexadecimal (wide low high)) r (now (buf .exit)) ⌝ }
 {
-    if high == 0 {
-        if low < 16 {
-            buf[at] = hex_digit(low);
-            return at + 1;
-        }
+    if one_digit(low, high) {
+        buf[at] = hex_digit(low);
+        return at + 1;
     }
-    let i = put_hex(
-        low / 16 + high % 16 * 1152921504606846976,
-        high / 16,
-        buf,
-        at,
-    );
-    buf[i] = hex_digit(low % 16);
-    i + 1
+    put_sixteens(low, high, buf, at)
 }
 
 // Copies s into buf.

@@ -1,20 +1,18 @@
-use Rattle.terms.specs.Display.{hexadecimal}
-use Rattle.pool.specs.Node.{wide}
-use native.Mathlib.Nat.{le-trans, le-add-right}
-use mathlib.Core.Path.{ap, _∙_, subst}
-use mathlib.Core.Logic.{⊎-elim}
+use mathlib.Core.Path.{_≡_, sym, _∙_}
 use native.Mathlib.Omega.{arith}
 use borrow.Author.Needs.{needs}
-use lib.ListN.{length}
-use Rattle.digits.proofs.Laws.{digits}
-use Rattle.digits.proofs.Laws.{digits-one, length-more, words-part, words-fit, words-large, words-small, words-less}
-use Prim.Native.Nat.{ℕ, _+_, _*_, _%_, _/_, _<_, _≤_}
+use borrow.Author.Tests.{ltb-true, ltb-false}
+use Rattle.terms.specs.Display.{hexadecimal}
+use Rattle.pool.specs.Node.{wide}
+use Rattle.digits.proofs.Laws.{words-fit, words-less, length-digit, length-words}
+use Prim.Native.Nat.{ℕ, _≤_, _<_}
 use borrow.Fn.Kinds.{In}
 use borrow.Fn.PlainCycle.{Measures, is, falls, and}
 use Rattle.digits.proofs.less_hex.Reads as less-hex
 use Rattle.digits.proofs.less_hex.Kinds as less-hex-kinds
 use Rattle.digits.proofs.+less_hex.Lts-less_hex as less-hex-lts
 use Rattle.digits.proofs.less.Reads as less-reads
+use Rattle.digits.proofs.one_digit.Reads as one-digit-reads
 use Rattle.digits.proofs.+less_hex.{statement}
 use Rattle.digits.proofs.+less_hex.Tie.{close}
 
@@ -29,47 +27,57 @@ less-hex-below t =
     and 0 less-hex-kinds.ps (falls 0 less-hex-kinds.ps _<_ μ-less-hex t) less-hex.Pre
 
 -- what the functions that `less_hex` calls ask and ensure
-abbrev less-hex-claims : ℕ → less-hex-lts.Claims
-less-hex-claims t = (less-reads.Asked, less-reads.Learnt, less-hex-below t, less-hex.Post)
+abbrev claims : ℕ → less-hex-lts.Claims
+claims t = (less-reads.Asked, less-reads.Learnt, one-digit-reads.Asked, one-digit-reads.Learnt, less-hex-below t, less-hex.Post)
 
-less-hex-less-requires : (t : ℕ) → less-hex-lts.Need-less-requires (less-hex-claims t) (less-hex-at t) less-hex.Post
-unfolding hexadecimal
-less-hex-less-requires t c κs = search needs
+module _ (t : ℕ) where
+  -- more than one digit
+  abbrev More : Type 0
+  More = less-hex-lts.Else1 (claims t) (less-hex-at t) less-hex.Post
 
-less-hex-returns : (t : ℕ) → less-hex-lts.Need-returns (less-hex-claims t) (less-hex-at t) less-hex.Post
-unfolding hexadecimal
-less-hex-returns t c = let s = c .before .before .before in omega (arith, c .before .before .less .ensures, ap length (ap (digits 16) (words-small (s .args .low) (s .args .high) (c .before .if1 .taken)) ∙ digits-one 16 (s .args .low) (c .if2 .taken)))
+  abbrev start : More → less-hex-lts.Start (claims t) (less-hex-at t) less-hex.Post
+  start c = c .before .before .before
 
-less-hex-mul-less-hex : (t : ℕ) → less-hex-lts.Need-mul-less-hex (less-hex-claims t) (less-hex-at t) less-hex.Post
-unfolding hexadecimal
-less-hex-mul-less-hex t c = omega arith
+  more : (c : More) → 16 ≤ wide (start c .args .low) (start c .args .high)
+  more c = ltb-false _ 16 (sym (c .before .one-digit .ensures) ∙ c .if1 .left)
 
-less-hex-add-less-hex : (t : ℕ) → less-hex-lts.Need-add-less-hex (less-hex-claims t) (less-hex-at t) less-hex.Post
-unfolding hexadecimal
-less-hex-add-less-hex t c = let s = c .before .before in record { fits = words-fit (s .args .low) (s .args .high) (s .fits .low .fits) }
+  less-requires : less-hex-lts.Need-less-requires (claims t) (less-hex-at t) less-hex.Post
+  less-requires c κs = search needs
 
--- the number has more than one digit
-large : (t : ℕ) (c : less-hex-lts.Joined1 (less-hex-claims t) (less-hex-at t) less-hex.Post) → 16 ≤ wide (c .before .before .args .low) (c .before .before .args .high)
-large t c = ⊎-elim (λ w. le-trans (w .1 .left) (le-add-right (c .before .before .args .low) (18446744073709551616 * c .before .before .args .high))) (λ w. words-large (c .before .before .args .low) (c .before .before .args .high) (w .left)) (c .if1 .came)
+  one-digit-requires : less-hex-lts.Need-one-digit-requires (claims t) (less-hex-at t) less-hex.Post
+  one-digit-requires c κs = search needs
 
-less-hex-less-hex-requires : (t : ℕ) → less-hex-lts.Need-less-hex-requires (less-hex-claims t) (less-hex-at t) less-hex.Post
-unfolding hexadecimal
-less-hex-less-hex-requires t c κs = let s = c .before .before in (subst (λ (k : ℕ). wide (s .args .low / 16 + s .args .high % 16 * 1152921504606846976) (s .args .high / 16) < k) (s .pre .0) (words-less (s .args .low) (s .args .high) (large t c)), tt)
+  returns : less-hex-lts.Need-returns (claims t) (less-hex-at t) less-hex.Post
+  unfolding hexadecimal
+  returns c =
+      let l = c .before .before in
+      let a = l .before .args in
+      omega (arith, l .less .ensures, length-digit (a .low) (a .high) (ltb-true _ 16 (sym (c .before .one-digit .ensures) ∙ c .if1 .taken)))
 
-less-hex-returns-2 : (t : ℕ) → less-hex-lts.Need-returns-2 (less-hex-claims t) (less-hex-at t) less-hex.Post
-unfolding hexadecimal
-less-hex-returns-2 t c =
-    let s = c .before .before .before in
-    let x = wide (s .args .low) (s .args .high) in
-    omega (arith, c .less-hex .ensures, c .before .before .less .ensures, ap (λ (k : ℕ). length (digits 16 k)) (words-part (s .args .low) (s .args .high)), length-more 16 x (omega arith) (large t (c .before)))
+  mul-less-hex : less-hex-lts.Need-mul-less-hex (claims t) (less-hex-at t) less-hex.Post
+  mul-less-hex c = omega arith
+
+  add-less-hex : less-hex-lts.Need-add-less-hex (claims t) (less-hex-at t) less-hex.Post
+  add-less-hex c = let s = start c in record { fits = words-fit (s .args .low) (s .args .high) (s .fits .low .fits) }
+
+  less-hex-requires : less-hex-lts.Need-less-hex-requires (claims t) (less-hex-at t) less-hex.Post
+  less-hex-requires c κs = let s = start c in (omega (arith, s .pre .0, words-less (s .args .low) (s .args .high) (more c)), tt)
+
+  returns-2 : less-hex-lts.Need-returns-2 (claims t) (less-hex-at t) less-hex.Post
+  unfolding hexadecimal
+  returns-2 c =
+      let e = c .before in
+      let s = start e in
+      omega (arith, e .before .before .less .ensures, c .less-hex .ensures, length-words (s .args .low) (s .args .high) (more e))
 
 pub +less-hex-spec : {M : Type 1} → statement M
-+less-hex-spec = close μ-less-hex λ t. less-hex-lts.spec (less-hex-claims t)
-    (less-hex-at t)
-    less-hex.Post
-    (less-hex-less-requires t)
-    (less-hex-returns t)
-    (less-hex-mul-less-hex t)
-    (less-hex-add-less-hex t)
-    (less-hex-less-hex-requires t)
-    (less-hex-returns-2 t)
++less-hex-spec =
+    close μ-less-hex λ t.
+    less-hex-lts.spec (claims t) (less-hex-at t) less-hex.Post
+    (less-requires t)
+    (one-digit-requires t)
+    (returns t)
+    (mul-less-hex t)
+    (add-less-hex t)
+    (less-hex-requires t)
+    (returns-2 t)
