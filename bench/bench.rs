@@ -1,5 +1,5 @@
 //! Times the library's operations: `bench ROUNDS ORACLE PROGRAM`, the best of ROUNDS passes each, as `oracle-bench bench`
-//! takes it. Writes a line `name value` for each figure; bench/run makes the table.
+//! takes it, of blocks and of the program of a quarter as many. Writes a line `name value` for each figure; bench/run makes the table.
 
 #[path = "../tests/rust/native.rs"]
 #[allow(dead_code)]
@@ -186,13 +186,11 @@ fn main() {
     text(rounds, &all);
     check(rounds, &all);
     blocks(rounds, &all);
-    if let Some(lanes) = arguments.get(2) {
-        // in turn, so that both meet the same machine
-        let (mut ours, mut rust) = (f64::MAX, f64::MAX);
-        for _ in 0..rounds.div_ceil(4) {
-            ours = ours.min(program(1, &[lanes], &list));
-            rust = rust.min(program(1, &[&arguments[1], "lines"], &list));
-        }
-        println!("program {:.0}\nprogram-rust {:.0}", ours / 1000.0, rust / 1000.0);
+    // in turn, so that both meet the same machine
+    let (mut ours, mut rust) = (f64::MAX, f64::MAX);
+    for _ in 0..rounds.div_ceil(4) {
+        ours = ours.min(program(1, &[&arguments[2]], &list));
+        rust = rust.min(program(1, &[&arguments[1], "lines"], &list));
     }
+    println!("program {:.0}\nprogram-rust {:.0}", ours / 1000.0, rust / 1000.0);
 }

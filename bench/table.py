@@ -28,8 +28,8 @@ def row(name, unit, a, b, goal=None):
 
 print(f"""# Benchmarks
 
-Written by `bench/run {rounds}`. Each time is that of the best of {rounds} passes, all in one run on one machine. The Rust's times are
-`oracle-bench`'s.
+Written by `bench/run {rounds}`. Each time is that of the best of {rounds} passes, of blocks and of the line program of a quarter as many,
+all in one run on one machine. The Rust's times are `oracle-bench`'s.
 
 - Kit: {kit}
 - Rust: {rustc}
@@ -41,16 +41,13 @@ Written by `bench/run {rounds}`. Each time is that of the best of {rounds} passe
 |---|---|---|---|---|""")
 row("Build a term, mean of all forms", "ns", float(ours["build"]), rust_build, 4)
 row("Text, a byte", "ns", float(ours["text"]), rust_text, 3)
-if "program" in ours:
-    row("Line program on all forms", "µs", float(ours["program"]), float(ours["program-rust"]), 2)
+row("Line program on all forms", "µs", float(ours["program"]), float(ours["program-rust"]), 2)
 row("Block of 63 records, a record", "ns", float(ours["block-63"]), rust_build)
 print(f"""
 There are {int(ours["forms"]):,} forms; their terms have {int(ours["nodes"]):,} new nodes, at most {ours["most"]} each, and {int(ours["bytes"]):,} bytes of text.
 Building is `neon_lower_instruction` on a pool of 35 nodes, the pool check with it; the Rust builds and drops its tree. Text is
 `neon_write_text`, the pool check and the length with it; the Rust writes to a string that has room. A record of a block is set
 beside the Rust's mean of building one tree.""")
-if "program" not in ours:
-    print("The line program is not here yet.")
 
 
 def growth(name):

@@ -144,6 +144,7 @@ fn next() -> Turn {
 
 fn main() {
     let mut most = 0;
+    // a loop has to end: no list of cases is as long as this
     let mut left: u64 = 100000;
     while left > 0 {
         let t = next();

@@ -1,11 +1,10 @@
--- What a kind says of its sources: whether there is a second, the bits of a source lane, and the lanes and amounts of its rows.
-use mathlib.Core.Bool.{Bool, true, false, cond}
-use Prim.Native.Nat.{ℕ, _*_, _≤_, _<_}
+-- What a kind says of its sources: whether there is a second, and the lanes and amounts of its rows.
+use mathlib.Core.Bool.{Bool, true, false}
+use Prim.Native.Nat.{ℕ, _≤_, _<_}
 use Rattle.trees.specs.declared.ShiftKind.{ShiftKind}
 use Rattle.trees.specs.declared.ShiftKind.the-variants.{LeftImmediate, RightImmediate, Register}
 use Rattle.trees.specs.declared.SaturatingKind.{SaturatingKind}
 use Rattle.trees.specs.declared.SaturatingKind.the-variants.{AddSub, Halving, Narrow, ShiftNarrow, DoublingMultiplyHigh, Unary}
-use Rattle.trees.specs.Arith.{narrowing}
 
 -- ---- shifts
 
@@ -30,9 +29,6 @@ usesSecond (Narrow to) = false
 usesSecond (ShiftNarrow shift rounding to) = false
 usesSecond (DoublingMultiplyHigh rounding) = true
 usesSecond (Unary negate) = false
-
-abbrev pub sourceBits : SaturatingKind → ℕ → ℕ
-sourceBits kind n = cond (narrowing kind) (n * 2) n
 
 -- a lane of n bits: at most 32 where the lane is computed at 2n bits or more, and a shift of 1 to n
 abbrev pub KindIn : SaturatingKind → ℕ → Type 0

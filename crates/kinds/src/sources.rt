@@ -3,8 +3,8 @@ use trees::SaturatingKind;
 use trees::ShiftKind;
 ghost use mathlib.Core.Path.{_≡_};
 ghost use Prim.Native.Nat.{_≤_};
-ghost use Rattle.trees.specs.Arith.{narrowing as narrowingTree};
-ghost use Rattle.kinds.specs.Sources.{isRegister, usesSecond, sourceBits};
+ghost use Rattle.trees.specs.Arith.{narrowing as narrowingTree, kindBits};
+ghost use Rattle.kinds.specs.Sources.{isRegister, usesSecond};
 
 // The shifts whose amount is the second source.
 pub fn is_register(kind: ShiftKind) -> bool
@@ -65,7 +65,7 @@ pub fn narrowing(kind: SaturatingKind) -> bool
 // The bits of a source's lane.
 pub fn source_bits(kind: SaturatingKind, lane_bits: u64) -> u64
     requires { ⌜ «lane_bits» ≤ 64 ⌝ }
-    ensures { λ r. ⌜ r ≡ sourceBits kind «lane_bits» ⌝ }
+    ensures { λ r. ⌜ r ≡ kindBits kind «lane_bits» ⌝ }
 {
     if narrowing(kind) {
         return lane_bits * 2;

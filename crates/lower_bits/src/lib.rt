@@ -15,7 +15,7 @@ ghost use Rattle.lower_bits.specs.Lanes.{bitwiseAt};
 fn bitwise_at(
     pool: &mut [u64],
     count: usize,
-    op: BitwiseUnary,
+    kind: BitwiseUnary,
     first: Node,
     lane_bits: u64,
     lanes: u64,
@@ -25,17 +25,17 @@ fn bitwise_at(
     requires { ⌜ first .0 < count ⌝ }
     requires { ⌜ (2 ≤ «lane_bits») × («lane_bits» ≤ 64) × (index .0 < lanes) × («lane_bits» * lanes ≤ 128) ⌝ }
     ensures { λ r. ⌜ Lowers (now (pool .entry)) count (now (pool .exit)) r (5 * «lane_bits» + 2) «lane_bits» unread (read first («lane_bits» * lanes))
-        unread (λ d a b. bitwiseAt op «lane_bits» d a b (index .0)) [] ⌝ }
+        unread (λ d a b. bitwiseAt kind «lane_bits» d a b (index .0)) [] ⌝ }
 {
     let element = simd::extract_lane(pool, count, first, lane_bits, index);
-    bitwise_unary_lane(pool, element.count, op, element.node, lane_bits)
+    bitwise_unary_lane(pool, element.count, kind, element.node, lane_bits)
 }
 
 // CNT, CLZ, CLS and RBIT, lane by lane.
 pub fn bitwise_unary_lanes(
     pool: &mut [u64],
     count: usize,
-    op: BitwiseUnary,
+    kind: BitwiseUnary,
     first: Node,
     lane_bits: u64,
     lanes: u64,
@@ -44,12 +44,12 @@ pub fn bitwise_unary_lanes(
     requires { ⌜ first .0 < count ⌝ }
     requires { ⌜ (2 ≤ «lane_bits») × («lane_bits» ≤ 64) × (1 ≤ lanes) × («lane_bits» * lanes ≤ 128) ⌝ }
     ensures { λ r. ⌜ Lowers (now (pool .entry)) count (now (pool .exit)) r ((5 * «lane_bits» + 3) * lanes) («lane_bits» * lanes) unread
-        (read first («lane_bits» * lanes)) unread (λ d a b. bitwiseUnaryLanes op a «lane_bits» lanes) [] ⌝ }
+        (read first («lane_bits» * lanes)) unread (λ d a b. bitwiseUnaryLanes kind a «lane_bits» lanes) [] ⌝ }
 {
-    let mut acc = bitwise_at(pool, count, op, first, lane_bits, lanes, Lane::first());
+    let mut acc = bitwise_at(pool, count, kind, first, lane_bits, lanes, Lane::first());
     let mut i = 1;
     while i < lanes {
-        let lane = bitwise_at(pool, acc.count, op, first, lane_bits, lanes, Lane(i));
+        let lane = bitwise_at(pool, acc.count, kind, first, lane_bits, lanes, Lane(i));
         acc = simd::concat_lanes(pool, lane.count, lane.node, acc.node);
         i += 1;
     }

@@ -13,9 +13,8 @@ use Rattle.pool.specs.declared.Node.{Node}
 use Rattle.pool.specs.declared.Built.{Built}
 use Rattle.nodes.specs.Builders.{MadeConst, MadeBv, MadeCompare, MadeIte, MadeExtract, MadeZeroExtend}
 use Rattle.pool.proofs.Steps.{start, step, finish, forget, given}
-use Rattle.trees.specs.Arith.{leadingZeros, populationCount}
+use Rattle.trees.specs.Arith.{leadingZeros, populationCount, zerosAt, countAt}
 use Rattle.lower.specs.Builds.{Builds1, Builds2}
-use Rattle.lower_bits_lane.specs.Layers.{zerosAt, countAt}
 
 -- a number of at most n fits n bits
 pub fits : (n c : ℕ) → c ≤ n → c < 2 ^ n

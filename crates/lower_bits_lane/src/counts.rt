@@ -8,9 +8,8 @@ ghost use mathlib.Core.List.{[], _∷_};
 ghost use Prim.Native.Nat.{_+_, _*_, _≤_, _<_};
 ghost use Rattle.pool.specs.Growth.{Room};
 ghost use Rattle.trees.specs.declared.BitwiseUnary.the-variants.{LeadingSignBits, ReverseBits};
-ghost use Rattle.trees.specs.Arith.{leadingZeros, populationCount, bitwiseUnaryLane};
+ghost use Rattle.trees.specs.Arith.{leadingZeros, populationCount, bitwiseUnaryLane, zerosAt, countAt};
 ghost use Rattle.lower.specs.Builds.{Builds1, Builds2};
-ghost use Rattle.lower_bits_lane.specs.Layers.{zerosAt, countAt};
 
 // The test of one bit; `rest` has the tests of the bits below it.
 fn zeros_at(pool: &mut [u64], count: usize, value: Node, rest: Node, bits: u64, bit: Bit) -> Built

@@ -14,16 +14,16 @@ pub mod counts;
 pub fn bitwise_unary_lane(
     pool: &mut [u64],
     count: usize,
-    op: BitwiseUnary,
+    kind: BitwiseUnary,
     value: Node,
     lane_bits: u64,
 ) -> Built
     requires { ⌜ Room (now pool) count (5 * «lane_bits» + 1) ⌝ }
     requires { ⌜ (value .0 < count) × (2 ≤ «lane_bits») × («lane_bits» ≤ 64) ⌝ }
     ensures { λ r. ⌜ Builds1 (now (pool .entry)) count (now (pool .exit)) r (5 * «lane_bits» + 1) value «lane_bits» «lane_bits»
-        (λ v. bitwiseUnaryLane op v «lane_bits») (value .0 ∷ []) ⌝ }
+        (λ v. bitwiseUnaryLane kind v «lane_bits») (value .0 ∷ []) ⌝ }
 {
-    match op {
+    match kind {
         BitwiseUnary::PopulationCount => counts::population_count(pool, count, value, lane_bits),
         BitwiseUnary::LeadingZeros => counts::leading_zeros(pool, count, value, lane_bits),
         BitwiseUnary::LeadingSignBits => counts::leading_sign_bits(pool, count, value, lane_bits),

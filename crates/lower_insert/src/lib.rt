@@ -14,7 +14,8 @@ ghost use Rattle.trees.specs.Arith.{keptBits, shiftInsertLanes};
 ghost use Rattle.lower.specs.Builds.{Lowers, read, unread};
 ghost use Rattle.lower_insert.specs.Lanes.{insertAt};
 
-// A mask of the low bits, none for SLI by 0 and for SRI by the whole lane.
+// A mask of the low bits, none for SLI by 0 and for SRI by the whole lane. The test is the Rust's, whose unsigned_max gives nothing
+// for 0 bits.
 fn low_bits(bits: u64) -> u64
     requires { ⌜ bits ≤ 64 ⌝ }
     ensures { λ r. ⌜ r ≡ unsignedMax bits ⌝ }
@@ -33,6 +34,7 @@ fn kept_bits(left: bool, lane_bits: u64, shift: u64) -> u64
     if left {
         return low_bits(shift);
     }
+    // the Rust's ^: the low bits are among all of them
     lower::unsigned_max(lane_bits) - low_bits(lane_bits - shift)
 }
 

@@ -4,10 +4,11 @@ use mathlib.Core.Path.{_≡_}
 use Prim.Native.Nat.{ℕ, _+_, _*_, _/_, _≤_}
 use Rattle.trees.specs.declared.NeonOp.{NeonOp}
 use Rattle.trees.specs.declared.NeonOp.the-variants.{Shift, ShiftInsert, MixedSignAdd, DoublingLong, Saturating, BitwiseUnary, AbsoluteDifference, HighNarrow}
-use Rattle.kinds.specs.Sources.{isRegister, AmountIn, usesSecond, sourceBits, KindIn}
+use Rattle.trees.specs.Arith.{kindBits}
+use Rattle.kinds.specs.Sources.{isRegister, AmountIn, usesSecond, KindIn}
 use Rattle.lower_doubling.specs.Elements.{accumulates, factorBits, secondFactorBits}
 
--- a bound on the nodes that a form adds
+-- a bound on the nodes that a form adds: with a block's three reads and its widening, below the 768 of document 02
 abbrev pub mostNodes : ℕ
 mostNodes = 760
 
@@ -57,7 +58,7 @@ firstWidth (Shift kind signed) n k = n * k
 firstWidth (ShiftInsert left shift) n k = n * k
 firstWidth (MixedSignAdd signed) n k = n * k
 firstWidth (DoublingLong combine upper byElement) n k = factorBits upper n k
-firstWidth (Saturating kind signed upper) n k = sourceBits kind n * k
+firstWidth (Saturating kind signed upper) n k = kindBits kind n * k
 firstWidth (BitwiseUnary kind) n k = n * k
 firstWidth (AbsoluteDifference signed accumulate) n k = n * k
 firstWidth (HighNarrow subtract rounding upper) n k = n * 2 * k
@@ -67,7 +68,7 @@ secondWidth (Shift kind signed) n k = n * k
 secondWidth (ShiftInsert left shift) n k = n * k
 secondWidth (MixedSignAdd signed) n k = n * k
 secondWidth (DoublingLong combine upper byElement) n k = secondFactorBits byElement upper n k
-secondWidth (Saturating kind signed upper) n k = sourceBits kind n * k
+secondWidth (Saturating kind signed upper) n k = kindBits kind n * k
 secondWidth (BitwiseUnary kind) n k = n * k
 secondWidth (AbsoluteDifference signed accumulate) n k = n * k
 secondWidth (HighNarrow subtract rounding upper) n k = n * 2 * k
@@ -78,7 +79,7 @@ FamilyIn (Shift kind signed) n k i = AmountIn kind n
 FamilyIn (ShiftInsert left shift) n k i = shift ≤ n
 FamilyIn (MixedSignAdd signed) n k i = Unit {0}
 FamilyIn (DoublingLong combine upper byElement) n k i = n / 2 * i + n / 2 ≤ 128
-FamilyIn (Saturating kind signed upper) n k i = KindIn kind n × (sourceBits kind n * k ≤ 128) × (upper ≡ true → n * k ≤ 64)
+FamilyIn (Saturating kind signed upper) n k i = KindIn kind n × (kindBits kind n * k ≤ 128) × (upper ≡ true → n * k ≤ 64)
 FamilyIn (BitwiseUnary kind) n k i = Unit {0}
 FamilyIn (AbsoluteDifference signed accumulate) n k i = Unit {0}
 FamilyIn (HighNarrow subtract rounding upper) n k i = (n ≤ 32) × (n * 2 * k ≤ 128)

@@ -1,5 +1,5 @@
 // One record of a block: the reads of its registers, the lowering of its form, and the widening of its result.
-// The Rust's lift_neon does this over a map of its own, which keeps terms and no nodes.
+// The Rust's lift_neon does this by statements: a register is read as a variable, and the result is assigned to one.
 use register_map::RegisterMap;
 use register_reads::read_if;
 use register_reads::widen;

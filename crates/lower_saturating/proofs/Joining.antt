@@ -12,11 +12,11 @@ use Rattle.pool.proofs.Steps.{start, step, finish, spare}
 use Rattle.trees.specs.declared.SaturatingKind.{SaturatingKind}
 use Rattle.trees.specs.declared.SaturatingKind.the-variants.{AddSub, Halving, Narrow, ShiftNarrow, DoublingMultiplyHigh, Unary}
 use Rattle.trees.specs.Simd.{extractLane, concatLanes}
-use Rattle.trees.specs.Arith.{narrowing, keepLower, saturatingLane, saturatingLanes}
+use Rattle.trees.specs.Arith.{narrowing, keepLower, saturatingLane, saturatingLanes, kindBits}
 use Rattle.simd.specs.Cut.{MadeLane}
 use Rattle.lower.specs.Builds.{BuildsIf, Lowers, read, readIf, unread, withLower}
 use Rattle.lower.proofs.Lanes.{lane-fits, kept-below}
-use Rattle.kinds.specs.Sources.{usesSecond, sourceBits}
+use Rattle.kinds.specs.Sources.{usesSecond}
 use Rattle.lower_saturating.specs.Lanes.{saturatingAt}
 
 -- ---- the bits of a source lane
@@ -25,11 +25,11 @@ at-least : (b : Bool) (n : ℕ) → n ≤ cond b (n * 2) n
 at-least true n = omega arith
 at-least false n = omega arith
 
-pub source-least : (kind : SaturatingKind) (n : ℕ) → n ≤ sourceBits kind n
+pub source-least : (kind : SaturatingKind) (n : ℕ) → n ≤ kindBits kind n
 source-least kind n = at-least (narrowing kind) n
 
 -- the lanes that are made are no wider than those that are read
-pub made-most : (kind : SaturatingKind) (n lanes : ℕ) → sourceBits kind n * lanes ≤ 128 → n * lanes ≤ 128
+pub made-most : (kind : SaturatingKind) (n lanes : ℕ) → kindBits kind n * lanes ≤ 128 → n * lanes ≤ 128
 made-most kind n lanes h = omega (arith, mul-le-mul-left lanes (source-least kind n))
 
 -- ---- one lane
@@ -39,20 +39,20 @@ lane-of e d = rw (← e) d
 
 pub at-two : {w0 w1 w2 w3 : List ℕ} {k : ℕ} {r1 r2 r3 : Built} {first second : Node} {bits n lanes j : ℕ} (kind : SaturatingKind) (signed : Bool)
     → j < lanes
-    → bits ≡ sourceBits kind n
+    → bits ≡ kindBits kind n
     → usesSecond kind ≡ true
     → MadeLane w0 k w1 r1 first bits j
     → MadeLane w1 (r1 .count) w2 r2 second bits j
-    → BuildsIf w2 (r2 .count) w3 r3 16 (r1 .node) (sourceBits kind n) (usesSecond kind) (r2 .node) (sourceBits kind n) n (λ a b. saturatingLane kind a b n signed)
-    → Lowers w0 k w3 r3 18 n unread (read first (sourceBits kind n * lanes)) (readIf (usesSecond kind) second (sourceBits kind n * lanes)) (λ d a b. saturatingAt kind signed n d a b j) []
+    → BuildsIf w2 (r2 .count) w3 r3 16 (r1 .node) (kindBits kind n) (usesSecond kind) (r2 .node) (kindBits kind n) n (λ a b. saturatingLane kind a b n signed)
+    → Lowers w0 k w3 r3 18 n unread (read first (kindBits kind n * lanes)) (readIf (usesSecond kind) second (kindBits kind n * lanes)) (λ d a b. saturatingAt kind signed n d a b j) []
 at-two {first = first} {second = second} {n = n} {lanes = lanes} {j = j} kind signed h e q e1 e2 e3 =
-    let fits : sourceBits kind n * j + sourceBits kind n ≤ sourceBits kind n * lanes = lane-fits (sourceBits kind n) j lanes h (omega arith) in
-    let l1 = lane-of {m = sourceBits kind n} e e1 in
-    let l2 = lane-of {m = sourceBits kind n} e e2 in
+    let fits : kindBits kind n * j + kindBits kind n ≤ kindBits kind n * lanes = lane-fits (kindBits kind n) j lanes h (omega arith) in
+    let l1 = lane-of {m = kindBits kind n} e e1 in
+    let l2 = lane-of {m = kindBits kind n} e e2 in
     record {
       sized = omega (arith, e1 .sized, e2 .sized, e3 .sized);
       made = λ {td} {ta} {tb} v x y z.
-          let s0 = start v (spare (first .0) (sourceBits kind n * lanes) ta ∷ spare (second .0) (sourceBits kind n * lanes) tb ∷ []) ((y refl), ((z q), tt)) in
+          let s0 = start v (spare (first .0) (kindBits kind n * lanes) ta ∷ spare (second .0) (kindBits kind n * lanes) tb ∷ []) ((y refl), ((z q), tt)) in
           let s1 = step s0 [] (l1 .made (s0 .valid) fits (s0 .env .0)) in
           let s2 = step s1 [] (l2 .made (s1 .valid) fits (s1 .env .1 .1 .0)) in
           finish (step s2 (1 ∷ 0 ∷ []) (rw q at (e3 .made (s2 .valid) (s2 .env .1 .0) (λ u. s2 .env .0)))) tt;
@@ -70,20 +70,20 @@ no-second (Unary negate) q a b c n signed = refl
 
 pub at-one : {w0 w1 w2 : List ℕ} {k : ℕ} {r1 r2 : Built} {first second : Node} {bits n lanes j : ℕ} (kind : SaturatingKind) (signed : Bool)
     → j < lanes
-    → bits ≡ sourceBits kind n
+    → bits ≡ kindBits kind n
     → usesSecond kind ≡ false
     → MadeLane w0 k w1 r1 first bits j
-    → BuildsIf w1 (r1 .count) w2 r2 16 (r1 .node) (sourceBits kind n) (usesSecond kind) (r1 .node) (sourceBits kind n) n (λ a b. saturatingLane kind a b n signed)
-    → Lowers w0 k w2 r2 18 n unread (read first (sourceBits kind n * lanes)) (readIf (usesSecond kind) second (sourceBits kind n * lanes)) (λ d a b. saturatingAt kind signed n d a b j) []
+    → BuildsIf w1 (r1 .count) w2 r2 16 (r1 .node) (kindBits kind n) (usesSecond kind) (r1 .node) (kindBits kind n) n (λ a b. saturatingLane kind a b n signed)
+    → Lowers w0 k w2 r2 18 n unread (read first (kindBits kind n * lanes)) (readIf (usesSecond kind) second (kindBits kind n * lanes)) (λ d a b. saturatingAt kind signed n d a b j) []
 at-one {first = first} {second = second} {n = n} {lanes = lanes} {j = j} kind signed h e q e1 e2 =
-    let fits : sourceBits kind n * j + sourceBits kind n ≤ sourceBits kind n * lanes = lane-fits (sourceBits kind n) j lanes h (omega arith) in
-    let l1 = lane-of {m = sourceBits kind n} e e1 in
+    let fits : kindBits kind n * j + kindBits kind n ≤ kindBits kind n * lanes = lane-fits (kindBits kind n) j lanes h (omega arith) in
+    let l1 = lane-of {m = kindBits kind n} e e1 in
     record {
       sized = omega (arith, e1 .sized, e2 .sized);
       made = λ {td} {ta} {tb} v x y z.
-          let s0 = start v (spare (first .0) (sourceBits kind n * lanes) ta ∷ []) ((y refl), tt) in
+          let s0 = start v (spare (first .0) (kindBits kind n * lanes) ta ∷ []) ((y refl), tt) in
           let s1 = step s0 [] (l1 .made (s0 .valid) fits (s0 .env .0)) in
-          rw (no-second kind q (extractLane ta (sourceBits kind n) j) (extractLane tb (sourceBits kind n) j) (extractLane ta (sourceBits kind n) j) n signed)
+          rw (no-second kind q (extractLane ta (kindBits kind n) j) (extractLane tb (kindBits kind n) j) (extractLane ta (kindBits kind n) j) n signed)
           (finish (step s1 (0 ∷ []) (rw q at (e2 .made (s1 .valid) (s1 .env .0) (λ u. s1 .env .0)))) tt);
     }
 
@@ -91,18 +91,18 @@ at-one {first = first} {second = second} {n = n} {lanes = lanes} {j = j} kind si
 
 module _ {w0 : List ℕ} {k : ℕ} {w1 : List ℕ} {r1 : Built} {first second d : Node} (kind : SaturatingKind) (signed : Bool) {upper : Bool} (n lanes : ℕ) where
   pub with-lower : {w2 : List ℕ} {r2 : Built} → upper ≡ true
-      → Lowers w0 k w1 r1 (19 * lanes) (n * lanes) unread (read first (sourceBits kind n * lanes)) (readIf (usesSecond kind) second (sourceBits kind n * lanes))
+      → Lowers w0 k w1 r1 (19 * lanes) (n * lanes) unread (read first (kindBits kind n * lanes)) (readIf (usesSecond kind) second (kindBits kind n * lanes))
       (λ d a b. concatLanes (lanes - 1) (saturatingAt kind signed n d a b)) []
       → BuildsIf w1 (r1 .count) w2 r2 2 (r1 .node) (n * lanes) true d (n * lanes * 2) (withLower true (n * lanes)) (λ v x. keepLower true v x n lanes)
-      → Lowers w0 k w2 r2 (19 * lanes + 2) (withLower upper (n * lanes)) (readIf upper d (n * lanes * 2)) (read first (sourceBits kind n * lanes))
-      (readIf (usesSecond kind) second (sourceBits kind n * lanes)) (λ d a b. saturatingLanes kind signed upper a b d n lanes) []
+      → Lowers w0 k w2 r2 (19 * lanes + 2) (withLower upper (n * lanes)) (readIf upper d (n * lanes * 2)) (read first (kindBits kind n * lanes))
+      (readIf (usesSecond kind) second (kindBits kind n * lanes)) (λ d a b. saturatingLanes kind signed upper a b d n lanes) []
   unfolding saturatingLanes
   with-lower q e1 e2 = rw q (kept-below true n lanes e1 e2)
 
   pub alone : upper ≡ false
-      → Lowers w0 k w1 r1 (19 * lanes) (n * lanes) unread (read first (sourceBits kind n * lanes)) (readIf (usesSecond kind) second (sourceBits kind n * lanes))
+      → Lowers w0 k w1 r1 (19 * lanes) (n * lanes) unread (read first (kindBits kind n * lanes)) (readIf (usesSecond kind) second (kindBits kind n * lanes))
       (λ d a b. concatLanes (lanes - 1) (saturatingAt kind signed n d a b)) []
-      → Lowers w0 k w1 r1 (19 * lanes + 2) (withLower upper (n * lanes)) (readIf upper d (n * lanes * 2)) (read first (sourceBits kind n * lanes))
-      (readIf (usesSecond kind) second (sourceBits kind n * lanes)) (λ d a b. saturatingLanes kind signed upper a b d n lanes) []
+      → Lowers w0 k w1 r1 (19 * lanes + 2) (withLower upper (n * lanes)) (readIf upper d (n * lanes * 2)) (read first (kindBits kind n * lanes))
+      (readIf (usesSecond kind) second (kindBits kind n * lanes)) (λ d a b. saturatingLanes kind signed upper a b d n lanes) []
   unfolding saturatingLanes
   alone q e = rw q (record { sized = omega (arith, e .sized); made = λ {td} v x y z. e .made {td = td} v (λ u. absurd (false≢true u)) y z })

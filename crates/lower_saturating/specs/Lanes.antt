@@ -4,8 +4,7 @@ use Prim.Native.Nat.{ℕ}
 use Rattle.terms.specs.Expr.{Expr}
 use Rattle.trees.specs.declared.SaturatingKind.{SaturatingKind}
 use Rattle.trees.specs.Simd.{extractLane}
-use Rattle.trees.specs.Arith.{saturatingLane}
-use Rattle.kinds.specs.Sources.{sourceBits}
+use Rattle.trees.specs.Arith.{saturatingLane, kindBits}
 
 abbrev pub saturatingAt : SaturatingKind → (signed : Bool) (n : ℕ) (d a b : Expr) → ℕ → Expr
-saturatingAt kind signed n d a b j = saturatingLane kind (extractLane a (sourceBits kind n) j) (extractLane b (sourceBits kind n) j) n signed
+saturatingAt kind signed n d a b j = saturatingLane kind (extractLane a (kindBits kind n) j) (extractLane b (kindBits kind n) j) n signed

@@ -11,9 +11,9 @@ ghost use mathlib.Core.List.{[]};
 ghost use Prim.Native.Nat.{_+_, _-_, _*_, _≤_, _<_};
 ghost use Rattle.pool.specs.Growth.{Room};
 ghost use Rattle.trees.specs.Simd.{concatLanes};
-ghost use Rattle.trees.specs.Arith.{saturatingLanes};
+ghost use Rattle.trees.specs.Arith.{saturatingLanes, kindBits};
 ghost use Rattle.lower.specs.Builds.{Lowers, read, readIf, unread, Below, withLower};
-ghost use Rattle.kinds.specs.Sources.{usesSecond, sourceBits, KindIn};
+ghost use Rattle.kinds.specs.Sources.{usesSecond, KindIn};
 ghost use Rattle.lower_saturating.specs.Lanes.{saturatingAt};
 
 // Lane `index` of the result.
@@ -21,7 +21,7 @@ fn saturating_at(
     pool: &mut [u64],
     count: usize,
     kind: SaturatingKind,
-    signed: bool,
+    signed_sources: bool,
     first: Node,
     second: Node,
     lane_bits: u64,
@@ -30,9 +30,9 @@ fn saturating_at(
 ) -> Built
     requires { ⌜ Room (now pool) count 18 ⌝ }
     requires { ⌜ (first .0 < count) × Below (readIf (usesSecond kind) second 0) count ⌝ }
-    requires { ⌜ (1 ≤ «lane_bits») × («lane_bits» ≤ 64) × KindIn kind «lane_bits» × (index .0 < lanes) × (sourceBits kind «lane_bits» * lanes ≤ 128) ⌝ }
-    ensures { λ r. ⌜ Lowers (now (pool .entry)) count (now (pool .exit)) r 18 «lane_bits» unread (read first (sourceBits kind «lane_bits» * lanes))
-        (readIf (usesSecond kind) second (sourceBits kind «lane_bits» * lanes)) (λ d a b. saturatingAt kind signed «lane_bits» d a b (index .0)) [] ⌝ }
+    requires { ⌜ (1 ≤ «lane_bits») × («lane_bits» ≤ 64) × KindIn kind «lane_bits» × (index .0 < lanes) × (kindBits kind «lane_bits» * lanes ≤ 128) ⌝ }
+    ensures { λ r. ⌜ Lowers (now (pool .entry)) count (now (pool .exit)) r 18 «lane_bits» unread (read first (kindBits kind «lane_bits» * lanes))
+        (readIf (usesSecond kind) second (kindBits kind «lane_bits» * lanes)) (λ d a b. saturatingAt kind «signed_sources» «lane_bits» d a b (index .0)) [] ⌝ }
 {
     let bits = source_bits(kind, lane_bits);
     let a = simd::extract_lane(pool, count, first, bits, index);
@@ -45,10 +45,18 @@ fn saturating_at(
             a.node,
             b.node,
             lane_bits,
-            signed,
+            signed_sources,
         );
     }
-    lower_saturating_lane::saturating_lane(pool, a.count, kind, a.node, a.node, lane_bits, signed)
+    lower_saturating_lane::saturating_lane(
+        pool,
+        a.count,
+        kind,
+        a.node,
+        a.node,
+        lane_bits,
+        signed_sources,
+    )
 }
 
 // The lanes, one put above those so far as it arises.
@@ -56,7 +64,7 @@ fn made_lanes(
     pool: &mut [u64],
     count: usize,
     kind: SaturatingKind,
-    signed: bool,
+    signed_sources: bool,
     first: Node,
     second: Node,
     lane_bits: u64,
@@ -64,15 +72,15 @@ fn made_lanes(
 ) -> Built
     requires { ⌜ Room (now pool) count (19 * lanes) ⌝ }
     requires { ⌜ (first .0 < count) × Below (readIf (usesSecond kind) second 0) count ⌝ }
-    requires { ⌜ (1 ≤ «lane_bits») × («lane_bits» ≤ 64) × KindIn kind «lane_bits» × (1 ≤ lanes) × (sourceBits kind «lane_bits» * lanes ≤ 128) ⌝ }
-    ensures { λ r. ⌜ Lowers (now (pool .entry)) count (now (pool .exit)) r (19 * lanes) («lane_bits» * lanes) unread (read first (sourceBits kind «lane_bits» * lanes))
-        (readIf (usesSecond kind) second (sourceBits kind «lane_bits» * lanes)) (λ d a b. concatLanes (lanes - 1) (saturatingAt kind signed «lane_bits» d a b)) [] ⌝ }
+    requires { ⌜ (1 ≤ «lane_bits») × («lane_bits» ≤ 64) × KindIn kind «lane_bits» × (1 ≤ lanes) × (kindBits kind «lane_bits» * lanes ≤ 128) ⌝ }
+    ensures { λ r. ⌜ Lowers (now (pool .entry)) count (now (pool .exit)) r (19 * lanes) («lane_bits» * lanes) unread (read first (kindBits kind «lane_bits» * lanes))
+        (readIf (usesSecond kind) second (kindBits kind «lane_bits» * lanes)) (λ d a b. concatLanes (lanes - 1) (saturatingAt kind «signed_sources» «lane_bits» d a b)) [] ⌝ }
 {
     let mut acc = saturating_at(
         pool,
         count,
         kind,
-        signed,
+        signed_sources,
         first,
         second,
         lane_bits,
@@ -85,7 +93,7 @@ fn made_lanes(
             pool,
             acc.count,
             kind,
-            signed,
+            signed_sources,
             first,
             second,
             lane_bits,
@@ -103,7 +111,7 @@ pub fn saturating_lanes(
     pool: &mut [u64],
     count: usize,
     kind: SaturatingKind,
-    signed: bool,
+    signed_sources: bool,
     upper: bool,
     first: Node,
     second: Node,
@@ -113,13 +121,23 @@ pub fn saturating_lanes(
 ) -> Built
     requires { ⌜ Room (now pool) count (19 * lanes + 2) ⌝ }
     requires { ⌜ (first .0 < count) × Below (readIf (usesSecond kind) second 0) count × Below (readIf upper d 0) count ⌝ }
-    requires { ⌜ (1 ≤ «lane_bits») × («lane_bits» ≤ 64) × KindIn kind «lane_bits» × (1 ≤ lanes) × (sourceBits kind «lane_bits» * lanes ≤ 128)
+    requires { ⌜ (1 ≤ «lane_bits») × («lane_bits» ≤ 64) × KindIn kind «lane_bits» × (1 ≤ lanes) × (kindBits kind «lane_bits» * lanes ≤ 128)
         × (upper ≡ true → «lane_bits» * lanes ≤ 64) ⌝ }
     ensures { λ r. ⌜ Lowers (now (pool .entry)) count (now (pool .exit)) r (19 * lanes + 2) (withLower upper («lane_bits» * lanes))
-        (readIf upper d («lane_bits» * lanes * 2)) (read first (sourceBits kind «lane_bits» * lanes))
-        (readIf (usesSecond kind) second (sourceBits kind «lane_bits» * lanes)) (λ d a b. saturatingLanes kind signed upper a b d «lane_bits» lanes) [] ⌝ }
+        (readIf upper d («lane_bits» * lanes * 2)) (read first (kindBits kind «lane_bits» * lanes))
+        (readIf (usesSecond kind) second (kindBits kind «lane_bits» * lanes)) (λ d a b. saturatingLanes kind «signed_sources» upper a b d «lane_bits» lanes) [] ⌝ }
 {
-    let new = made_lanes(pool, count, kind, signed, first, second, lane_bits, lanes);
+    let new = made_lanes(
+        pool,
+        count,
+        kind,
+        signed_sources,
+        first,
+        second,
+        lane_bits,
+        lanes,
+    );
+    // keep_lower takes 64 bits of lanes at most, as a 2 form has them
     if upper {
         return lower::arith::keep_lower(pool, new.count, true, new.node, d, lane_bits, lanes);
     }

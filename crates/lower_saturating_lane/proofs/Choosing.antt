@@ -11,13 +11,13 @@ use Rattle.trees.specs.declared.SaturateTo.{SaturateTo}
 use Rattle.trees.specs.declared.Saturate.{Saturate}
 use Rattle.trees.specs.declared.SaturatingKind.{SaturatingKind}
 use Rattle.trees.specs.declared.SaturatingKind.the-variants.{AddSub, Halving, Narrow, ShiftNarrow, DoublingMultiplyHigh, Unary}
-use Rattle.trees.specs.Arith.{clamp, saturatingLane}
+use Rattle.trees.specs.Arith.{clamp, saturatingLane, kindBits}
 use Rattle.lower.specs.Builds.{Builds1, Builds2, BuildsIf}
-use Rattle.kinds.specs.Sources.{usesSecond, sourceBits}
+use Rattle.kinds.specs.Sources.{usesSecond}
 
 abbrev pub Lane : (w0 : List ℕ) (k : ℕ) (w1 : List ℕ) (r : Built) (kind : SaturatingKind) (a b : Node) (n : ℕ) (signed : Bool) → Type 0
 Lane w0 k w1 r kind a b n signed =
-    BuildsIf w0 k w1 r 16 a (sourceBits kind n) (usesSecond kind) b (sourceBits kind n) n (λ a b. saturatingLane kind a b n signed)
+    BuildsIf w0 k w1 r 16 a (kindBits kind n) (usesSecond kind) b (kindBits kind n) n (λ a b. saturatingLane kind a b n signed)
 
 module _ {w0 w1 : List ℕ} {k : ℕ} {r : Built} {kind : SaturatingKind} {a b : Node} {n : ℕ} (signed : Bool) where
   pub is-add-sub : {op : BinOp} {to : SaturateTo} → kind ≡ AddSub op to

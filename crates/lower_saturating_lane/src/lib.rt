@@ -5,9 +5,9 @@ use pool::Node;
 use trees::SaturatingKind;
 ghost use Prim.Native.Nat.{_≤_, _<_};
 ghost use Rattle.pool.specs.Growth.{Room};
-ghost use Rattle.trees.specs.Arith.{saturatingLane};
+ghost use Rattle.trees.specs.Arith.{saturatingLane, kindBits};
 ghost use Rattle.lower.specs.Builds.{BuildsIf};
-ghost use Rattle.kinds.specs.Sources.{usesSecond, sourceBits, KindIn};
+ghost use Rattle.kinds.specs.Sources.{usesSecond, KindIn};
 
 pub mod narrow;
 pub mod sum;
@@ -21,19 +21,19 @@ pub fn saturating_lane(
     a: Node,
     b: Node,
     lane_bits: u64,
-    signed: bool,
+    signed_sources: bool,
 ) -> Built
     requires { ⌜ Room (now pool) count 16 ⌝ }
     requires { ⌜ (a .0 < count) × (b .0 < count) × (1 ≤ «lane_bits») × KindIn kind «lane_bits» ⌝ }
-    ensures { λ r. ⌜ BuildsIf (now (pool .entry)) count (now (pool .exit)) r 16 a (sourceBits kind «lane_bits») (usesSecond kind) b (sourceBits kind «lane_bits»)
-        «lane_bits» (λ a b. saturatingLane kind a b «lane_bits» «signed») ⌝ }
+    ensures { λ r. ⌜ BuildsIf (now (pool .entry)) count (now (pool .exit)) r 16 a (kindBits kind «lane_bits») (usesSecond kind) b (kindBits kind «lane_bits»)
+        «lane_bits» (λ a b. saturatingLane kind a b «lane_bits» «signed_sources») ⌝ }
 {
     match kind {
         SaturatingKind::AddSub { op, to } => {
-            sum::add_sub_lane(pool, count, op, to, a, b, lane_bits, signed)
+            sum::add_sub_lane(pool, count, op, to, a, b, lane_bits, signed_sources)
         }
         SaturatingKind::Halving { rounding } => {
-            sum::halving_lane(pool, count, rounding, a, b, lane_bits, signed)
+            sum::halving_lane(pool, count, rounding, a, b, lane_bits, signed_sources)
         }
         SaturatingKind::Narrow { to } => {
             lower::arith::clamp(pool, count, a, lane_bits * 2, lane_bits, to)
@@ -42,7 +42,18 @@ pub fn saturating_lane(
             shift,
             rounding,
             to,
-        } => { narrow::shift_narrow_lane(pool, count, shift, rounding, to, a, lane_bits, signed) }
+        } => {
+            narrow::shift_narrow_lane(
+                pool,
+                count,
+                shift,
+                rounding,
+                to,
+                a,
+                lane_bits,
+                signed_sources,
+            )
+        }
         SaturatingKind::DoublingMultiplyHigh { rounding } => {
             lower_multiply_high::multiply_high_lane(pool, count, rounding, a, b, lane_bits)
         }

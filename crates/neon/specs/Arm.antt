@@ -158,7 +158,7 @@ armAt o v i d a b j =
 
 -- a narrowing "2" form has the new 64 bits above the low 64 of d
 abbrev pub placeBits : Lanes → Bool → ℕ → ℕ → ℕ
-placeBits l v new d = cond (isNarrow l && v) (new * 2 ^ 64 + d % 2 ^ 64) new
+placeBits l whole new d = cond (isNarrow l && whole) (new * 2 ^ 64 + d % 2 ^ 64) new
 
 -- the result of an instruction on the registers d, a, b, as they are read
 unfoldable pub armResult : Op → Arrangement → (i d a b : ℕ) → ℕ

@@ -165,14 +165,14 @@ readsD o v = dIn (form o .reads) || isNarrow (form o .lanes) && full v
 
 -- whether the first source is read at 128 bits, and the second; d is read at the view
 abbrev pub firstFull : Lanes → Bool → Bool
-firstFull Same v = v
-firstFull Narrow v = true
-firstFull (Long u) v = u
+firstFull Same whole = whole
+firstFull Narrow whole = true
+firstFull (Long u) whole = u
 
 abbrev pub secondFull : Lanes → (element : Bool) → Bool → Bool
-secondFull Same e v = v
-secondFull Narrow e v = true
-secondFull (Long u) e v = u || e
+secondFull Same e whole = whole
+secondFull Narrow e whole = true
+secondFull (Long u) e whole = u || e
 
 abbrev pub firstBits : Op → Arrangement → ℕ
 firstBits o v = bitsIf (firstFull (form o .lanes) (full v))
@@ -188,7 +188,7 @@ sourceBits (Long u) n = n / 2
 
 -- the bits that are made: 64 where the lanes narrow, else the view
 abbrev pub madeBits : Lanes → Bool → ℕ
-madeBits l v = cond (isNarrow l) 64 (bitsIf v)
+madeBits l whole = cond (isNarrow l) 64 (bitsIf whole)
 
 abbrev pub laneCount : Op → Arrangement → ℕ
 laneCount o v = madeBits (form o .lanes) (full v) / laneBits v

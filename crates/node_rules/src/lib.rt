@@ -103,6 +103,7 @@ fn extract_ok(f: Fields, n: u64, wa: u64, wb: u64, wc: u64) -> bool
     if wa <= f.x {
         return false;
     }
+    // hi - lo + 1 is in range from here on; what follows is the rule as it is written
     (f.a < n) & (f.b == 0) & (f.c == 0) & (f.y <= f.x) & (f.x < wa) & (f.width == f.x - f.y + 1)
 }
 

@@ -18,6 +18,7 @@ fn cut_from(pool: &[u64], value: Node, hi: Bit) -> Node
     let at = 4 * value.0;
     let src = (pool[at + 1] % 65536) as usize;
     let joins = (pool[at + 3] == 0) & (hi.0 <= pool[at + 2]);
+    // src is below value in a valid pool; of a damaged one the test keeps the answer below the count
     if (pool[at] % 65536 == 16) & joins & (src < value.0) {
         return Node(src);
     }
@@ -34,14 +35,20 @@ pub fn extract_collapsing(pool: &mut [u64], count: usize, value: Node, hi: Bit, 
     nodes::extract(pool, count, src, hi, lo)
 }
 
-// Lane `index` of `value`, of so many bits.
-pub fn extract_lane(pool: &mut [u64], count: usize, value: Node, bits: u64, index: Lane) -> Built
+// Lane `index` of `value`.
+pub fn extract_lane(
+    pool: &mut [u64],
+    count: usize,
+    value: Node,
+    lane_bits: u64,
+    index: Lane,
+) -> Built
     requires { ⌜ Room (now pool) count 1 ⌝ }
-    requires { ⌜ (value .0 < count) × (1 ≤ bits) × (bits * index .0 + bits ≤ 128) ⌝ }
-    ensures { λ r. ⌜ MadeLane (now (pool .entry)) count (now (pool .exit)) r value bits (index .0) ⌝ }
+    requires { ⌜ (value .0 < count) × (1 ≤ «lane_bits») × («lane_bits» * index .0 + «lane_bits» ≤ 128) ⌝ }
+    ensures { λ r. ⌜ MadeLane (now (pool .entry)) count (now (pool .exit)) r value «lane_bits» (index .0) ⌝ }
 {
-    let lo = bits * index.0;
-    extract_collapsing(pool, count, value, Bit(lo + bits - 1), Bit(lo))
+    let lo = lane_bits * index.0;
+    extract_collapsing(pool, count, value, Bit(lo + lane_bits - 1), Bit(lo))
 }
 
 // One turn of the Rust's loop over a Vec of lanes: `lane` is put above the lanes so far.

@@ -3,15 +3,15 @@ use mathlib.Core.Bool.{Bool, true, false, _&&_}
 use mathlib.Core.List.{List, [], _∷_}
 use Prim.Native.Nat.{ℕ}
 use lib.Dec.{eqb}
-use Rattle.terms.specs.Expr.{Const, Var, Extract, width}
+use Rattle.terms.specs.Expr.{Const, Var, Compare, Ite, Extract, Concat, width}
 use Rattle.terms.specs.Value.{value, msb, bvneg, bvnot, bvadd, bvsub, bvmul, bvshl, bvlshr, bvashr, bvslt, bvsext}
 use Rattle.neon.specs.Op.{Op, SQADD, SQSUB, UQSUB, SQSHLI, SQSHL, SSHL, SRSHL, SRI, SQDMULH, SQRDMULH, UQXTN, CLS, SQABS, SHADD, SQDMLAL, USQADD, SUQADD, SQRSHRN, UQRSHRN, SQSHLU, RADDHN, RSUBHN}
 use Rattle.neon.specs.Form.{form, sourceBits}
 use Rattle.neon.specs.Arm.{armLane, wrap, S, clampZ, cS, cU, ones, equalRun, lanes}
 use Rattle.trees.specs.Neon.{neonOp, valueOf}
 use mathlib.Core.Path.{_≡_, refl}
-use Rattle.trees.specs.Simd.{extract, extractCollapsing, extractLane, concatLanes}
-use Rattle.trees.specs.Arith.{clamp, saturatingLane, shiftRight, saturatingShiftLeft, shiftLane, leadingZeros, bitwiseUnaryLane, shiftInsertLane, mixedSignAddLane, doublingProduct, doublingLongLane, shiftLanes, shiftInsertLanes, mixedSignAddLanes, doublingLongLanes, saturatingLanes, bitwiseUnaryLanes}
+use Rattle.trees.specs.Simd.{extractCollapsing, extractLane, concatLanes}
+use Rattle.trees.specs.Arith.{Eq, clamp, saturatingLane, shiftRight, saturatingShiftLeft, shiftLane, leadingZeros, bitwiseUnaryLane, shiftInsertLane, mixedSignAddLane, doublingProduct, doublingLongLane, shiftLanes, shiftInsertLanes, mixedSignAddLanes, doublingLongLanes, keepLower, saturatingLanes, bitwiseUnaryLanes}
 use Rattle.trees.specs.Width.{highNarrowLane, highNarrowLanes}
 
 -- an operation, the bits n of a lane, the immediate i, the old lane d, the source lanes a and b, and the lane of the result
@@ -91,10 +91,10 @@ unfolding extractLane extractCollapsing
 lane-of-two = refl
 
 -- bits inside a lane
-bit-of-lane : extract (extractLane (Var 1) 8 15) 7 7 ≡ Extract (Extract (Var 1) 127 120) 7 7
-unfolding extractLane extractCollapsing
+bit-of-lane : leadingZeros (extractLane (Var 1) 8 0) 8 1 ≡ Ite (Compare Eq (Extract (Extract (Var 1) 7 0) 0 0) (Const 1 1)) (Const 7 8) (Const 8 8)
+unfolding leadingZeros extractLane extractCollapsing
 bit-of-lane = refl
 
 -- a low half
-half-of-view : extract (Extract (Var 1) 127 0) 63 0 ≡ Extract (Extract (Var 1) 127 0) 63 0
+half-of-view : keepLower true (Var 2) (Extract (Var 1) 127 0) 8 8 ≡ Concat (Var 2) (Extract (Extract (Var 1) 127 0) 63 0)
 half-of-view = refl

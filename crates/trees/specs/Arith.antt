@@ -49,7 +49,7 @@ shiftBy signed v by = Bv (cond signed AShr LShr) v by
 abbrev pub plusIf : Bool → Expr → Expr → Expr
 plusIf rounding v c = cond rounding (Bv Add v c) v
 
--- a rounding narrow is computed with one bit more than its source, and a doubled product with one more than the product
+-- a shifting narrow, rounding or not, is computed with one bit more than its source, and a doubled product with one more than the product
 abbrev pub narrowBits : ℕ → ℕ
 narrowBits n = n * 2 + 1
 
@@ -129,15 +129,22 @@ shiftLane (Register rounding saturate) signed value amount n =
     let by = signedAmount amount n in
     Ite (Compare Slt by (Const 0 n)) (shiftRight value (Bv Sub (Const 0 n) by) n signed rounding registerShiftMax) (leftBy saturate value by n signed)
 
+-- what bit j makes of t, which the bits below it made
+abbrev pub zerosAt : (n : ℕ) (v : Expr) → ℕ → Expr → Expr
+zerosAt n v j t = Ite (Compare Eq (extract v j j) (Const 1 1)) (Const (n - 1 - j) n) t
+
+abbrev pub countAt : (n : ℕ) (v : Expr) → ℕ → Expr → Expr
+countAt n v j t = Bv Add t (ZeroExtend (extract v j j) n)
+
 -- `leading_zeros`, of the bits below k: the test of bit k - 1 stands outermost
 unfoldable pub leadingZeros : Expr → ℕ → ℕ → Expr
 leadingZeros v n zero = Const n n
-leadingZeros v n (suc k) = Ite (Compare Eq (extract v k k) (Const 1 1)) (Const (n - 1 - k) n) (leadingZeros v n k)
+leadingZeros v n (suc k) = zerosAt n v k (leadingZeros v n k)
 
 -- the sum of the bits below k
 unfoldable pub populationCount : Expr → ℕ → ℕ → Expr
 populationCount v n zero = Const 0 n
-populationCount v n (suc k) = Bv Add (populationCount v n k) (ZeroExtend (extract v k k) n)
+populationCount v n (suc k) = countAt n v k (populationCount v n k)
 
 -- `bitwise_unary_lane`
 unfoldable pub bitwiseUnaryLane : BitwiseUnary → Expr → ℕ → Expr
@@ -209,13 +216,17 @@ narrowing (ShiftNarrow shift rounding to) = true
 narrowing (DoublingMultiplyHigh rounding) = false
 narrowing (Unary negate) = false
 
+-- the bits of a source lane
+abbrev pub kindBits : SaturatingKind → ℕ → ℕ
+kindBits kind n = cond (narrowing kind) (n * 2) n
+
 -- a narrowing "2" form keeps the lower half of d
 abbrev pub keepLower : (upper : Bool) (new d : Expr) (n k : ℕ) → Expr
 keepLower upper new d n k = cond upper (Concat new (extract d (n * k - 1) 0)) new
 
 unfoldable pub saturatingLanes : SaturatingKind → (signed upper : Bool) (first second d : Expr) (n k : ℕ) → Expr
 saturatingLanes kind signed upper first second d n k =
-    let m = cond (narrowing kind) (n * 2) n in
+    let m = kindBits kind n in
     keepLower upper (concatLanes (k - 1) λ j. saturatingLane kind (extractLane first m j) (extractLane second m j) n signed) d n k
 
 -- `bitwise_unary_lanes`

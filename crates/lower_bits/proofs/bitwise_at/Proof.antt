@@ -21,7 +21,7 @@ returns c =
     let l-bitwise-unary-lane = c .before .before in
     let l-extract-lane = l-bitwise-unary-lane .before .before .before .before in
     let st = l-extract-lane .before .before .before in
-    bitwise-at (st .args .op) (st .pre .1 .1 .2) (l-extract-lane .extract-lane .ensures) (l-bitwise-unary-lane .bitwise-unary-lane .ensures)
+    bitwise-at (st .args .kind) (st .pre .1 .1 .2) (l-extract-lane .extract-lane .ensures) (l-bitwise-unary-lane .bitwise-unary-lane .ensures)
 
 pub bitwise-at-spec : {M : Type 1} → statement M
 bitwise-at-spec =

@@ -73,7 +73,7 @@ returns c =
     let u = b .before .before in
     let k = bits (u .before) in
     let s = entry k in
-    at-two (s .args .kind) (s .args .signed) (s .pre .1 .1 .3) (k .source-bits .ensures) (used u) (first (u .before) .extract-lane .ensures)
+    at-two (s .args .kind) (s .args .signed-sources) (s .pre .1 .1 .3) (k .source-bits .ensures) (used u) (first (u .before) .extract-lane .ensures)
     (b .extract-lane2 .ensures) (l .saturating-lane .ensures)
 
 -- ---- one
@@ -94,7 +94,7 @@ returns-2 c =
     let e = l .before .before in
     let u = e .before in
     let s = entry (bits u) in
-    at-one (s .args .kind) (s .args .signed) (s .pre .1 .1 .3) (bits u .source-bits .ensures) (sym (u .uses-second .ensures) ∙ e .if1 .left)
+    at-one (s .args .kind) (s .args .signed-sources) (s .pre .1 .1 .3) (bits u .source-bits .ensures) (sym (u .uses-second .ensures) ∙ e .if1 .left)
     (first u .extract-lane .ensures) (l .saturating-lane2 .ensures)
 
 pub saturating-at-spec : {M : Type 1} → statement M

@@ -24,7 +24,7 @@ returns c =
     let l-if1 = l-keep-lower .before .before in
     let l-made-lanes = l-if1 .before .before .before in
     let st = l-made-lanes .before .before .before in
-    with-lower (st .args .kind) (st .args .signed) (st .args .lane-bits) (st .args .lanes) (l-if1 .if1 .taken) (l-made-lanes .made-lanes .ensures) (l-keep-lower .keep-lower .ensures)
+    with-lower (st .args .kind) (st .args .signed-sources) (st .args .lane-bits) (st .args .lanes) (l-if1 .if1 .taken) (l-made-lanes .made-lanes .ensures) (l-keep-lower .keep-lower .ensures)
 
 same-length-2 : tie.Need-same-length-2
 same-length-2 c = search needs
@@ -34,7 +34,7 @@ returns-2 c =
     let l-if1 = c in
     let l-made-lanes = l-if1 .before .before .before in
     let st = l-made-lanes .before .before .before in
-    alone (st .args .kind) (st .args .signed) (st .args .lane-bits) (st .args .lanes) (l-if1 .if1 .left) (l-made-lanes .made-lanes .ensures)
+    alone (st .args .kind) (st .args .signed-sources) (st .args .lane-bits) (st .args .lanes) (l-if1 .if1 .left) (l-made-lanes .made-lanes .ensures)
 
 pub saturating-lanes-spec : {M : Type 1} → statement M
 saturating-lanes-spec =

@@ -75,7 +75,7 @@ returns c =
     let l-add-sub-lane = c .before .before in
     let l-kind = l-add-sub-lane .before .before .before in
     let st = l-kind .before .before .before in
-    is-add-sub (st .args .signed) (l-kind .kind .given .1) (l-add-sub-lane .add-sub-lane .ensures)
+    is-add-sub (st .args .signed-sources) (l-kind .kind .given .1) (l-add-sub-lane .add-sub-lane .ensures)
 
 same-length-2 : tie.Need-same-length-2
 same-length-2 c = search needs
@@ -85,7 +85,7 @@ returns-2 c =
     let l-halving-lane = c .before .before in
     let l-kind2 = l-halving-lane .before .before .before in
     let st = l-kind2 .before .before .before in
-    is-halving (st .args .signed) (l-kind2 .kind2 .given .1) (l-halving-lane .halving-lane .ensures)
+    is-halving (st .args .signed-sources) (l-kind2 .kind2 .given .1) (l-halving-lane .halving-lane .ensures)
 
 same-length-3 : tie.Need-same-length-3
 same-length-3 c = search needs
@@ -95,7 +95,7 @@ returns-3 c =
     let l-clamp = c .before .before in
     let l-kind3 = l-clamp .before .before .before in
     let st = l-kind3 .before .before .before in
-    is-narrow (st .args .signed) (l-kind3 .kind3 .given .1) (l-clamp .clamp .ensures)
+    is-narrow (st .args .signed-sources) (l-kind3 .kind3 .given .1) (l-clamp .clamp .ensures)
 
 same-length-4 : tie.Need-same-length-4
 same-length-4 c = search needs
@@ -105,7 +105,7 @@ returns-4 c =
     let l-shift-narrow-lane = c .before .before in
     let l-kind4 = l-shift-narrow-lane .before .before .before in
     let st = l-kind4 .before .before .before in
-    is-shift-narrow (st .args .signed) (l-kind4 .kind4 .given .1) (l-shift-narrow-lane .shift-narrow-lane .ensures)
+    is-shift-narrow (st .args .signed-sources) (l-kind4 .kind4 .given .1) (l-shift-narrow-lane .shift-narrow-lane .ensures)
 
 same-length-5 : tie.Need-same-length-5
 same-length-5 c = search needs
@@ -115,7 +115,7 @@ returns-5 c =
     let l-multiply-high-lane = c .before .before in
     let l-kind5 = l-multiply-high-lane .before .before .before in
     let st = l-kind5 .before .before .before in
-    is-multiply-high (st .args .signed) (l-kind5 .kind5 .given .1) (l-multiply-high-lane .multiply-high-lane .ensures)
+    is-multiply-high (st .args .signed-sources) (l-kind5 .kind5 .given .1) (l-multiply-high-lane .multiply-high-lane .ensures)
 
 same-length-6 : tie.Need-same-length-6
 same-length-6 c = search needs
@@ -125,7 +125,7 @@ returns-6 c =
     let l-unary-lane = c .before .before in
     let l-kind6 = l-unary-lane .before .before .before in
     let st = l-kind6 .before .before .before in
-    is-unary (st .args .signed) (l-kind6 .kind6 .given .1) (l-unary-lane .unary-lane .ensures)
+    is-unary (st .args .signed-sources) (l-kind6 .kind6 .given .1) (l-unary-lane .unary-lane .ensures)
 
 pub saturating-lane-spec : {M : Type 1} → statement M
 saturating-lane-spec =

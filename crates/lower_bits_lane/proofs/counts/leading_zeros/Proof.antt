@@ -1,7 +1,7 @@
 use native.Mathlib.Omega.{arith}
 use native.Mathlib.Nat.{le-refl}
 use Prim.Native.Nat.{_-_, _≤_}
-use Rattle.lower_bits_lane.specs.Layers.{zerosAt}
+use Rattle.trees.specs.Arith.{zerosAt}
 use Rattle.lower_bits_lane.proofs.Layering.{BitsTo, BitsKept, bits-none, bits-more, bits-all, zerosTo, zeros-none, zeros-more}
 use Rattle.lower_bits_lane.proofs.counts.leading_zeros.Statement.{statement}
 use Rattle.lower_bits_lane.proofs.counts.leading_zeros.Tie as tie

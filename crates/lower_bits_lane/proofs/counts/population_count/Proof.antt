@@ -1,6 +1,6 @@
 use native.Mathlib.Omega.{arith}
 use Prim.Native.Nat.{_-_, _≤_}
-use Rattle.lower_bits_lane.specs.Layers.{countAt}
+use Rattle.trees.specs.Arith.{countAt}
 use Rattle.lower_bits_lane.proofs.Layering.{BitsTo, BitsKept, bits-none, bits-more, bits-all, countTo, count-none, count-more}
 use Rattle.lower_bits_lane.proofs.counts.population_count.Statement.{statement}
 use Rattle.lower_bits_lane.proofs.counts.population_count.Tie as tie
