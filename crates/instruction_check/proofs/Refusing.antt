@@ -1,11 +1,11 @@
 -- The tests of an instruction's refusals, in order. Assumes nothing.
-use Prim.Native.Nat.{ℕ, _+_, _-_, _*_, _/_, _≤_, _<_}
+use Prim.Native.Nat.{ℕ, _+_, _-_, _*_, _≤_, _<_}
 use mathlib.Core.Path.{_≡_, refl, subst, _∙_}
 use mathlib.Core.Bool.{Bool, true, false, not, _&&_}
 use mathlib.Core.List.{List}
 use native.Mathlib.Omega.{arith}
 use lib.Dec.{leb, ltb, eqb}
-use lib.ListN.{length, getD}
+use lib.ListN.{length}
 use borrow.Author.Tests.{leb-true, ltb-true, eqb-true, le-leb, lt-leb, lt-ltb, le-ltb, not-true, not-false}
 use Rattle.facts.specs.Refuse.{unless}
 use Rattle.facts.proofs.Tests.{and-both, passed}
@@ -33,10 +33,10 @@ module _ (ws : List ℕ) (count : ℕ) (wanted full : Bool) (node : ℕ) where
   pub source-above : not wanted ≡ false → count ≤ node → false ≡ sourceOk ws count wanted (bitsIf full) node
   source-above e h = rw (not-false wanted e, le-ltb node count h) refl
 
-  pub source-full : not wanted ≡ false → node < count → full ≡ true → eqb (getD ws (4 * node) 0 / 65536) 128 ≡ sourceOk ws count wanted (bitsIf full) node
+  pub source-full : not wanted ≡ false → node < count → full ≡ true → eqb (widthAt ws node) 128 ≡ sourceOk ws count wanted (bitsIf full) node
   source-full e h f = rw (not-false wanted e, lt-ltb node count h, f) refl
 
-  pub source-half : not wanted ≡ false → node < count → full ≡ false → eqb (getD ws (4 * node) 0 / 65536) 64 ≡ sourceOk ws count wanted (bitsIf full) node
+  pub source-half : not wanted ≡ false → node < count → full ≡ false → eqb (widthAt ws node) 64 ≡ sourceOk ws count wanted (bitsIf full) node
   source-half e h f = rw (not-false wanted e, lt-ltb node count h, f) refl
 
 pub source-is : (ws : List ℕ) (count : ℕ) (wanted : Bool) (w node : ℕ) → sourceOk ws count wanted w node ≡ true → wanted ≡ true

@@ -1,5 +1,6 @@
 // The refusals of one instruction: the pool, the form, the sources, the room.
 use pool::Node;
+use pool::words::width_of;
 ghost use mathlib.Core.Path.{_≡_};
 ghost use mathlib.Core.Bool.{true};
 ghost use Rattle.neon.specs.Op.{bitsIf, full as fullOf};
@@ -18,8 +19,7 @@ fn source_ok(pool: &[u64], count: usize, wanted: bool, full: bool, node: usize) 
     if count <= node {
         return false;
     }
-    let at = 4 * node;
-    let width = pool[at] / 65536;
+    let width = width_of(pool, Node(node));
     if full { width == 128 } else { width == 64 }
 }
 

@@ -1,13 +1,10 @@
--- A node's kind and operands, as numbers.
+-- A node's operands, as numbers.
 use mathlib.Core.Bool.{cond}
 use mathlib.Core.List.{List}
 use Prim.Native.Nat.{ℕ, _+_, _*_}
 use lib.Dec.{eqb}
 use lib.ListN.{getD}
-use Rattle.pool.specs.Node.{kindOf, aOf, bOf, cOf}
-
-abbrev pub kindNumber : List ℕ → ℕ → ℕ
-kindNumber ws n = kindOf (getD ws (4 * n) 0)
+use Rattle.pool.specs.Node.{kindNumber, aOf, bOf, cOf}
 
 abbrev pub opA : List ℕ → ℕ → ℕ
 opA ws n = aOf (getD ws (4 * n + 1) 0)

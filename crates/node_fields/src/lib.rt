@@ -1,26 +1,11 @@
-// The parts of a node's words (document 01, "Pool"), read one by one.
+// A node's operands and data (document 01, "Pool"), read one by one.
 use pool::Node;
+use pool::words::kind_of;
 ghost use mathlib.Core.Path.{_≡_};
 ghost use Prim.Native.Nat.{_+_, _*_, _<_};
 ghost use lib.ListN.{length};
-ghost use Rattle.pool.specs.Node.{wordAt, widthAt};
-ghost use Rattle.node_fields.specs.Fields.{kindNumber, opA, opB, opC, leftOf, rightOf};
-
-pub fn kind_of(p: &[u64], n: Node) -> u64
-    requires { ⌜ 4 * n .0 + 3 < length (now p) ⌝ }
-    ensures { λ r. ⌜ r ≡ kindNumber (now (p .entry)) (n .0) ⌝ }
-{
-    let at = 4 * n.0;
-    p[at] % 65536
-}
-
-pub fn width_of(p: &[u64], n: Node) -> u64
-    requires { ⌜ 4 * n .0 + 3 < length (now p) ⌝ }
-    ensures { λ r. ⌜ r ≡ widthAt (now (p .entry)) (n .0) ⌝ }
-{
-    let at = 4 * n.0;
-    p[at] / 65536
-}
+ghost use Rattle.pool.specs.Node.{wordAt};
+ghost use Rattle.node_fields.specs.Fields.{opA, opB, opC, leftOf, rightOf};
 
 pub fn first(p: &[u64], n: Node) -> Node
     requires { ⌜ 4 * n .0 + 3 < length (now p) ⌝ }

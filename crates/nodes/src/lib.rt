@@ -3,30 +3,23 @@ use pool::Bit;
 use pool::Built;
 use pool::Node;
 use pool::push;
+use pool::words::kind_word;
+use pool::words::width_of;
 use terms::BinOp;
 use terms::CmpOp;
 ghost use mathlib.Core.Path.{_≡_};
-ghost use Prim.Native.Nat.{_*_, _≤_, _<_, _%_};
+ghost use Prim.Native.Nat.{_+_, _*_, _≤_, _<_, _%_};
 ghost use lib.ListN.{length};
-ghost use Rattle.pool.specs.Node.{kindWord, operandWord, widthAt, bvCode, compareCode};
+ghost use Rattle.pool.specs.Node.{operandWord, widthAt, bvCode, compareCode};
 ghost use Rattle.pool.specs.Growth.{Room};
 ghost use Rattle.nodes.specs.Builders.{MadeVar, MadeConst, MadeBv, MadeCompare, MadeIte, MadeExtract, MadeConcat, MadeZeroExtend, MadeSignExtend};
 
 // The width in bits of a node, 0 for a condition. That of a valid node is below 256.
 fn width(pool: &[u64], a: Node) -> u64
-    requires { ⌜ 4 * a .0 < length (now pool) ⌝ }
+    requires { ⌜ 4 * a .0 + 3 < length (now pool) ⌝ }
     ensures { λ r. ⌜ (r ≡ widthAt (now (pool .entry)) (a .0) % 256) × (r < 256) ⌝ }
 {
-    let at = 4 * a.0;
-    pool[at] / 65536 % 256
-}
-
-// Word 0, of a kind and a width.
-fn kind_word(kind: u64, width: u64) -> u64
-    requires { ⌜ (kind < 65536) × (width < 65536) ⌝ }
-    ensures { λ r. ⌜ r ≡ kindWord kind width ⌝ }
-{
-    kind + 65536 * width
+    width_of(pool, a) % 256
 }
 
 // Word 1, of up to three operands.

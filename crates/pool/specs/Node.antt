@@ -87,6 +87,9 @@ decode w0 w1 w2 w3 = record { kind = kindAt (kindOf w0); width = widthOf w0; a =
 abbrev pub cellAt : List ℕ → ℕ → Cell
 cellAt ws n = decode (getD ws (4 * n) 0) (getD ws (4 * n + 1) 0) (getD ws (4 * n + 2) 0) (getD ws (4 * n + 3) 0)
 
+abbrev pub kindNumber : List ℕ → ℕ → ℕ
+kindNumber ws n = kindOf (getD ws (4 * n) 0)
+
 abbrev pub widthAt : List ℕ → ℕ → ℕ
 widthAt ws n = widthOf (getD ws (4 * n) 0)
 

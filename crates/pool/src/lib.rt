@@ -3,6 +3,8 @@ ghost use mathlib.Core.Path.{_≡_};
 ghost use Rattle.pool.specs.Node.{none, places};
 ghost use Rattle.pool.specs.Growth.{Room, Pushed};
 
+pub mod words;
+
 // The number of a node of a pool.
 pub struct Node(pub usize);
 

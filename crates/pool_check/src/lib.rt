@@ -1,6 +1,9 @@
 // The pool check of document 01: whether every node below the count keeps the pool's rules.
 use node_rules::Fields;
 use node_rules::kind_ok;
+use pool::Node;
+use pool::words::kind_of;
+use pool::words::width_of;
 ghost use mathlib.Core.Path.{_≡_};
 ghost use Prim.Native.Nat.{_+_, _*_, _≤_, _<_, _^_};
 ghost use lib.ListN.{length};
@@ -12,11 +15,10 @@ fn fields_at(pool: &[u64], n: usize) -> Fields
     ensures { λ r. ⌜ r ≡ fieldsAt (now (pool .entry)) n ⌝ }
 {
     let at = 4 * n;
-    let w0 = pool[at];
     let w1 = pool[at + 1];
     Fields {
-        kind: w0 % 65536,
-        width: w0 / 65536,
+        kind: kind_of(pool, Node(n)),
+        width: width_of(pool, Node(n)),
         a: w1 % 65536,
         b: w1 / 65536 % 65536,
         c: w1 / 4294967296,
@@ -33,8 +35,7 @@ fn width_before(pool: &[u64], n: usize, m: u64) -> u64
     if (n as u64) <= m {
         return 0;
     }
-    let at = 4 * (m as usize);
-    pool[at] / 65536
+    width_of(pool, Node(m as usize))
 }
 
 // Whether node n obeys the rules.

@@ -1,19 +1,19 @@
 -- A lane cut: it is taken from the node that `cutFrom` names, and is the Rust's term. Assumes nothing.
-use Prim.Native.Nat.{ℕ, _+_, _-_, _*_, _%_, _≤_, _<_}
+use Prim.Native.Nat.{ℕ, _+_, _-_, _*_, _≤_, _<_}
 use mathlib.Core.Path.{_≡_, refl, sym, ap, _∙_}
 use mathlib.Core.Bool.{Bool, true, false, cond, _&&_}
 use mathlib.Core.List.{List}
 use mathlib.Core.Logic.{⊎-elim}
 use native.Mathlib.Omega.{arith}
 use native.Mathlib.Nat.{lt-trans, lt-of-le-of-lt, le-of-lt}
-use lib.ListN.{getD}
 use lib.Dec.{leb, ltb, eqb}
 use borrow.Author.Tests.{lt-ltb, le-leb, ltb-true, leb-true, eqb-true}
 use Rattle.facts.proofs.Tests.{and-both}
 use Rattle.terms.specs.Expr.{Expr, Extract}
 use Rattle.pool.specs.declared.Node.{Node}
 use Rattle.pool.specs.declared.Built.{Built}
-use Rattle.pool.specs.Node.{Kind, bad, var, const, bv, compare, ite, extract, concat, zext, sext, kinds, kindAt, kindOf, aOf, Cell, decode, cellAt, widthAt}
+use Rattle.pool.specs.Node.{Kind, bad, var, const, bv, compare, ite, extract, concat, zext, sext, kinds, kindAt, Cell, decode, cellAt, wordAt, kindNumber, widthAt}
+use Rattle.node_fields.specs.Fields.{opA}
 use Rattle.pool.specs.Rules.{Valid}
 use Rattle.pool.specs.Unfold.{shapeOf, unfoldAt}
 use Rattle.pool.specs.Growth.{NodeIs}
@@ -33,10 +33,10 @@ pub record Source (ws : List ℕ) (k n hi : ℕ) (t : Expr) : Type 0 where
   pub same : (lo : ℕ) → Extract term hi lo ≡ extractCollapsing t hi lo
 
 -- a joined cut's operand stands before the node
-pub joined-below : (ws : List ℕ) (v hi : ℕ) → joinsAt ws v hi ≡ true → aOf (getD ws (4 * v + 1) 0) ≤ v
+pub joined-below : (ws : List ℕ) (v hi : ℕ) → joinsAt ws v hi ≡ true → opA ws v ≤ v
 joined-below ws v hi e =
-    let cut = eqb (kindOf (getD ws (4 * v) 0)) 16 && joins hi (getD ws (4 * v + 2) 0) (getD ws (4 * v + 3) 0) in
-    le-of-lt (ltb-true (aOf (getD ws (4 * v + 1) 0)) v (and-both cut (ltb (aOf (getD ws (4 * v + 1) 0)) v) e .1))
+    let cut = eqb (kindNumber ws v) 16 && joins hi (wordAt ws v 2) (wordAt ws v 3) in
+    le-of-lt (ltb-true (opA ws v) v (and-both cut (ltb (opA ws v) v) e .1))
 
 and-last : (a b : Bool) → b ≡ true → (a && b) ≡ false → a ≡ false
 and-last true b p q = sym p ∙ q
@@ -63,7 +63,7 @@ extract-code n e =
     ⊎-elim (λ p. let z : _≡_ {A = ℕ} 0 16 = ap codeOf (sym p ∙ e) in absurd (omega arith)) (λ p. sym p ∙ ap codeOf e) (kind-code n)
 
 module _ (ws : List ℕ) (k v w hi : ℕ) (t : Expr) (valid : Valid ws k) (h : NodeIs ws k v w t) (i : hi < w) where
-  joined : joinsAt ws v hi ≡ true → Source ws k (aOf (getD ws (4 * v + 1) 0)) hi t
+  joined : joinsAt ws v hi ≡ true → Source ws k (opA ws v) hi t
   unfolding decode kindAt kinds extractCollapsing
   joined e =
       let p2 = and-both _ _ e in
@@ -71,7 +71,7 @@ module _ (ws : List ℕ) (k v w hi : ℕ) (t : Expr) (valid : Valid ws k) (h : N
       let c = cellAt ws v in
       let j = and-both (eqb (c .y) 0) (leb hi (c .x)) (p1 .1) in
       let below : c .a < v = ltb-true _ _ (p2 .1) in
-      let code : getD ws (4 * v) 0 % 65536 ≡ 16 = eqb-true _ _ (p1 .0) in
+      let code : kindNumber ws v ≡ 16 = eqb-true _ _ (p1 .0) in
       let kind : c .kind ≡ extract = ap kindAt code in
       let rule : ExtractRule ws v c = extract-rule ws v c (rw kind at (valid-node ws k v valid (h .under))) in
       let low : c .y ≡ 0 = eqb-true _ _ (j .0) in
@@ -92,8 +92,8 @@ module _ (ws : List ℕ) (k v w hi : ℕ) (t : Expr) (valid : Valid ws k) (h : N
       let c = cellAt ws v in
       let no : c .kind ≡ extract → joins hi (c .x) (c .y) ≡ false = λ kind.
       let rule : ExtractRule ws v c = extract-rule ws v c (rw kind at (valid-node ws k v valid (h .under))) in
-      let q : (eqb (getD ws (4 * v) 0 % 65536) 16 && joins hi (c .x) (c .y)) ≡ false = and-last _ _ (lt-ltb _ _ (rule .earlier-a)) e in
-      rw (extract-code (getD ws (4 * v) 0 % 65536) kind) at q in
+      let q : (eqb (kindNumber ws v) 16 && joins hi (c .x) (c .y)) ≡ false = and-last _ _ (lt-ltb _ _ (rule .earlier-a)) e in
+      rw (extract-code (kindNumber ws v) kind) at q in
       record {
         width = w;
         term = t;
@@ -105,7 +105,7 @@ module _ (ws : List ℕ) (k v w hi : ℕ) (t : Expr) (valid : Valid ws k) (h : N
   pub source : Source ws k (cutFrom ws v hi) hi t
   source = go (joinsAt ws v hi) refl
     where
-      go : (b : Bool) → joinsAt ws v hi ≡ b → Source ws k (cond b (aOf (getD ws (4 * v + 1) 0)) v) hi t
+      go : (b : Bool) → joinsAt ws v hi ≡ b → Source ws k (cond b (opA ws v) v) hi t
       go true e = joined e
       go false e = apart e
 

@@ -4,11 +4,11 @@ use mathlib.Core.List.{List, []}
 use mathlib.Core.Path.{_≡_}
 use Prim.Native.Nat.{ℕ, _+_, _-_, _*_, _≤_, _<_}
 use lib.Dec.{ltb, eqb}
-use lib.ListN.{getD}
 use Rattle.terms.specs.Expr.{Expr}
 use Rattle.pool.specs.declared.Node.{Node}
 use Rattle.pool.specs.declared.Built.{Built}
-use Rattle.pool.specs.Node.{kindOf, aOf}
+use Rattle.pool.specs.Node.{kindNumber, wordAt}
+use Rattle.node_fields.specs.Fields.{opA}
 use Rattle.pool.specs.Rules.{Valid}
 use Rattle.pool.specs.Growth.{NodeIs}
 use Rattle.nodes.specs.Builders.{Takes, Makes}
@@ -17,10 +17,10 @@ use Rattle.trees.specs.Simd.{joins, extractCollapsing, extractLane}
 -- a lane cut of node v up to bit hi is joined to v where v is an Extract that `joins` allows; it is then taken from v's own operand
 abbrev pub joinsAt : List ℕ → ℕ → ℕ → Bool
 joinsAt ws v hi =
-    eqb (kindOf (getD ws (4 * v) 0)) 16 && joins hi (getD ws (4 * v + 2) 0) (getD ws (4 * v + 3) 0) && ltb (aOf (getD ws (4 * v + 1) 0)) v
+    eqb (kindNumber ws v) 16 && joins hi (wordAt ws v 2) (wordAt ws v 3) && ltb (opA ws v) v
 
 abbrev pub cutFrom : List ℕ → ℕ → ℕ → ℕ
-cutFrom ws v hi = cond (joinsAt ws v hi) (aOf (getD ws (4 * v + 1) 0)) v
+cutFrom ws v hi = cond (joinsAt ws v hi) (opA ws v) v
 
 -- `extract_collapsing` and `extract_lane`, at any width w of the operand. The answer may not reach the operand: a joined cut goes past it.
 module _ (old : List ℕ) (k : ℕ) (new : List ℕ) (r : Built) where

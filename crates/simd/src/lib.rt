@@ -1,8 +1,12 @@
 // The Rust's lift/simd.rs: cuts of lanes, and their concatenation.
 use neon::Lane;
+use node_fields::first;
+use node_fields::high;
+use node_fields::low;
 use pool::Bit;
 use pool::Built;
 use pool::Node;
+use pool::words::kind_of;
 ghost use mathlib.Core.Path.{_≡_};
 ghost use Prim.Native.Nat.{_+_, _*_, _≤_, _<_};
 ghost use lib.ListN.{length};
@@ -12,15 +16,14 @@ ghost use Rattle.simd.specs.Cut.{cutFrom, MadeCut, MadeLane};
 
 // The node that a cut of `value` up to the bit hi is taken from.
 fn cut_from(pool: &[u64], value: Node, hi: Bit) -> Node
-    requires { ⌜ 4 * (value .0 + 1) ≤ length (now pool) ⌝ }
+    requires { ⌜ 4 * value .0 + 3 < length (now pool) ⌝ }
     ensures { λ r. ⌜ (r .0 ≡ cutFrom (now (pool .entry)) (value .0) (hi .0)) × (r .0 ≤ value .0) ⌝ }
 {
-    let at = 4 * value.0;
-    let src = (pool[at + 1] % 65536) as usize;
-    let joins = (pool[at + 3] == 0) & (hi.0 <= pool[at + 2]);
+    let src = first(pool, value);
+    let joins = (high(pool, value) == 0) & (hi.0 <= low(pool, value));
     // src is below value in a valid pool; of a damaged one the test keeps the answer below the count
-    if (pool[at] % 65536 == 16) & joins & (src < value.0) {
-        return Node(src);
+    if (kind_of(pool, value) == 16) & joins & (src.0 < value.0) {
+        return src;
     }
     value
 }

@@ -7,8 +7,8 @@ use native.Mathlib.Omega.{arith}
 use lib.Dec.{eqb}
 use borrow.Author.Tests.{eqb-true, eqb-false, eq-eqb, ne-eqb}
 use Rattle.terms.specs.Display.{bytes}
-use Rattle.pool.specs.Node.{kinds, kindAt}
-use Rattle.node_fields.specs.Fields.{kindNumber, opA, leftOf, rightOf}
+use Rattle.pool.specs.Node.{kinds, kindAt, kindNumber}
+use Rattle.node_fields.specs.Fields.{opA, leftOf, rightOf}
 use Rattle.digits.specs.Writing.{Room}
 use Rattle.digits.proofs.Laws.{room-front, room-as}
 use Rattle.text_operators.specs.Between.{Joined, betweenText}

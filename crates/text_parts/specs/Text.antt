@@ -6,10 +6,9 @@ use Prim.Native.Nat.{ℕ, _+_, _*_, _<_}
 use lib.Dec.{eqb, leb}
 use lib.ListN.{length}
 use Rattle.terms.specs.Display.{bytes, decimal, display}
-use Rattle.pool.specs.Node.{Kind, bad, var, const, bv, compare, ite, extract, concat, zext, sext, kindAt, widthAt, wordAt}
+use Rattle.pool.specs.Node.{Kind, bad, var, const, bv, compare, ite, extract, concat, zext, sext, kindAt, widthAt, wordAt, kindNumber}
 use Rattle.pool.specs.Rules.{Valid}
 use Rattle.pool.specs.Unfold.{unfoldAt}
-use Rattle.node_fields.specs.Fields.{kindNumber}
 
 -- the text of node n
 unfoldable pub text : List ℕ → ℕ → List ℕ

@@ -5,15 +5,14 @@ use digits::put_decimal;
 use digits::put_hex;
 use node_fields::high;
 use node_fields::low;
-use node_fields::width_of;
 use pool::Node;
+use pool::words::width_of;
 ghost use mathlib.Core.Path.{_≡_};
 ghost use mathlib.Core.Bool.{true};
 ghost use mathlib.Core.List.{_∷_, _++_};
 ghost use Prim.Native.Nat.{_≤_, _<_};
 ghost use Rattle.terms.specs.Display.{bytes, decimal, hexadecimal};
-ghost use Rattle.pool.specs.Node.{wide};
-ghost use Rattle.node_fields.specs.Fields.{kindNumber};
+ghost use Rattle.pool.specs.Node.{wide, kindNumber};
 ghost use Rattle.digits.specs.Writing.{Room, Wrote};
 ghost use Rattle.text_parts.specs.Text.{text, Ready, openText, widthText, endText, single};
 

@@ -2,12 +2,12 @@
 // term that the node unfolds to.
 use digits::put;
 use node_fields::first;
-use node_fields::kind_of;
 use node_fields::left;
 use node_fields::right;
 use node_fields::second;
-use node_fields::width_of;
 use pool::Node;
+use pool::words::kind_of;
+use pool::words::width_of;
 use text_operators::put_between;
 use text_parts::is_single;
 use text_parts::put_end;

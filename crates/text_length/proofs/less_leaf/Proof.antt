@@ -34,7 +34,7 @@ width-of-requires c κs = search needs
 decimal-length-requires-2 : tie.Need-decimal-length-requires-2
 decimal-length-requires-2 c κs =
     let st = c .before .before .before in
-    rw (c .width-of .ensures) (width-small (st .args .p .now) (st .args .n .0) (st .pre .0) (st .args .k) (st .pre .1))
+    rw (c .width-of .ensures .0) (width-small (st .args .p .now) (st .args .n .0) (st .pre .0) (st .args .k) (st .pre .1))
 
 add-less-2 : tie.Need-add-less-2
 add-less-2 c = search needs
@@ -60,7 +60,7 @@ returns-2 c =
     let l-width-of = l-decimal-length2 .before in
     let l-if1 = l-width-of .before in
     let st = l-if1 .before .before in
-    omega (arith, size-const (st .args .p .now) (st .args .n .0) (st .pre .0) (st .args .k) (st .pre .1) (is-const (st .args .p .now) (st .args .n .0) (st .pre .0) (st .args .k) (st .pre .1) (st .pre .2) (l-if1 .if1 .left)), l-less2 .less2 .ensures, rw (l-width-of .width-of .ensures) at (l-decimal-length2 .decimal-length2 .ensures .0), rw (l-low2 .low2 .ensures, l-high .high .ensures) at (c .less-hex .ensures))
+    omega (arith, size-const (st .args .p .now) (st .args .n .0) (st .pre .0) (st .args .k) (st .pre .1) (is-const (st .args .p .now) (st .args .n .0) (st .pre .0) (st .args .k) (st .pre .1) (st .pre .2) (l-if1 .if1 .left)), l-less2 .less2 .ensures, rw (l-width-of .width-of .ensures .0) at (l-decimal-length2 .decimal-length2 .ensures .0), rw (l-low2 .low2 .ensures, l-high .high .ensures) at (c .less-hex .ensures))
 
 pub less-leaf-spec : {M : Type 1} → statement M
 less-leaf-spec =

@@ -49,7 +49,7 @@ width-of-requires c κs = search needs
 decimal-length-requires-3 : tie.Need-decimal-length-requires-3
 decimal-length-requires-3 c κs =
     let st = c .before .before .before in
-    rw (c .width-of .ensures) (width-small (st .args .p .now) (st .args .n .0) (st .pre .0) (st .args .k) (st .pre .1))
+    rw (c .width-of .ensures .0) (width-small (st .args .p .now) (st .args .n .0) (st .pre .0) (st .args .k) (st .pre .1))
 
 add-less-2 : tie.Need-add-less-2
 add-less-2 c = search needs
@@ -63,7 +63,7 @@ returns-2 c =
     let l-width-of = l-decimal-length3 .before in
     let l-if1 = l-width-of .before in
     let st = l-if1 .before .before in
-    omega (arith, about-extend (st .args .p .now) (st .args .n .0) (st .pre .0) (st .args .k) (st .pre .1) (from-18 (is-single _ (st .pre .2)) (l-if1 .if1 .left)), c .less3 .ensures, rw (l-width-of .width-of .ensures) at (l-decimal-length3 .decimal-length3 .ensures .0))
+    omega (arith, about-extend (st .args .p .now) (st .args .n .0) (st .pre .0) (st .args .k) (st .pre .1) (from-18 (is-single _ (st .pre .2)) (l-if1 .if1 .left)), c .less3 .ensures, rw (l-width-of .width-of .ensures .0) at (l-decimal-length3 .decimal-length3 .ensures .0))
 
 pub less-single-spec : {M : Type 1} → statement M
 less-single-spec =

@@ -63,7 +63,7 @@ put-width-requires c κs =
     let l-width-of = c .before in
     let l-if1 = l-width-of .before in
     let st = l-if1 .before .before .before in
-    room-as (end-width (st .args .p .now) (st .args .n .0) (st .pre .0 .1) (from-18 (is-single _ (st .pre .0 .2)) (l-if1 .if1 .left)) (to-nineteen (st .args .p .now) (st .args .n .0) (st .pre .0 .0) (st .args .k) (st .pre .0 .1)) (l-width-of .width-of .ensures)) (st .pre .1)
+    room-as (end-width (st .args .p .now) (st .args .n .0) (st .pre .0 .1) (from-18 (is-single _ (st .pre .0 .2)) (l-if1 .if1 .left)) (to-nineteen (st .args .p .now) (st .args .n .0) (st .pre .0 .0) (st .args .k) (st .pre .0 .1)) (l-width-of .width-of .ensures .0)) (st .pre .1)
 
 same-length-2 : tie.Need-same-length-2
 same-length-2 c = search needs
@@ -74,7 +74,7 @@ returns-2 c =
     let l-width-of = l-put-width .before .before in
     let l-if1 = l-width-of .before in
     let st = l-if1 .before .before .before in
-    wrote-as (end-width (st .args .p .now) (st .args .n .0) (st .pre .0 .1) (from-18 (is-single _ (st .pre .0 .2)) (l-if1 .if1 .left)) (to-nineteen (st .args .p .now) (st .args .n .0) (st .pre .0 .0) (st .args .k) (st .pre .0 .1)) (l-width-of .width-of .ensures)) (l-put-width .put-width .ensures)
+    wrote-as (end-width (st .args .p .now) (st .args .n .0) (st .pre .0 .1) (from-18 (is-single _ (st .pre .0 .2)) (l-if1 .if1 .left)) (to-nineteen (st .args .p .now) (st .args .n .0) (st .pre .0 .0) (st .args .k) (st .pre .0 .1)) (l-width-of .width-of .ensures .0)) (l-put-width .put-width .ensures)
 
 pub put-end-spec : {M : Type 1} → statement M
 put-end-spec =

@@ -57,7 +57,7 @@ put-numbered-requires-2 c κs =
     let l-low2 = l-high .before in
     let l-if1 = l-low2 .before in
     let st = l-if1 .before .before .before in
-    room-step (l-put-value .put-value .ensures) (room-as (whole-const (st .args .p .now) (st .args .n .0) (st .pre .0 .0) (st .args .k) (st .pre .0 .1) (is-const (st .args .p .now) (st .args .n .0) (st .pre .0 .0) (st .args .k) (st .pre .0 .1) (st .pre .0 .2) (l-if1 .if1 .left)) (l-low2 .low2 .ensures) (l-high .high .ensures) (l-width-of .width-of .ensures)) (st .pre .1))
+    room-step (l-put-value .put-value .ensures) (room-as (whole-const (st .args .p .now) (st .args .n .0) (st .pre .0 .0) (st .args .k) (st .pre .0 .1) (is-const (st .args .p .now) (st .args .n .0) (st .pre .0 .0) (st .args .k) (st .pre .0 .1) (st .pre .0 .2) (l-if1 .if1 .left)) (l-low2 .low2 .ensures) (l-high .high .ensures) (l-width-of .width-of .ensures .0)) (st .pre .1))
 
 same-length-2 : tie.Need-same-length-2
 same-length-2 c = search needs
@@ -72,7 +72,7 @@ returns-2 c =
     let l-low2 = l-high .before in
     let l-if1 = l-low2 .before in
     let st = l-if1 .before .before .before in
-    wrote-as (whole-const (st .args .p .now) (st .args .n .0) (st .pre .0 .0) (st .args .k) (st .pre .0 .1) (is-const (st .args .p .now) (st .args .n .0) (st .pre .0 .0) (st .args .k) (st .pre .0 .1) (st .pre .0 .2) (l-if1 .if1 .left)) (l-low2 .low2 .ensures) (l-high .high .ensures) (l-width-of .width-of .ensures)) (wrote-then (l-put-value .put-value .ensures) (l-put-numbered2 .put-numbered2 .ensures))
+    wrote-as (whole-const (st .args .p .now) (st .args .n .0) (st .pre .0 .0) (st .args .k) (st .pre .0 .1) (is-const (st .args .p .now) (st .args .n .0) (st .pre .0 .0) (st .args .k) (st .pre .0 .1) (st .pre .0 .2) (l-if1 .if1 .left)) (l-low2 .low2 .ensures) (l-high .high .ensures) (l-width-of .width-of .ensures .0)) (wrote-then (l-put-value .put-value .ensures) (l-put-numbered2 .put-numbered2 .ensures))
 
 pub put-leaf-spec : {M : Type 1} → statement M
 put-leaf-spec =

@@ -5,7 +5,8 @@ use Prim.Native.Nat.{ℕ}
 use native.Mathlib.Omega.{arith}
 use denote.Ref.{at-last}
 use Rattle.terms.specs.Display.{bytes}
-use Rattle.node_fields.specs.Fields.{kindNumber, opA, opB}
+use Rattle.pool.specs.Node.{kindNumber}
+use Rattle.node_fields.specs.Fields.{opA, opB}
 use Rattle.digits.specs.Writing.{Room, Wrote}
 use Rattle.digits.proofs.Laws.{room-front, room-step, room-as}
 use Rattle.text_operators.specs.Between.{betweenText}

@@ -10,7 +10,7 @@ use Rattle.text_terms.proofs.write_term.Kinds as write-term-kinds
 use Rattle.text_terms.proofs.+write_condition+write_term.Lts-write_term as write-term-lts
 use Rattle.digits.proofs.put.Reads as put-reads
 use Rattle.node_fields.proofs.first.Reads as first-reads
-use Rattle.node_fields.proofs.kind_of.Reads as kind-of-reads
+use Rattle.pool.proofs.words.kind_of.Reads as kind-of-reads
 use Rattle.node_fields.proofs.left.Reads as left-reads
 use Rattle.node_fields.proofs.right.Reads as right-reads
 use Rattle.node_fields.proofs.second.Reads as second-reads
