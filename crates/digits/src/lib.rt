@@ -58,8 +58,8 @@ pub fn decimal_length(x: u64) -> usize
     requires { ⌜ x < 1000 ⌝ }
     ensures { λ r. ⌜ (r ≡ length (decimal x)) × (r ≤ 3) ⌝ }
 {
-    let two = if x < 10 { 1 } else { 2 };
-    if x < 100 { two } else { two + 1 }
+    let digits = if x < 10 { 1 } else { 2 };
+    if x < 100 { digits } else { digits + 1 }
 }
 
 // The digits of a number from 10 on. Two are written without a further call: most numbers have no more.
@@ -79,7 +79,7 @@ fn put_tens(x: u64, buf: &mut [u8], at: usize) -> usize
     i + 1
 }
 
-// Decimal digits.
+// Decimal digits. One is written without a call.
 pub fn put_decimal(x: u64, buf: &mut [u8], at: usize) -> usize
     requires { ⌜ Room (now buf) at (decimal x) ⌝ }
     ensures { λ r. ⌜ Wrote (now (buf .entry)) at (decimal x) r (now (buf .exit)) ⌝ }
@@ -109,7 +109,8 @@ pub fn less_hex(low: u64, high: u64, b: usize) -> usize
     less_hex(low / 16 + high % 16 * 1152921504606846976, high / 16, c)
 }
 
-// The hexadecimal digits of two words, a number from 16 on.
+// The hexadecimal digits of two words, a number from 16 on. 1152921504606846976 is 2^60: the high word's last digit becomes the low
+// word's first.
 fn put_sixteens(low: u64, high: u64, buf: &mut [u8], at: usize) -> usize
     requires { ⌜ 16 ≤ wide low high ⌝ }
     requires { ⌜ Room (now buf) at (hexadecimal (wide low high)) ⌝ }
@@ -127,7 +128,7 @@ fn put_sixteens(low: u64, high: u64, buf: &mut [u8], at: usize) -> usize
     i + 1
 }
 
-// Hexadecimal digits of two words.
+// Hexadecimal digits of two words. One is written without a call.
 pub fn put_hex(low: u64, high: u64, buf: &mut [u8], at: usize) -> usize
     requires { ⌜ Room (now buf) at (hexadecimal (wide low high)) ⌝ }
     ensures { λ r. ⌜ Wrote (now (buf .entry)) at (hexadecimal (wide low high)) r (now (buf .exit)) ⌝ }

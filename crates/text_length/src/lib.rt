@@ -84,7 +84,7 @@ fn less_node(p: &&[u64], n: Node, b: usize) -> usize
     less_node(p, right(*p, n), d)
 }
 
-// The same, of a pool at hand.
+// The same, of a plain slice.
 pub fn measure(p: &[u64], n: Node, b: usize) -> usize
     requires { ⌜ Ready (now p) (n .0) ⌝ }
     ensures { λ r. ⌜ r ≡ b - length (text (now (p .entry)) (n .0)) ⌝ }
