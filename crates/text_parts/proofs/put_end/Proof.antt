@@ -1,9 +1,36 @@
+use mathlib.Core.Path.{_≡_}
+use Rattle.digits.specs.Writing.{Room}
 use Rattle.digits.proofs.Laws.{room-front, room-step, room-as, wrote-then, wrote-as}
+use Rattle.text_parts.specs.Text.{endText, rangeText, widthText}
 use Rattle.text_parts.proofs.Operands.{is-single, from-18, to-nineteen}
 use Rattle.text_parts.proofs.Tree.{end-range, end-width}
 use borrow.Author.Needs.{needs}
 use Rattle.text_parts.proofs.put_end.Statement.{statement}
 use Rattle.text_parts.proofs.put_end.Tie as tie
+
+-- an Extract, whose bits are read
+abbrev start-range : tie.After-high → tie.Start
+start-range c = c .before .before .before .before .before
+
+range-is : (c : tie.After-high) → let a = start-range c .args in endText (a .p .now) (a .n .0) ≡ rangeText (c .before .low .result) (c .high .result)
+range-is c =
+    let l = c .before in
+    let s = start-range c in
+    end-range (s .args .p .now) (s .args .n .0) (s .pre .0 .1) (l .before .if1 .taken) (l .low .ensures) (c .high .ensures)
+
+range-room : (c : tie.After-high) → let a = start-range c .args in Room (a .buf .now) (a .at) (rangeText (c .before .low .result) (c .high .result))
+range-room c = room-as (range-is c) (start-range c .pre .1)
+
+-- an extension, whose width is read
+abbrev start-width : tie.After-width-of → tie.Start
+start-width c = c .before .before .before .before
+
+width-is : (c : tie.After-width-of) → let a = start-width c .args in endText (a .p .now) (a .n .0) ≡ widthText (c .width-of .result)
+width-is c =
+    let s = start-width c in
+    let a = s .args in
+    let h = s .pre .0 in
+    end-width (a .p .now) (a .n .0) (h .1) (from-18 (is-single _ (h .2)) (c .before .if1 .left)) (to-nineteen (a .p .now) (a .n .0) (h .0) (a .k) (h .1)) (c .width-of .ensures .0)
 
 low-requires : tie.Need-low-requires
 low-requires c κs = search needs
@@ -12,69 +39,43 @@ high-requires : tie.Need-high-requires
 high-requires c κs = search needs
 
 put-numbered-requires : tie.Need-put-numbered-requires
-put-numbered-requires c κs =
-    let l-high = c .before in
-    let l-low = l-high .before in
-    let l-if1 = l-low .before in
-    let st = l-if1 .before .before .before in
-    room-front _ (room-as (end-range (st .args .p .now) (st .args .n .0) (st .pre .0 .1) (l-if1 .if1 .taken) (l-low .low .ensures) (l-high .high .ensures)) (st .pre .1))
+put-numbered-requires c κs = room-front _ (range-room (c .before))
 
 put-numbered-requires-2 : tie.Need-put-numbered-requires-2
 put-numbered-requires-2 c κs =
-    let l-put-numbered = c .before .before .before in
-    let l-high = l-put-numbered .before .before in
-    let l-low = l-high .before in
-    let l-if1 = l-low .before in
-    let st = l-if1 .before .before .before in
-    room-front _ (room-step (l-put-numbered .put-numbered .ensures) (room-as (end-range (st .args .p .now) (st .args .n .0) (st .pre .0 .1) (l-if1 .if1 .taken) (l-low .low .ensures) (l-high .high .ensures)) (st .pre .1)))
+    let p = c .before .before .before in
+    room-front _ (room-step (p .put-numbered .ensures) (range-room (p .before .before)))
 
 slice-aggregate-put : tie.Need-slice-aggregate-put
 slice-aggregate-put c = search needs
 
 put-requires : tie.Need-put-requires
 put-requires c κs =
-    let l-put-numbered2 = c .before .before .before .before in
-    let l-put-numbered = l-put-numbered2 .before .before .before .before in
-    let l-high = l-put-numbered .before .before in
-    let l-low = l-high .before in
-    let l-if1 = l-low .before in
-    let st = l-if1 .before .before .before in
-    room-step (l-put-numbered2 .put-numbered2 .ensures) (room-step (l-put-numbered .put-numbered .ensures) (room-as (end-range (st .args .p .now) (st .args .n .0) (st .pre .0 .1) (l-if1 .if1 .taken) (l-low .low .ensures) (l-high .high .ensures)) (st .pre .1)))
+    let q = c .before .before .before .before in
+    let p = q .before .before .before .before in
+    room-step (q .put-numbered2 .ensures) (room-step (p .put-numbered .ensures) (range-room (p .before .before)))
 
 same-length : tie.Need-same-length
 same-length c = search needs
 
 returns : tie.Need-returns
 returns c =
-    let l-put = c .before .before in
-    let l-put-numbered2 = l-put .before .before .before .before .before in
-    let l-put-numbered = l-put-numbered2 .before .before .before .before in
-    let l-high = l-put-numbered .before .before in
-    let l-low = l-high .before in
-    let l-if1 = l-low .before in
-    let st = l-if1 .before .before .before in
-    wrote-as (end-range (st .args .p .now) (st .args .n .0) (st .pre .0 .1) (l-if1 .if1 .taken) (l-low .low .ensures) (l-high .high .ensures)) (wrote-then (l-put-numbered .put-numbered .ensures) (wrote-then (l-put-numbered2 .put-numbered2 .ensures) (l-put .put .ensures)))
+    let e = c .before .before in
+    let q = e .before .before .before .before .before in
+    let p = q .before .before .before .before in
+    wrote-as (range-is (p .before .before)) (wrote-then (p .put-numbered .ensures) (wrote-then (q .put-numbered2 .ensures) (e .put .ensures)))
 
 width-of-requires : tie.Need-width-of-requires
 width-of-requires c κs = search needs
 
 put-width-requires : tie.Need-put-width-requires
-put-width-requires c κs =
-    let l-width-of = c .before in
-    let l-if1 = l-width-of .before in
-    let st = l-if1 .before .before .before in
-    room-as (end-width (st .args .p .now) (st .args .n .0) (st .pre .0 .1) (from-18 (is-single _ (st .pre .0 .2)) (l-if1 .if1 .left)) (to-nineteen (st .args .p .now) (st .args .n .0) (st .pre .0 .0) (st .args .k) (st .pre .0 .1)) (l-width-of .width-of .ensures .0)) (st .pre .1)
+put-width-requires c κs = let w = c .before in room-as (width-is w) (start-width w .pre .1)
 
 same-length-2 : tie.Need-same-length-2
 same-length-2 c = search needs
 
 returns-2 : tie.Need-returns-2
-returns-2 c =
-    let l-put-width = c .before .before in
-    let l-width-of = l-put-width .before .before in
-    let l-if1 = l-width-of .before in
-    let st = l-if1 .before .before .before in
-    wrote-as (end-width (st .args .p .now) (st .args .n .0) (st .pre .0 .1) (from-18 (is-single _ (st .pre .0 .2)) (l-if1 .if1 .left)) (to-nineteen (st .args .p .now) (st .args .n .0) (st .pre .0 .0) (st .args .k) (st .pre .0 .1)) (l-width-of .width-of .ensures .0)) (l-put-width .put-width .ensures)
+returns-2 c = let p = c .before .before in wrote-as (width-is (p .before .before)) (p .put-width .ensures)
 
 pub put-end-spec : {M : Type 1} → statement M
 put-end-spec =

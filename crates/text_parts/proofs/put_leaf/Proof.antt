@@ -1,34 +1,51 @@
-use mathlib.Core.Path.{refl}
+use mathlib.Core.Path.{_≡_, refl}
+use Prim.Native.Nat.{ℕ}
+use Rattle.terms.specs.Expr.{Var, Const}
 use Rattle.terms.specs.Display.{display}
+use Rattle.pool.specs.Node.{wide, widthAt}
 use Rattle.digits.proofs.Laws.{room-front, room-step, room-as, wrote-then, wrote-as}
+use Rattle.text_parts.specs.Text.{text}
 use Rattle.text_parts.proofs.Operands.{is-const}
 use Rattle.text_parts.proofs.Tree.{whole-var, whole-const}
 use borrow.Author.Needs.{needs}
 use Rattle.text_parts.proofs.put_leaf.Statement.{statement}
 use Rattle.text_parts.proofs.put_leaf.Tie as tie
 
+-- a Var, whose number is read
+abbrev start-var : tie.After-low → tie.Start
+start-var c = c .before .before .before .before
+
+var-is : (c : tie.After-low) → let a = start-var c .args in text (a .p .now) (a .n .0) ≡ display (Var (c .low .result))
+var-is c =
+    let s = start-var c in
+    whole-var (s .args .p .now) (s .args .n .0) (s .pre .0 .0) (s .args .k) (s .pre .0 .1) (c .before .if1 .taken) (c .low .ensures)
+
+-- a Const, whose words are read
+abbrev start-const : tie.After-high → tie.Start
+start-const c = c .before .before .before .before .before
+
+const-is : (c : tie.After-high) {w : ℕ} → let a = start-const c .args in
+    w ≡ widthAt (a .p .now) (a .n .0) → text (a .p .now) (a .n .0) ≡ display (Const (wide (c .before .low2 .result) (c .high .result)) w)
+const-is c e =
+    let l = c .before in
+    let s = start-const c in
+    let a = s .args in
+    let const = is-const (a .p .now) (a .n .0) (s .pre .0 .0) (a .k) (s .pre .0 .1) (s .pre .0 .2) (l .before .if1 .left) in
+    whole-const (a .p .now) (a .n .0) (s .pre .0 .0) (a .k) (s .pre .0 .1) const (l .low2 .ensures) (c .high .ensures) e
+
 low-requires : tie.Need-low-requires
 low-requires c κs = search needs
 
 put-numbered-requires : tie.Need-put-numbered-requires
 unfolding display
-put-numbered-requires c κs =
-    let l-low = c .before in
-    let l-if1 = l-low .before in
-    let st = l-if1 .before .before .before in
-    room-as (whole-var (st .args .p .now) (st .args .n .0) (st .pre .0 .0) (st .args .k) (st .pre .0 .1) (l-if1 .if1 .taken) (l-low .low .ensures)) (st .pre .1)
+put-numbered-requires c κs = let l = c .before in room-as (var-is l) (start-var l .pre .1)
 
 same-length : tie.Need-same-length
 same-length c = search needs
 
 returns : tie.Need-returns
 unfolding display
-returns c =
-    let l-put-numbered = c .before .before in
-    let l-low = l-put-numbered .before .before in
-    let l-if1 = l-low .before in
-    let st = l-if1 .before .before .before in
-    wrote-as (whole-var (st .args .p .now) (st .args .n .0) (st .pre .0 .0) (st .args .k) (st .pre .0 .1) (l-if1 .if1 .taken) (l-low .low .ensures)) (l-put-numbered .put-numbered .ensures)
+returns c = let p = c .before .before in wrote-as (var-is (p .before .before)) (p .put-numbered .ensures)
 
 low-requires-2 : tie.Need-low-requires-2
 low-requires-2 c κs = search needs
@@ -38,12 +55,7 @@ high-requires c κs = search needs
 
 put-value-requires : tie.Need-put-value-requires
 unfolding display
-put-value-requires c κs =
-    let l-high = c .before in
-    let l-low2 = l-high .before in
-    let l-if1 = l-low2 .before in
-    let st = l-if1 .before .before .before in
-    room-front _ (room-as (whole-const (st .args .p .now) (st .args .n .0) (st .pre .0 .0) (st .args .k) (st .pre .0 .1) (is-const (st .args .p .now) (st .args .n .0) (st .pre .0 .0) (st .args .k) (st .pre .0 .1) (st .pre .0 .2) (l-if1 .if1 .left)) (l-low2 .low2 .ensures) (l-high .high .ensures) refl) (st .pre .1))
+put-value-requires c κs = let h = c .before in room-front _ (room-as (const-is h refl) (start-const h .pre .1))
 
 width-of-requires : tie.Need-width-of-requires
 width-of-requires c κs = search needs
@@ -51,13 +63,10 @@ width-of-requires c κs = search needs
 put-numbered-requires-2 : tie.Need-put-numbered-requires-2
 unfolding display
 put-numbered-requires-2 c κs =
-    let l-width-of = c .before in
-    let l-put-value = l-width-of .before .before .before in
-    let l-high = l-put-value .before .before in
-    let l-low2 = l-high .before in
-    let l-if1 = l-low2 .before in
-    let st = l-if1 .before .before .before in
-    room-step (l-put-value .put-value .ensures) (room-as (whole-const (st .args .p .now) (st .args .n .0) (st .pre .0 .0) (st .args .k) (st .pre .0 .1) (is-const (st .args .p .now) (st .args .n .0) (st .pre .0 .0) (st .args .k) (st .pre .0 .1) (st .pre .0 .2) (l-if1 .if1 .left)) (l-low2 .low2 .ensures) (l-high .high .ensures) (l-width-of .width-of .ensures .0)) (st .pre .1))
+    let w = c .before in
+    let v = w .before .before .before in
+    let h = v .before .before in
+    room-step (v .put-value .ensures) (room-as (const-is h (w .width-of .ensures .0)) (start-const h .pre .1))
 
 same-length-2 : tie.Need-same-length-2
 same-length-2 c = search needs
@@ -65,14 +74,10 @@ same-length-2 c = search needs
 returns-2 : tie.Need-returns-2
 unfolding display
 returns-2 c =
-    let l-put-numbered2 = c .before .before in
-    let l-width-of = l-put-numbered2 .before .before in
-    let l-put-value = l-width-of .before .before .before in
-    let l-high = l-put-value .before .before in
-    let l-low2 = l-high .before in
-    let l-if1 = l-low2 .before in
-    let st = l-if1 .before .before .before in
-    wrote-as (whole-const (st .args .p .now) (st .args .n .0) (st .pre .0 .0) (st .args .k) (st .pre .0 .1) (is-const (st .args .p .now) (st .args .n .0) (st .pre .0 .0) (st .args .k) (st .pre .0 .1) (st .pre .0 .2) (l-if1 .if1 .left)) (l-low2 .low2 .ensures) (l-high .high .ensures) (l-width-of .width-of .ensures .0)) (wrote-then (l-put-value .put-value .ensures) (l-put-numbered2 .put-numbered2 .ensures))
+    let p = c .before .before in
+    let w = p .before .before in
+    let v = w .before .before .before in
+    wrote-as (const-is (v .before .before) (w .width-of .ensures .0)) (wrote-then (v .put-value .ensures) (p .put-numbered2 .ensures))
 
 pub put-leaf-spec : {M : Type 1} → statement M
 put-leaf-spec =
