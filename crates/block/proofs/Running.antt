@@ -18,7 +18,7 @@ use Rattle.pool.specs.Node.{Cell, decode, kindAt, kinds, none, places}
 use Rattle.pool.specs.Rules.{Valid, okPool}
 use Rattle.pool.specs.Growth.{Room, Grown}
 use Rattle.nodes.specs.Builders.{MadeVar}
-use Rattle.pool.proofs.Laws.{grown-refl, grown-trans, cell-kept, reach-kept, packed, appended, unfold-step}
+use Rattle.pool.proofs.Laws.{grown-refl, grown-trans, cell-kept, is-kept, reach-kept, packed, appended, unfold-step}
 use Rattle.register_map.specs.declared.RegisterMap.{RegisterMap}
 use Rattle.register_map.specs.Map.{nodesFrom, firstMap, written}
 use Rattle.register_map.proofs.Nodes.{first-is}
@@ -44,32 +44,40 @@ from-more flat j (suc k) =
     (from-more flat (suc j) k ∙ ap (λ (i : ℕ). recordsFrom flat (suc j) k ++ recordAt flat i ∷ []) {x = suc j + k} {y = j + suc k} (omega arith))
 
 -- a run adds nodes
-lowered-more : (ws : List ℕ) (m : RegisterMap) (cs : List Instruction) (m′ : RegisterMap) → Lowered ws m cs m′ → m .count ≤ m′ .count
-lowered-more ws m [] m′ h = rw h (le-refl (m .count))
-lowered-more ws m (c ∷ cs) m′ h = le-trans (h .2 .more) (lowered-more ws (written m (c .d) (h .0) (h .1)) cs m′ (h .3))
+lowered-more : (ws : List ℕ) (m : RegisterMap) (t : ℕ → Expr) (cs : List Instruction) (m′ : RegisterMap) → Lowered ws m t cs m′ → m .count ≤ m′ .count
+lowered-more ws m t [] m′ h = rw h (le-refl (m .count))
+lowered-more ws m t (c ∷ cs) m′ h = le-trans (h .2 .more) (lowered-more ws (written m (c .d) (h .0) (h .1)) (treeStep c t) cs m′ (h .3))
 
-added-kept : {a b : List ℕ} {k k′ : ℕ} → Grown a k b k′ → {m : RegisterMap} {c : Instruction} {answer n : ℕ} → n ≤ k → Added a m c answer n → Added b m c answer n
+-- what a record added stays while the pool grows
+added-kept : {a b : List ℕ} {k k′ : ℕ} → Grown a k b k′ → {m : RegisterMap} {t : ℕ → Expr} {c : Instruction} {answer n : ℕ} → n ≤ k → Added a m t c answer n
+    → Added b m t c answer n
 added-kept g l h =
+    let i = h .is in
+    let kept = is-kept g (record { under = omega (arith, i .under); wide = i .wide; tree = i .tree }) in
     record {
       more = h .more;
       most = h .most;
-      under = h .under;
+      is = record { under = i .under; wide = kept .wide; tree = kept .tree };
       all = λ x p q.
-          ⊎-elim (λ y. inl (reach-kept g (omega (arith, h .under)) y)) (λ y. inr (y .0, y .1, y .2, cell-kept g x (omega arith) ∙ y .3, y .4)) (h .all x p q);
+          ⊎-elim (λ y. inl (reach-kept g (omega (arith, i .under)) y))
+          (λ y. inr (⊎-elim (λ z. inl (z .0, cell-kept g x (omega arith) ∙ z .1)) (λ z. inr (⊎-elim (λ u. inl (u .0, u .1, cell-kept g x (omega arith) ∙ u .2)) (λ u. inr (u .0, u .1, cell-kept g x (omega arith) ∙ u .2)) z)) y)) (h .all x p q);
     }
 
--- what a run added stays while the pool grows
-lowered-kept : {a b : List ℕ} (m : RegisterMap) (cs : List Instruction) (m′ : RegisterMap) {k′ : ℕ} → Grown a (m′ .count) b k′ → Lowered a m cs m′ → Lowered b m cs m′
-lowered-kept m [] m′ g h = h
-lowered-kept {a} m (c ∷ cs) m′ g h =
+-- and so what a run added
+lowered-kept : {a b : List ℕ} (m : RegisterMap) (t : ℕ → Expr) (cs : List Instruction) (m′ : RegisterMap) {k′ : ℕ} → Grown a (m′ .count) b k′ → Lowered a m t cs m′
+    → Lowered b m t cs m′
+lowered-kept m t [] m′ g h = h
+lowered-kept {a} m t (c ∷ cs) m′ g h =
     let n = written m (c .d) (h .0) (h .1) in
-    (h .0, h .1, added-kept g (lowered-more a n cs m′ (h .3)) (h .2), lowered-kept n cs m′ g (h .3))
+    (h .0, h .1, added-kept g (lowered-more a n (treeStep c t) cs m′ (h .3)) (h .2), lowered-kept n (treeStep c t) cs m′ g (h .3))
 
-lowered-next : {ws : List ℕ} (m : RegisterMap) (cs : List Instruction) (m′ : RegisterMap) (c : Instruction) {answer k : ℕ} → Lowered ws m cs m′ → Added ws m′ c answer k
-    → Lowered ws m (cs ++ c ∷ []) (written m′ (c .d) answer k)
-lowered-next {ws} m [] m′ c {answer} {k} h n =
-    (answer, k, subst (λ (x : RegisterMap). Added ws x c answer k) h n, ap (λ (x : RegisterMap). written x (c .d) answer k) h)
-lowered-next m (x ∷ cs) m′ c h n = (h .0, h .1, h .2, lowered-next (written m (x .d) (h .0) (h .1)) cs m′ c (h .3) n)
+lowered-next : {ws : List ℕ} (m : RegisterMap) (t : ℕ → Expr) (cs : List Instruction) (m′ : RegisterMap) (c : Instruction) {answer k : ℕ} → Lowered ws m t cs m′
+    → Added ws m′ (treeRun cs t) c answer k
+    → Lowered ws m t (cs ++ c ∷ []) (written m′ (c .d) answer k)
+unfolding treeRun
+lowered-next {ws} m t [] m′ c {answer} {k} h n =
+    (answer, k, subst (λ (x : RegisterMap). Added ws x t c answer k) h n, ap (λ (x : RegisterMap). written x (c .d) answer k) h)
+lowered-next m t (x ∷ cs) m′ c h n = (h .0, h .1, h .2, lowered-next (written m (x .d) (h .0) (h .1)) (treeStep x t) cs m′ c (h .3) n)
 
 pub runs-none : {ws : List ℕ} {m : RegisterMap} → MapOk m → Runs ws m ws m []
 unfolding treeRun
@@ -96,8 +104,8 @@ runs-more {w2 = w2} {m0} {m1} {m2} {cs} {c} r s =
             valid = b .valid;
             is = rw (tree-more cs c t) (b .is);
             lowered =
-                subst (λ (m : RegisterMap). Lowered w2 m0 (cs ++ c ∷ []) m) (sym (s .map-is))
-                (lowered-next m0 cs m1 c (lowered-kept m0 cs m1 (b .grown) (a .lowered)) (b .added));
+                subst (λ (m : RegisterMap). Lowered w2 m0 t (cs ++ c ∷ []) m) (sym (s .map-is))
+                (lowered-next m0 t cs m1 c (lowered-kept m0 t cs m1 (b .grown) (a .lowered)) (b .added));
           };
     }
 

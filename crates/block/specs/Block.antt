@@ -7,7 +7,7 @@ use lib.ListN.{length, getD}
 use Rattle.terms.specs.Expr.{Expr, Var}
 use Rattle.neon.specs.declared.Instruction.{Instruction}
 use Rattle.neon.specs.Refusal.{reserve, blockRefusal}
-use Rattle.trees.specs.Block.{treeRun}
+use Rattle.trees.specs.Block.{treeStep, treeRun}
 use Rattle.pool.specs.Node.{var, Cell, cellAt, places}
 use Rattle.pool.specs.Rules.{Valid, poolOk}
 use Rattle.pool.specs.Growth.{Grown}
@@ -20,10 +20,10 @@ use Rattle.block.specs.declared.BlockAnswer.{BlockAnswer}
 abbrev pub VarAt : List ℕ → ℕ → Type 0
 VarAt ws r = _≡_ {A = Cell} (cellAt ws r) (record { kind = var; width = 128; a = 0; b = 0; c = 0; x = r; y = 0 })
 
--- the records in order, each on the map that the one before left: the nodes that it added, and its answer in the map
-abbrev pub Lowered : List ℕ → RegisterMap → List Instruction → RegisterMap → Type 0
-Lowered ws m [] m′ = m′ ≡ m
-Lowered ws m (c ∷ cs) m′ = (answer : ℕ) × (k : ℕ) × Added ws m c answer k × Lowered ws (written m (c .d) answer k) cs m′
+-- the records in order, each on the map and over the terms that the one before left: the nodes that it added, and its answer in the map
+abbrev pub Lowered : List ℕ → RegisterMap → (ℕ → Expr) → List Instruction → RegisterMap → Type 0
+Lowered ws m t [] m′ = m′ ≡ m
+Lowered ws m t (c ∷ cs) m′ = (answer : ℕ) × (k : ℕ) × Added ws m t c answer k × Lowered ws (written m (c .d) answer k) (treeStep c t) cs m′
 
 -- a block that is accepted
 pub record Accepted (old : List ℕ) (cs : List Instruction) (new : List ℕ) (m : RegisterMap) : Type 0 where
@@ -32,7 +32,7 @@ pub record Accepted (old : List ℕ) (cs : List Instruction) (new : List ℕ) (m
   pub long : length new ≡ length old
   pub past : (i : ℕ) → 4 * m .count ≤ i → getD new i 0 ≡ getD old i 0
   pub vars : (r : ℕ) → r < 32 → VarAt new r
-  pub lowered : Lowered new firstMap cs m
+  pub lowered : Lowered new firstMap Var cs m
 
 -- the answer for every block: its number and position; refused, no node and no word; else all of the above
 pub record Answered (old : List ℕ) (cs : List Instruction) (new : List ℕ) (a : BlockAnswer) : Type 0 where
@@ -53,7 +53,7 @@ pub record RunMade (old : List ℕ) (m : RegisterMap) (new : List ℕ) (m′ : R
   pub grown : Grown old (m .count) new (m′ .count)
   pub valid : Valid new (m′ .count)
   pub is : MapIs new m′ (treeRun cs t)
-  pub lowered : Lowered new m cs m′
+  pub lowered : Lowered new m t cs m′
 
 -- records in order: the numbers, whatever the pool holds; and what a valid pool and registers of known terms become
 pub record Runs (old : List ℕ) (m : RegisterMap) (new : List ℕ) (m′ : RegisterMap) (cs : List Instruction) : Type 0 where

@@ -15,7 +15,7 @@ ghost use Rattle.block.specs.Block.{Runs, Answered};
 ghost use Rattle.blocks.specs.Lent.{answer};
 
 // An accepted record brings the map up to date, and its nodes are added to the pool.
-pub fn lower_record_in(
+fn lower_record_in(
     pool: &mut [u64],
     map: &mut RegisterMap,
     operation: u64,

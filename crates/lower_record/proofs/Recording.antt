@@ -28,7 +28,8 @@ use Rattle.register_map.specs.Map.{node, nodeOf, written}
 use Rattle.register_map.proofs.Nodes.{written-is}
 use Rattle.lower_neon.specs.Family.{mostNodes}
 use Rattle.register_reads.specs.Reads.{LowHalf, Reads}
-use Rattle.lower_record.specs.Step.{MapOk, MapIs, ReadsHalf, RegisterRead, StepMade, Steps}
+use Rattle.register_reads.proofs.Reading.{read-more, read-most}
+use Rattle.lower_record.specs.Step.{MapOk, MapIs, RegisterRead, StepMade, Steps}
 
 -- ---- the record
 
@@ -62,8 +63,10 @@ module _ (m : RegisterMap) (ok : MapOk m) (c : Instruction) (hd : c .d < 32) (hn
   after-at = written-at m (c .d) (b5 .node .0) (b5 .count) in-map
 
   sizes : (m .count ≤ b5 .count) × (b5 .count ≤ m .count + reserve)
-  sizes =
-      (omega (arith, r1 .more, r2 .more, r3 .more, f .sized, w .sized), omega (arith, r1 .most, r2 .most, r3 .most, f .sized, w .sized))
+  sizes = (
+    omega (arith, read-more r1, read-more r2, read-more r3, f .sized, w .sized),
+    omega (arith, read-most r1, read-most r2, read-most r3, f .sized, w .sized),
+  )
 
   after-ok : MapOk (written m (c .d) (b5 .node .0) (b5 .count))
   after-ok = record { size = length-set (m .nodes) (c .d) (node (b5 .node .0)) ∙ ok .size; below = λ r l. rw (written-is m (c .d) (b5 .node .0) (b5 .count) r in-map) (go r l (eqb r (c .d))) }
@@ -72,14 +75,15 @@ module _ (m : RegisterMap) (ok : MapOk m) (c : Instruction) (hd : c .d < 32) (hn
       go r l true = w .sized .under
       go r l false = omega (arith, ok .below r l, sizes .0)
 
-  half-n : firstFull (form o .lanes) (full v) ≡ false → ReadsHalf c (c .n)
-  half-n h = inl (refl, rw (eo, ev) h)
+  -- the reads that are cuts
+  of-n : (x : ℕ) → x < b1 .count → LowHalf w5 (nodeOf m (c .n)) x → RegisterRead w5 m c x
+  of-n x k h = rw (eo, ev) (inl (omega (arith, k, r1 .next), h))
 
-  half-m : hasSecond o ≡ true → secondFull (form o .lanes) (byElement o) (full v) ≡ false → ReadsHalf c (c .m)
-  half-m u h = inr (inl (refl, rw eo u, rw (eo, ev) h))
+  of-m : (x : ℕ) → b1 .count ≤ x → x < b2 .count → LowHalf w5 (nodeOf m (c .m)) x → RegisterRead w5 m c x
+  of-m x l k h = rw (eo, ev) (inr (inl (omega (arith, l, r1 .next), omega (arith, k, r1 .next, r2 .next), h)))
 
-  half-d : readsD o v ≡ true → full v ≡ false → ReadsHalf c (c .d)
-  half-d u h = inr (inr (refl, rw (eo, ev) u, rw ev h))
+  of-d : (x : ℕ) → b2 .count ≤ x → x < b3 .count → LowHalf w5 (nodeOf m (c .d)) x → RegisterRead w5 m c x
+  of-d x l k h = rw (eo, ev) (inr (inr (omega (arith, l, r1 .next, r2 .next), omega (arith, k, r1 .next, r2 .next, r3 .next), h)))
 
   made : (t : ℕ → Expr) → Valid w0 (m .count) → MapIs w0 m t → StepMade w0 m w5 (written m (c .d) (b5 .node .0) (b5 .count)) c t
   unfolding treeStep recordTree
@@ -93,15 +97,16 @@ module _ (m : RegisterMap) (ok : MapOk m) (c : Instruction) (hd : c .d < 32) (hn
       {tb = readTree (secondFull (form o .lanes) (byElement o) (full v)) (t (c .m))} (m3 .valid) (m3 .is)
       (λ u. is-kept (grown-trans (m2 .grown) (m3 .grown)) (m1 .is refl)) (λ u. is-kept (m3 .grown) (m2 .is u)) in
       let mw = w .made (mf .valid) (mf .is) in
+      let answered : NodeIs w5 (b5 .count) (b5 .node .0) 128 (recordTree c t) = rw (eo, ev) (mw .is) in
       let g45 = mw .grown in
       let g35 = grown-trans (mf .grown) g45 in
       let g25 = grown-trans (m3 .grown) g35 in
       let g15 = grown-trans (m2 .grown) g25 in
       let g05 = grown-trans (m1 .grown) g15 in
       let own : (x : ℕ) → m .count ≤ x → x < b5 .count → Reach w5 (b5 .node .0) x ⊎ RegisterRead w5 m c x =
-      λ x l r. ⊎-elim (λ k. inr (c .n, hn, half-n (m1 .halves x l k .1), half-kept g15 q1 x k (m1 .halves x l k .2), omega (arith, k, r1 .most)))
-      (λ l1. ⊎-elim (λ k. inr (c .m, hm, half-m (m2 .halves x l1 k .0) (m2 .halves x l1 k .1), half-kept g25 q2 x k (m2 .halves x l1 k .2), omega (arith, k, r1 .most, r2 .most)))
-      (λ l2. ⊎-elim (λ k. inr (c .d, hd, half-d (m3 .halves x l2 k .0) (m3 .halves x l2 k .1), half-kept g35 q3 x k (m3 .halves x l2 k .2), omega (arith, k, r1 .most, r2 .most, r3 .most)))
+      λ x l r. ⊎-elim (λ k. inr (of-n x k (half-kept g15 q1 x k (m1 .halves x l k))))
+      (λ l1. ⊎-elim (λ k. inr (of-m x l1 k (half-kept g25 q2 x k (m2 .halves x l1 k))))
+      (λ l2. ⊎-elim (λ k. inr (of-d x l2 k (half-kept g35 q3 x k (m3 .halves x l2 k))))
       (λ l3. ⊎-elim (λ k. inl (reach-trans (mw .ins-reached .0) (reach-kept g45 (mf .is .under) (mf .all x l3 k)))) (λ l4. inl (mw .all x l4 r))
       (before-or-from x (b4 .count))) (before-or-from x (b3 .count))) (before-or-from x (b2 .count))) (before-or-from x (b1 .count)) in
       record {
@@ -110,7 +115,7 @@ module _ (m : RegisterMap) (ok : MapOk m) (c : Instruction) (hd : c .d < 32) (hn
         is = λ x l.
             rw (eo, ev, written-is m (c .d) (b5 .node .0) (b5 .count) x in-map)
             (either (eqb x (c .d)) (mw .is) (is-kept g05 (h x l)));
-        added = rw after-at (record { more = sizes .0; most = sizes .1; under = w .sized .under; all = own });
+        added = rw after-at (record { more = sizes .0; most = sizes .1; is = answered; all = own });
       }
 
   pub recorded : Steps w0 m w5 (written m (c .d) (b5 .node .0) (b5 .count)) c

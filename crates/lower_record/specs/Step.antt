@@ -1,5 +1,5 @@
 -- What one record of a block does to the pool and to the map of the registers (document 01, "Pool").
-use mathlib.Core.Bool.{true, false}
+use mathlib.Core.Bool.{true}
 use mathlib.Core.List.{List}
 use mathlib.Core.Logic.{_⊎_}
 use mathlib.Core.Path.{_≡_}
@@ -10,12 +10,12 @@ use Rattle.neon.specs.declared.Instruction.{Instruction}
 use Rattle.neon.specs.Op.{opAt, arrangementAt, full}
 use Rattle.neon.specs.Form.{form, hasSecond, readsD, byElement, firstFull, secondFull}
 use Rattle.neon.specs.Refusal.{reserve}
-use Rattle.trees.specs.Block.{treeStep}
+use Rattle.trees.specs.Block.{recordTree, treeStep}
 use Rattle.pool.specs.Rules.{Valid}
 use Rattle.pool.specs.Growth.{Reach, Grown, NodeIs}
 use Rattle.register_map.specs.declared.RegisterMap.{RegisterMap}
 use Rattle.register_map.specs.Map.{nodeOf, written}
-use Rattle.register_reads.specs.Reads.{LowHalf}
+use Rattle.register_reads.specs.Reads.{LowHalf, halfRead}
 
 -- the map has 32 entries, each below the count
 pub record MapOk (m : RegisterMap) : Type 0 where
@@ -26,31 +26,30 @@ pub record MapOk (m : RegisterMap) : Type 0 where
 abbrev pub MapIs : List ℕ → RegisterMap → (ℕ → Expr) → Type 0
 MapIs ws m t = (r : ℕ) → r < 32 → NodeIs ws (m .count) (nodeOf m r) 128 (t r)
 
--- the record reads the low half of register r: as n, or as m or d where its form has them
-abbrev pub ReadsHalf : Instruction → ℕ → Type 0
-ReadsHalf c r =
+-- node x is the record's read of a low half: of n, then of m, then of d, where its form reads them so
+abbrev pub RegisterRead : List ℕ → RegisterMap → Instruction → ℕ → Type 0
+RegisterRead ws m c x =
     let o = opAt (c .operation) in
     let v = arrangementAt (c .arrangement) in
-    ((r ≡ c .n) × (firstFull (form o .lanes) (full v) ≡ false))
-    ⊎ ((r ≡ c .m) × (hasSecond o ≡ true) × (secondFull (form o .lanes) (byElement o) (full v) ≡ false))
-    ⊎ ((r ≡ c .d) × (readsD o v ≡ true) × (full v ≡ false))
+    let after-n = m .count + halfRead true (firstFull (form o .lanes) (full v)) in
+    let after-m = after-n + halfRead (hasSecond o) (secondFull (form o .lanes) (byElement o) (full v)) in
+    ((x < after-n) × LowHalf ws (nodeOf m (c .n)) x)
+    ⊎ ((after-n ≤ x) × (x < after-m) × LowHalf ws (nodeOf m (c .m)) x)
+    ⊎ ((after-m ≤ x) × (x < after-m + halfRead (readsD o v) (full v)) × LowHalf ws (nodeOf m (c .d)) x)
 
--- node x is such a read, of at most three
-abbrev pub RegisterRead : List ℕ → RegisterMap → Instruction → ℕ → Type 0
-RegisterRead ws m c x = (r : ℕ) × (r < 32) × ReadsHalf c r × LowHalf ws (nodeOf m r) x × (x < m .count + 3)
-
--- the nodes of a record, from the map's count to count k′: at most the reserve, each reached from the answer save its reads of registers
-pub record Added (ws : List ℕ) (m : RegisterMap) (c : Instruction) (answer k′ : ℕ) : Type 0 where
+-- the nodes of a record, from the map's count to count k′: its answer, of 128 bits, has the record's term over the registers' terms t;
+-- at most the reserve are added, each reached from the answer save its reads of registers
+pub record Added (ws : List ℕ) (m : RegisterMap) (t : ℕ → Expr) (c : Instruction) (answer k′ : ℕ) : Type 0 where
   pub more : m .count ≤ k′
   pub most : k′ ≤ m .count + reserve
-  pub under : answer < k′
+  pub is : NodeIs ws k′ answer 128 (recordTree c t)
   pub all : (x : ℕ) → m .count ≤ x → x < k′ → Reach ws answer x ⊎ RegisterRead ws m c x
 
 pub record StepMade (old : List ℕ) (m : RegisterMap) (new : List ℕ) (m′ : RegisterMap) (c : Instruction) (t : ℕ → Expr) : Type 0 where
   pub grown : Grown old (m .count) new (m′ .count)
   pub valid : Valid new (m′ .count)
   pub is : MapIs new m′ (treeStep c t)
-  pub added : Added new m c (nodeOf m′ (c .d)) (m′ .count)
+  pub added : Added new m t c (nodeOf m′ (c .d)) (m′ .count)
 
 -- the numbers, whatever the pool holds; and what a valid pool and registers of known terms become
 pub record Steps (old : List ℕ) (m : RegisterMap) (new : List ℕ) (m′ : RegisterMap) (c : Instruction) : Type 0 where

@@ -1,5 +1,5 @@
 -- A read of a register and the widening of a result, in each of their cases. Assumes nothing.
-use Prim.Native.Nat.{ℕ, _≤_, _<_}
+use Prim.Native.Nat.{ℕ, _+_, _≤_, _<_}
 use mathlib.Core.Path.{_≡_, refl, sym, subst, _∙_}
 use mathlib.Core.Bool.{Bool, true, false, false≢true}
 use mathlib.Core.List.{List, [], _∷_}
@@ -15,9 +15,25 @@ use Rattle.nodes.specs.Builders.{MadeExtract, MadeZeroExtend}
 use Rattle.pool.proofs.Laws.{grown-refl, packed, appended}
 use Rattle.pool.proofs.Steps.{stay}
 use Rattle.lower.specs.Builds.{Builds1}
-use Rattle.register_reads.specs.Reads.{LowHalf, Reads}
+use Rattle.register_reads.specs.Reads.{LowHalf, halfRead, Reads}
 
 -- ---- a read
+
+half-whole : (used : Bool) → halfRead used true ≡ 0
+half-whole true = refl
+half-whole false = refl
+
+half-most : (used whole : Bool) → halfRead used whole ≤ 1
+half-most true true = omega arith
+half-most true false = omega arith
+half-most false whole = omega arith
+
+module _ {old : List ℕ} {k : ℕ} {new : List ℕ} {r : Built} {used whole : Bool} {register : Node} (h : Reads old k new r used whole register) where
+  pub read-more : k ≤ r .count
+  read-more = omega (arith, h .next)
+
+  pub read-most : r .count ≤ k + 1
+  read-most = omega (arith, h .next, half-most used whole)
 
 module _ {ws : List ℕ} {k : ℕ} {r : Built} {used whole : Bool} {register : Node} (e : r .count ≡ k) where
   -- no node is added
@@ -25,8 +41,7 @@ module _ {ws : List ℕ} {k : ℕ} {r : Built} {used whole : Bool} {register : N
   read-none q =
       record {
         long = refl;
-        more = omega (arith, e);
-        most = omega (arith, e);
+        next = rw q (omega (arith, e));
         under = λ p. absurd (false≢true (sym q ∙ p));
         made = λ v h. record {
           grown = rw e (grown-refl ws k);
@@ -40,8 +55,7 @@ module _ {ws : List ℕ} {k : ℕ} {r : Built} {used whole : Bool} {register : N
   read-whole q f b =
       record {
         long = refl;
-        more = omega (arith, e);
-        most = omega (arith, e);
+        next = rw q (omega (arith, e, half-whole used));
         under = λ p. omega (arith, e, f, b);
         made = λ v h. record {
           grown = rw e (grown-refl ws k);
@@ -52,12 +66,13 @@ module _ {ws : List ℕ} {k : ℕ} {r : Built} {used whole : Bool} {register : N
       }
 
 half-cell : {old : List ℕ} {k : ℕ} {new : List ℕ} {r : Built} {register : Node} → Room old k 1 → register .0 < k → MadeExtract old k new r register 63 0
-    → (x : ℕ) → k ≤ x → x < r .count → LowHalf new (register .0) x
+    → (r .count ≡ k + 1) × ((x : ℕ) → k ≤ x → x < r .count → LowHalf new (register .0) x)
 unfolding kindAt kinds
-half-cell {old} {k} {new} {r} {register} m b d x l h =
-    let a = appended m (d .words) (packed 16 64 (register .0) 0 0 63 0 (omega arith) (omega (arith, m .numbers)) (omega arith)) in
-    let q : k ≡ x = omega (arith, a .next) in
-    subst (λ (y : ℕ). LowHalf new (register .0) y) q (a .cell-is)
+half-cell {old} {k} {new} {r} {register} m b d =
+    let a = appended m (d .words) (packed 16 64 (register .0) 0 0 63 0 (omega arith) (omega (arith, m .numbers)) (omega arith)) in (
+      omega (arith, a .next),
+      λ x l h. subst (λ (y : ℕ). LowHalf new (register .0) y) {x = k} {y = x} (omega (arith, a .next)) (a .cell-is),
+    )
 
 pub read-half : {old : List ℕ} {k : ℕ} {new : List ℕ} {r : Built} {used whole : Bool} {register : Node} → Room old k 1 → register .0 < k → used ≡ true → whole ≡ false
     → MadeExtract old k new r register 63 0
@@ -65,12 +80,11 @@ pub read-half : {old : List ℕ} {k : ℕ} {new : List ℕ} {r : Built} {used wh
 read-half m b u q d =
     record {
       long = d .sized .long;
-      more = d .sized .more;
-      most = d .sized .most;
+      next = rw (u, q) (half-cell m b d .0);
       under = λ p. d .sized .under;
       made = λ v h.
           let x = d .made {u = 64} v (omega arith) refl h in
-          record { grown = x .grown; valid = x .valid; is = λ p. rw q (x .is); halves = λ y l g. (u, q, half-cell m b d y l g) };
+          record { grown = x .grown; valid = x .valid; is = λ p. rw q (x .is); halves = half-cell m b d .1 };
     }
 
 -- ---- the widening

@@ -1,5 +1,5 @@
 -- What a read of one register adds to the pool: nothing, or the cut of its low half (document 01, "Pool").
-use mathlib.Core.Bool.{Bool, true, false}
+use mathlib.Core.Bool.{Bool, true, cond, not, _&&_}
 use mathlib.Core.List.{List}
 use mathlib.Core.Path.{_≡_}
 use Prim.Native.Nat.{ℕ, _+_, _≤_, _<_}
@@ -17,15 +17,18 @@ use Rattle.pool.specs.Growth.{Grown, NodeIs}
 abbrev pub LowHalf : List ℕ → (register x : ℕ) → Type 0
 LowHalf ws register x = _≡_ {A = Cell} (cellAt ws x) (record { kind = extract; width = 64; a = register; b = 0; c = 0; x = 63; y = 0 })
 
+-- the nodes that a read adds: one for a low half, none for a whole register or where it is not used
+abbrev pub halfRead : (used whole : Bool) → ℕ
+halfRead used whole = cond (used && not whole) 1 0
+
 pub record ReadMade (old : List ℕ) (k : ℕ) (new : List ℕ) (r : Built) (used whole : Bool) (register : Node) (t : Expr) : Type 0 where
   pub grown : Grown old k new (r .count)
   pub valid : Valid new (r .count)
   pub is : used ≡ true → NodeIs new (r .count) (r .node .0) (bitsIf whole) (readTree whole t)
-  pub halves : (x : ℕ) → k ≤ x → x < r .count → (used ≡ true) × (whole ≡ false) × LowHalf new (register .0) x
+  pub halves : (x : ℕ) → k ≤ x → x < r .count → LowHalf new (register .0) x
 
 pub record Reads (old : List ℕ) (k : ℕ) (new : List ℕ) (r : Built) (used whole : Bool) (register : Node) : Type 0 where
   pub long : length new ≡ length old
-  pub more : k ≤ r .count
-  pub most : r .count ≤ k + 1
+  pub next : r .count ≡ k + halfRead used whole
   pub under : used ≡ true → r .node .0 < r .count
   pub made : {t : Expr} → Valid old k → NodeIs old k (register .0) 128 t → ReadMade old k new r used whole register t

@@ -9,7 +9,7 @@ use Rattle.pool.specs.Growth.{Room}
 use Rattle.form.specs.Code.{OfCode}
 use Rattle.form.proofs.Parts.{coded}
 use Rattle.register_map.specs.Map.{nodeOf}
-use Rattle.register_reads.proofs.Reading.{read-flags, widen-flag}
+use Rattle.register_reads.proofs.Reading.{read-more, read-most, read-flags, widen-flag}
 use Rattle.record_check.specs.Record.{instruction}
 use Rattle.record_check.proofs.Refusals.{form-legal}
 use Rattle.lower_neon.specs.Family.{mostNodes}
@@ -65,13 +65,13 @@ says c h =
 -- ---- the room that is left after each call
 
 after-first : (c : tie.After-read-if) → Room (c .read-if .last .0) (c .read-if .result .count) (mostNodes + 3)
-after-first c = omega (arith, entry (code c) .pre .0, c .read-if .ensures .most, c .read-if .ensures .long)
+after-first c = omega (arith, entry (code c) .pre .0, read-most (c .read-if .ensures), c .read-if .ensures .long)
 
 after-second : (c : tie.After-read-if2) → Room (c .read-if2 .last .0) (c .read-if2 .result .count) (mostNodes + 2)
-after-second c = omega (arith, after-first (first c), c .read-if2 .ensures .most, c .read-if2 .ensures .long)
+after-second c = omega (arith, after-first (first c), read-most (c .read-if2 .ensures), c .read-if2 .ensures .long)
 
 after-old : (c : tie.After-read-if3) → Room (c .read-if3 .last .0) (c .read-if3 .result .count) (mostNodes + 1)
-after-old c = omega (arith, after-second (second c), c .read-if3 .ensures .most, c .read-if3 .ensures .long)
+after-old c = omega (arith, after-second (second c), read-most (c .read-if3 .ensures), c .read-if3 .ensures .long)
 
 after-result : (c : tie.After-lower-form) → Room (c .lower-form .last .0) (c .lower-form .result .count) 1
 after-result c = omega (arith, after-old (old c), c .lower-form .ensures .sized)
@@ -107,7 +107,7 @@ get-requires-2 c κs = omega (arith, registers (entry (code (c .before .before .
 read-if-requires-2 : tie.Need-read-if-requires-2
 read-if-requires-2 c κs =
     let r = c .before .before .before .before .before .before in
-    (omega (arith, after-first r), omega (arith, nodes (entry (code r)), c .get2 .ensures, r .read-if .ensures .more))
+    (omega (arith, after-first r), omega (arith, nodes (entry (code r)), c .get2 .ensures, read-more (r .read-if .ensures)))
 
 reads-d-requires : tie.Need-reads-d-requires
 reads-d-requires c κs = search needs
@@ -120,7 +120,7 @@ read-if-requires-3 c κs =
     let r = c .before .before .before .before .before in
     let f = first r in (
       omega (arith, after-second r),
-      omega (arith, nodes (entry (code f)), c .get3 .ensures, r .read-if2 .ensures .more, f .read-if .ensures .more),
+      omega (arith, nodes (entry (code f)), c .get3 .ensures, read-more (r .read-if2 .ensures), read-more (f .read-if .ensures)),
     )
 
 lower-form-requires : tie.Need-lower-form-requires
@@ -128,12 +128,12 @@ lower-form-requires c κs =
     let o = c .before .before .before in
     let s = second o in
     let f = first s in
-    let last = o .read-if3 .ensures .more in (
+    let last = read-more (o .read-if3 .ensures) in (
       omega (arith, after-old o),
       (
         legal (code f),
         (
-          omega (arith, f .read-if .ensures .under refl, s .read-if2 .ensures .more, last),
+          omega (arith, f .read-if .ensures .under refl, read-more (s .read-if2 .ensures), last),
           λ u. omega (arith, s .read-if2 .ensures .under (says (code f) (s .before .before .before .has-second .ensures) ∙ u), last),
           λ u. o .read-if3 .ensures .under (says (code f) (o .before .before .reads-d .ensures) ∙ u),
         ),
