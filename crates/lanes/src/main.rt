@@ -1,7 +1,9 @@
 // The line program (document 01, "Text and program"): reads standard input to its end, and writes an answer for each line.
 // What a line means and what is written for it is the library's, `lines`.
-ghost use Prim.Native.Nat.{_≤_};
+ghost use Prim.Native.Nat.{_+_, _≤_};
 ghost use lib.ListN.{length};
+ghost use Rattle.line_answers.specs.Answer.{answerRoom};
+ghost use Rattle.lines.specs.Output.{Rooms};
 
 // Standard input and output.
 const INPUT: i32 = 0;
@@ -15,7 +17,10 @@ struct Waiting {
 }
 
 // The place for the next answer. Where the output has no room for one, what waits is written first.
-fn make_room(out: &[u8], at: usize) -> usize {
+fn make_room(out: &[u8], at: usize) -> usize
+    requires { ⌜ answerRoom ≤ length (now out) ⌝ }
+    ensures { λ r. ⌜ r + answerRoom ≤ length (now (out .entry)) ⌝ }
+{
     if out.len() < at {
         return 0;
     }
@@ -27,7 +32,9 @@ fn make_room(out: &[u8], at: usize) -> usize {
 }
 
 // The end of the output that waits, after the answer to a line.
-fn answer(pool: &mut [u64], line: &[u8], out: &mut [u8], at: usize) -> usize {
+fn answer(pool: &mut [u64], line: &[u8], out: &mut [u8], at: usize) -> usize
+    requires { ⌜ answerRoom ≤ length (now out) ⌝ }
+{
     let place = make_room(out, at);
     lines::answer_line(pool, line, out, place)
 }
@@ -40,6 +47,7 @@ fn consume(
     out: &mut [u8],
     before: Waiting,
 ) -> Waiting
+    requires { ⌜ Rooms (now pool) (now held) (now out) ⌝ }
     requires { ⌜ before .line ≤ length (now held) ⌝ }
     ensures { λ r. ⌜ r .line ≤ length (now (held .exit)) ⌝ }
 {
@@ -60,6 +68,7 @@ fn consume(
 
 // The end of the output that waits, after the answer to a last line that no newline ends.
 fn last(pool: &mut [u64], held: &[u8], out: &mut [u8], left: Waiting) -> usize
+    requires { ⌜ Rooms (now pool) (now held) (now out) ⌝ }
     requires { ⌜ left .line ≤ length (now held) ⌝ }
 {
     let line = left.line;
@@ -77,7 +86,9 @@ fn finish(out: &[u8], end: usize) {
 }
 
 // A proved loop has to end, and nothing says that the input does: the turns are counted down from a number that no run uses up.
-fn run(pool: &mut [u64], held: &mut [u8], input: &mut [u8], out: &mut [u8]) {
+fn run(pool: &mut [u64], held: &mut [u8], input: &mut [u8], out: &mut [u8])
+    requires { ⌜ Rooms (now pool) (now held) (now out) ⌝ }
+{
     let mut waiting = Waiting { line: 0, output: 0 };
     let mut turns = u64::MAX;
     while 0 < turns {

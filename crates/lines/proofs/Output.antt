@@ -12,7 +12,7 @@ use Rattle.line_fields.specs.Fields.{inColumns, lineNumber}
 use Rattle.line_pieces.specs.declared.Gathered.{Gathered}
 use Rattle.line_pieces.specs.Pieces.{upTo, ends, one, Gathers}
 use Rattle.lines.specs.Line.{answer, answerNumber}
-use Rattle.lines.specs.Output.{lastAnswer, outputFrom, output}
+use Rattle.lines.specs.Output.{lastAnswer, outputFrom, output, Rooms}
 
 -- ---- an output, line by line
 
@@ -98,3 +98,7 @@ pub piece-last : (p : ℕ) (line held : List ℕ) (len : ℕ) → 25 ≤ length 
     → outputFrom p line [] ≡ lastAnswer p (take len held)
 unfolding outputFrom
 piece-last p line held len room holds = sym (ap (lastAnswer p) holds ∙ last-cut p (length held) line room)
+
+-- rooms are as long as they were
+pub rooms-kept : {p h o p′ h′ o′ : List ℕ} → length p′ ≡ length p → length h′ ≡ length h → length o′ ≡ length o → Rooms p h o → Rooms p′ h′ o′
+rooms-kept a b c r = record { held-room = omega (arith, b, r .held-room); out-room = omega (arith, c, r .out-room); pool-room = rw a (r .pool-room) }

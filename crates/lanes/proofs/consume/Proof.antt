@@ -17,7 +17,7 @@ abbrev μ-loop : tie.MeasureT-loop
 loop-holds : tie.Need-loop-holds Inv-loop μ-loop
 loop-holds c =
     let st = c .before .before .before .before in
-    (st .pre, refl, refl, refl)
+    (st .pre .1, refl, refl, refl)
 
 gather-requires : tie.Need-gather-requires Inv-loop μ-loop
 gather-requires c κs =
@@ -37,7 +37,8 @@ slice-aggregate-answer c =
 
 answer-requires : tie.Need-answer-requires Inv-loop μ-loop
 answer-requires c κs =
-    tt
+    let l = c .before .before .before .before .before .before .before .before .before in
+    omega (arith, l .loop .inv .3, l .before .before .before .before .before .pre .0 .out-room)
 
 loop-less : tie.Need-loop-less Inv-loop μ-loop
 loop-less c =

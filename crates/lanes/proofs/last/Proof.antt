@@ -7,7 +7,7 @@ use Rattle.lanes.proofs.last.Tie as tie
 slice-aggregate-answer : tie.Need-slice-aggregate-answer
 slice-aggregate-answer c =
     let st = c .before .before .before .before .before .before in
-    sym (length-take-le (st .args .left .line) (st .args .held .now) (st .pre))
+    sym (length-take-le (st .args .left .line) (st .args .held .now) (st .pre .1))
 
 answer-requires : tie.Need-answer-requires
 answer-requires c κs = search needs

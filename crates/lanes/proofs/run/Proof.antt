@@ -4,6 +4,7 @@ use mathlib.Core.Path.{_≡_, refl, ap}
 use Prim.Native.Nat.{_≤_}
 use borrow.Author.Needs.{needs}
 use lib.ListN.{length}
+use Rattle.lines.proofs.Output.{rooms-kept}
 use Rattle.lanes.proofs.run.Statement.{statement}
 use Rattle.lanes.proofs.run.Tie as tie
 
@@ -35,7 +36,7 @@ slice-aggregate-consume c =
 consume-requires : tie.Need-consume-requires Inv-loop μ-loop
 consume-requires c κs =
     let l-loop = c .before .before .before .before .before .before .before .before .before .before .before .before in
-    l-loop .loop .inv .0
+    (rooms-kept (l-loop .loop .inv .1) (l-loop .loop .inv .2) (l-loop .loop .inv .4) (l-loop .before .before .before .before .before .pre), l-loop .loop .inv .0)
 
 sub-turns : tie.Need-sub-turns Inv-loop μ-loop
 sub-turns c =
@@ -57,7 +58,7 @@ loop-again c =
 last-requires : tie.Need-last-requires Inv-loop μ-loop
 last-requires c κs =
     let l-loop = c .before .before .before .before in
-    l-loop .loop .inv .0
+    (rooms-kept (l-loop .loop .inv .1) (l-loop .loop .inv .2) (l-loop .loop .inv .4) (l-loop .before .before .before .before .before .pre), l-loop .loop .inv .0)
 
 finish-requires : tie.Need-finish-requires Inv-loop μ-loop
 finish-requires c κs = tt
