@@ -6,4 +6,4 @@ use Rattle.trees.specs.Simd.{extractLane}
 use Rattle.trees.specs.Arith.{bitwiseUnaryLane}
 
 abbrev pub bitwiseAt : BitwiseUnary → (n : ℕ) (d a b : Expr) → ℕ → Expr
-bitwiseAt op n d a b j = bitwiseUnaryLane op (extractLane a n j) n
+bitwiseAt kind n d a b j = bitwiseUnaryLane kind (extractLane a n j) n

@@ -19,8 +19,8 @@ fn cut_from(pool: &[u64], value: Node, hi: Bit) -> Node
     requires { ⌜ 4 * value .0 + 3 < length (now pool) ⌝ }
     ensures { λ r. ⌜ (r .0 ≡ cutFrom (now (pool .entry)) (value .0) (hi .0)) × (r .0 ≤ value .0) ⌝ }
 {
-    // of an Extract word 2 is hi, word 3 lo
     let src = first(pool, value);
+    // of an Extract word 2 is hi, word 3 lo
     let joins = (high(pool, value) == 0) & (hi.0 <= low(pool, value));
     // src is below value in a valid pool; of a damaged one the test keeps the answer below the count
     if (kind_of(pool, value) == 16) & joins & (src.0 < value.0) {
