@@ -13,7 +13,7 @@ static int show(const uint64_t *records, size_t count) {
     if (pool == NULL) {
         return 1;
     }
-    uint64_t number = neon_lower_block(pool, words, records, NEON_RECORD * count, results, NEON_RESULTS);
+    uint64_t number = neon_lower_block(pool, words, records, NEON_RECORD * count, results);
     if (number == NEON_DONE) {
         number = neon_write_text(pool, words, results[32], results[0], text, sizeof text, &length);
     }

@@ -29,7 +29,7 @@
 extern "C" {
 #endif
 
-/* The numbers. The first in order wins: one instruction 1 to 6; text 1, 5, 9; block 13, 8, 6, then record by record 2, 3, 4, 7. */
+/* The numbers. The first in order wins: one instruction 1 to 6; text 1, 5, 9; block 8, 6, then record by record 2, 3, 4, 7. */
 enum neon_number {
     NEON_DONE = 0,
     NEON_BAD_POOL = 1,          /* count above places, or a node breaks a rule */
@@ -41,8 +41,7 @@ enum neon_number {
     NEON_REGISTER = 7,          /* above 31, or m not 0 with no second source */
     NEON_LONG_BLOCK = 8,        /* more than 63 records */
     NEON_SHORT_BUFFER = 9,      /* the text is longer than the buffer */
-    NEON_LINE = 10,             /* of the line program alone */
-    NEON_SHORT_RESULTS = 13     /* fewer than NEON_RESULTS words for the results of a block */
+    NEON_LINE = 10              /* of the line program alone */
 };
 
 enum neon_kind {
@@ -75,14 +74,13 @@ bool neon_pool_check(const uint64_t *pool, size_t words, size_t count);
 uint64_t neon_lower_instruction(uint64_t *pool, size_t words, size_t count, uint64_t operation, uint64_t arrangement, uint64_t i,
                                 size_t d, size_t n, size_t m, size_t *node, size_t *after);
 
-/* Lowers a block into a new pool, whatever words it held: nodes 0 to 31 become v0 to v31. `numbers` counts words, six a record;
- * words after the last whole record are not read. `results`, of `entries` words, gets
+/* Records: six words each, `numbers` words in all; words after the last whole record, five at most, are not read and not refused.
+ * Lowers the block into a new pool, whatever words it held: nodes 0 to 31 become v0 to v31. `results` gets
  *   0 to 31   the node of each register's term, of 128 bits; NEON_NO_NODE where the block is refused
  *   32        the count; 0 where it is refused
  *   33        the position of the first bad record, counted from 0, with 2, 3, 4 and 7; else 0
- * and its later words stay. Fewer than 34 entries get NEON_SHORT_RESULTS, and nothing is written. No word of the pool past the
- * count changes. */
-uint64_t neon_lower_block(uint64_t *pool, size_t words, const uint64_t *records, size_t numbers, uint64_t *results, size_t entries);
+ * No word of the pool past the count changes. */
+uint64_t neon_lower_block(uint64_t *pool, size_t words, const uint64_t *records, size_t numbers, uint64_t results[NEON_RESULTS]);
 
 /* Writes the text of a node to the front of `buffer`, with no zero byte after it; later bytes stay. *length is that of the text,
  * 0 where it is refused. */

@@ -7,7 +7,7 @@ unsafe extern "C" {
         pool: *mut u64, words: usize, count: usize, operation: u64, arrangement: u64, i: u64, d: usize, n: usize, m: usize,
         node: *mut usize, after: *mut usize,
     ) -> u64;
-    fn neon_lower_block(pool: *mut u64, words: usize, records: *const u64, numbers: usize, results: *mut u64, entries: usize) -> u64;
+    fn neon_lower_block(pool: *mut u64, words: usize, records: *const u64, numbers: usize, results: *mut u64) -> u64;
     fn neon_write_text(pool: *const u64, words: usize, count: usize, node: usize, buffer: *mut u8, bytes: usize, length: *mut usize) -> u64;
     fn neon_text_length(pool: *const u64, words: usize, count: usize, node: usize, ceiling: u32, length: *mut usize) -> u64;
 }
@@ -85,7 +85,8 @@ pub fn lower_instruction(pool: &mut Words, count: usize, case: [u64; 3], nodes: 
 pub fn lower_block(pool: &mut Words, records: &[u64], results: &mut Words) -> u64 {
     let (at, length) = pool.lend();
     let (to, entries) = results.lend();
-    let number = unsafe { neon_lower_block(at, length, records.as_ptr(), records.len(), to, entries) };
+    assert!(entries >= 34, "the results are 34 words");
+    let number = unsafe { neon_lower_block(at, length, records.as_ptr(), records.len(), to) };
     pool.look();
     results.look();
     number

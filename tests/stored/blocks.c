@@ -49,7 +49,7 @@ static void answer(const uint64_t *records, size_t count) {
     static uint64_t hashes[NEON_BLOCK_WORDS(NEON_MOST_RECORDS) / 4];
     uint64_t results[NEON_RESULTS];
     size_t words = sizeof pool / sizeof *pool;
-    uint64_t number = neon_lower_block(pool, words, records, NEON_RECORD * count, results, NEON_RESULTS);
+    uint64_t number = neon_lower_block(pool, words, records, NEON_RECORD * count, results);
     printf("%" PRIu64 " %" PRIu64 "\n", number, results[33]);
     if (number != NEON_DONE) {
         return;

@@ -45,14 +45,12 @@ pub enum Number {
     ShortBuffer = 9,
     /// An input line is not in columns: of the line program alone.
     Line = 10,
-    /// Too few words are lent for the results of a block.
-    ShortResults = 13,
 }
 
 impl Number {
     fn of(number: u64) -> Option<Self> {
         use Number::*;
-        let all = [BadPool, NoSuchOperation, NoSuchForm, Immediate, Source, NoRoom, Register, LongBlock, ShortBuffer, Line, ShortResults];
+        let all = [BadPool, NoSuchOperation, NoSuchForm, Immediate, Source, NoRoom, Register, LongBlock, ShortBuffer, Line];
         all.into_iter().find(|n| *n as u64 == number)
     }
 }
@@ -70,7 +68,6 @@ impl fmt::Display for Number {
             Self::LongBlock => "long block",
             Self::ShortBuffer => "short buffer",
             Self::Line => "line",
-            Self::ShortResults => "short results",
         })
     }
 }

@@ -32,7 +32,7 @@ unsafe extern "C" {
         pool: *mut u64, words: usize, count: usize, operation: u64, arrangement: u64, i: u64, d: usize, n: usize, m: usize,
         node: *mut usize, after: *mut usize,
     ) -> u64;
-    fn neon_lower_block(pool: *mut u64, words: usize, records: *const u64, numbers: usize, results: *mut u64, entries: usize) -> u64;
+    fn neon_lower_block(pool: *mut u64, words: usize, records: *const u64, numbers: usize, results: *mut [u64; RESULTS]) -> u64;
     fn neon_write_text(pool: *const u64, words: usize, count: usize, node: usize, buffer: *mut u8, bytes: usize, length: *mut usize) -> u64;
     fn neon_text_length(pool: *const u64, words: usize, count: usize, node: usize, ceiling: u32, length: *mut usize) -> u64;
 }
@@ -54,8 +54,8 @@ pub fn lower_instruction(pool: &mut [u64], count: usize, [operation, arrangement
     (number, node, after)
 }
 
-pub fn lower_block(pool: &mut [u64], records: &[u64], results: &mut [u64]) -> u64 {
-    unsafe { neon_lower_block(pool.as_mut_ptr(), pool.len(), records.as_ptr(), records.len(), results.as_mut_ptr(), results.len()) }
+pub fn lower_block(pool: &mut [u64], records: &[u64], results: &mut [u64; RESULTS]) -> u64 {
+    unsafe { neon_lower_block(pool.as_mut_ptr(), pool.len(), records.as_ptr(), records.len(), results) }
 }
 
 /// Number and length.

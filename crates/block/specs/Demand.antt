@@ -1,13 +1,14 @@
 -- Demand 3 of document 01, of what the lowering of a block answers: the Arm run is fed a start and the records, and nothing of the pool.
-use mathlib.Core.List.{List}
+use mathlib.Core.List.{List, List·Memᴰ}
 use mathlib.Core.Logic.{_↔_}
 use mathlib.Core.Path.{_≡_}
-use Prim.Native.Nat.{ℕ, _<_}
+use Prim.Native.Nat.{ℕ, _<_, _^_}
 use Rattle.terms.specs.Value.{value}
 use Rattle.neon.specs.declared.Instruction.{Instruction}
 use Rattle.neon.specs.Run.{armRun}
+use Rattle.neon.specs.Refusal.{Legal}
 use Rattle.pool.specs.Unfold.{unfoldAt}
-use Rattle.register_map.specs.Map.{nodeOf}
+use Rattle.register_map.specs.Map.{nodeOf, noMap}
 use Rattle.block.specs.declared.BlockAnswer.{BlockAnswer}
 use Rattle.block.specs.Block.{Answered}
 
@@ -29,3 +30,17 @@ EqualWhenTermsAre =
     → (old′ : List ℕ) (cs′ : List Instruction) (new′ : List ℕ) (a′ : BlockAnswer) → Answered old′ cs′ new′ a′ → a′ .number ≡ 0
     → (start : ℕ → ℕ) (r r′ : ℕ) → r < 32 → r′ < 32
     → (armRun cs start r ≡ armRun cs′ start r′) ↔ (termValue start new a r ≡ termValue start new′ a′ r′)
+
+-- a block with one refused record is refused whole: it has a number, no register has a node, and the pool is as it was
+abbrev pub RefusedWhole : Type 0
+RefusedWhole =
+    (old : List ℕ) (cs : List Instruction) (new : List ℕ) (a : BlockAnswer) → Answered old cs new a → (c : Instruction) → List·Memᴰ c cs → (Legal c → ⊥)
+    → (a .number ≡ 0 → ⊥) × (a .map ≡ noMap) × (new ≡ old)
+
+-- where the start's registers have 128 bits, so have those after an accepted block: equal numbers are equal in all 128 bits
+abbrev pub RegistersFit : Type 0
+RegistersFit =
+    (old : List ℕ) (cs : List Instruction) (new : List ℕ) (a : BlockAnswer) → Answered old cs new a → a .number ≡ 0
+    → (start : ℕ → ℕ) → ((x : ℕ) → x < 32 → start x < 2 ^ 128)
+    → (r : ℕ) → r < 32
+    → armRun cs start r < 2 ^ 128

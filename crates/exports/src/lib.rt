@@ -1,7 +1,6 @@
 // The public operations for C and Rust to link, by `rt staticlib exports`; include/neon_terms.h declares them. A slice is a
 // pointer and a length. No call requires anything of its numbers: what it cannot do it refuses by number.
-use block_results::put_results;
-use block_results::results_number;
+use block_results::answer_words;
 ghost use mathlib.Core.Path.{_≡_};
 ghost use Rattle.neon.specs.Form.{formCodeAt};
 ghost use Rattle.pool.specs.Rules.{poolOk};
@@ -50,16 +49,16 @@ pub extern "C" fn neon_lower_instruction(
 
 // Returns the number; the map, the count and the position go to `results`. Where that is too short, nothing is lowered.
 #[no_mangle]
-pub extern "C" fn neon_lower_block(pool: &mut [u64], records: &[u64], results: &mut [u64]) -> u64
-    ensures { λ r. ⌜ BlockGiven (now (pool .entry)) (recordsOf (now (records .entry))) (now (results .entry)) (now (pool .exit)) (now (results .exit)) r ⌝ }
+pub extern "C" fn neon_lower_block(
+    pool: &mut [u64],
+    records: &[u64],
+    results: &mut [u64; 34],
+) -> u64
+    ensures { λ r. ⌜ BlockGiven (now (pool .entry)) (recordsOf (now (records .entry))) (now (pool .exit)) (now (results .exit)) r ⌝ }
 {
-    let short = results_number(results);
-    if 0 < short {
-        return short;
-    }
     let answer = block::lower_block(pool, records);
     let map = answer.map;
-    put_results(results, map, answer.position);
+    *results = answer_words(map, answer.position);
     answer.number
 }
 

@@ -160,6 +160,10 @@ armAt o v i d a b j =
 abbrev pub placeBits : Lanes → Bool → ℕ → ℕ → ℕ
 placeBits l whole new d = cond (isNarrow l && whole) (new * 2 ^ 64 + d % 2 ^ 64) new
 
+-- where lane j of the k new lanes then stands
+abbrev pub placeLane : Lanes → Bool → (k j : ℕ) → ℕ
+placeLane l whole k j = cond (isNarrow l && whole) (k + j) j
+
 -- the result of an instruction on the registers d, a, b, as they are read
 unfoldable pub armResult : Op → Arrangement → (i d a b : ℕ) → ℕ
 armResult o v i d a b = placeBits (form o .lanes) (full v) (lanes (laneBits v) (laneCount o v) (armAt o v i d a b)) d

@@ -14,3 +14,4 @@ pub mod Block
 pub mod Fit
 pub mod FitForm
 pub mod Range
+pub mod Lanewise

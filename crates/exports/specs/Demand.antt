@@ -1,0 +1,39 @@
+-- Demand 3 of document 01, of what `neon_lower_block` returns and of the words that it leaves: word r of the results is the node of
+-- register r's term. These are block's theorems, over words.
+use mathlib.Core.List.{List, List·Memᴰ}
+use mathlib.Core.Logic.{_↔_}
+use mathlib.Core.Path.{_≡_}
+use Prim.Native.Nat.{ℕ, _<_}
+use Rattle.terms.specs.Value.{value}
+use Rattle.neon.specs.declared.Instruction.{Instruction}
+use Rattle.neon.specs.Run.{armRun}
+use Rattle.neon.specs.Refusal.{Legal}
+use Rattle.pool.specs.Unfold.{unfoldAt}
+use Rattle.register_map.specs.Map.{noMap}
+use Rattle.block_results.specs.Words.{answerWords}
+use Rattle.exports.specs.Results.{BlockGiven}
+use lib.ListN.{getD}
+
+-- the value at a start of register r's term, in the pool as the call left it
+abbrev pub wordValue : (ℕ → ℕ) → List ℕ → List ℕ → ℕ → ℕ
+wordValue start new results r = value start (unfoldAt new (getD results r 0))
+
+abbrev pub RegistersHold : Type 0
+RegistersHold =
+    (old : List ℕ) (cs : List Instruction) (new results : List ℕ) (number : ℕ) → BlockGiven old cs new results number → number ≡ 0
+    → (start : ℕ → ℕ) (r : ℕ) → r < 32
+    → armRun cs start r ≡ wordValue start new results r
+
+abbrev pub EqualWhenTermsAre : Type 0
+EqualWhenTermsAre =
+    (old : List ℕ) (cs : List Instruction) (new results : List ℕ) (number : ℕ) → BlockGiven old cs new results number → number ≡ 0
+    → (old′ : List ℕ) (cs′ : List Instruction) (new′ results′ : List ℕ) (number′ : ℕ) → BlockGiven old′ cs′ new′ results′ number′ → number′ ≡ 0
+    → (start : ℕ → ℕ) (r r′ : ℕ) → r < 32 → r′ < 32
+    → (armRun cs start r ≡ armRun cs′ start r′) ↔ (wordValue start new results r ≡ wordValue start new′ results′ r′)
+
+-- a block with one refused record: a number, 32 entries of 65,535 and count 0 with some position, and the pool as it was
+abbrev pub RefusedWhole : Type 0
+RefusedWhole =
+    (old : List ℕ) (cs : List Instruction) (new results : List ℕ) (number : ℕ) → BlockGiven old cs new results number
+    → (c : Instruction) → List·Memᴰ c cs → (Legal c → ⊥)
+    → (number ≡ 0 → ⊥) × (position : ℕ) × (results ≡ answerWords noMap position) × (new ≡ old)
