@@ -4,113 +4,120 @@
 //! registers; [`Pool::lower`] lowers one instruction on nodes that are there already.
 //!
 //! ```
-//! use neon_terms::{Arrangement, Pool, Record};
+//! use neon_terms::{Arrangement, Operation, Pool, Record};
 //!
 //! // ushr v0.2d, v1.2d, #1
-//! let record = Record { operation: 6, arrangement: Arrangement::D2 as u64, i: 1, d: 0, n: 1, m: 0 };
+//! let record = Record { operation: Operation::USHR.number(), arrangement: Arrangement::D2.number(), i: 1, d: 0, n: 1, m: 0 };
 //! let (pool, registers) = Pool::from_block(&[record])?;
 //! assert_eq!(pool.text(registers[0])?, "concat((v1[127:64] >>u 0x1:64), (v1[63:0] >>u 0x1:64))");
 //! assert_eq!(pool.text(registers[7])?, "v7");
 //! # Ok::<(), neon_terms::Refusal>(())
 //! ```
 
+mod operation;
 mod raw;
 mod words;
 
+pub use operation::{Arrangement, Operation};
 pub use words::{Kind, Node, Nodes, View};
 
 use std::fmt;
 
 /// Why an operation refuses, in the words of the numbers' table. The first in order wins.
 #[derive(Debug, Clone, Copy, PartialEq, Eq, Hash)]
-#[repr(u64)]
 pub enum Number {
     /// The count is above the places, or a node breaks a rule.
-    BadPool = 1,
+    BadPool,
     /// Not 1 to 67.
-    NoSuchOperation = 2,
+    NoSuchOperation,
     /// No such arrangement, or the operation has none such.
-    NoSuchForm = 3,
+    NoSuchForm,
     /// i is not one of the form's.
-    Immediate = 4,
+    Immediate,
     /// A wanted node is not there or has another width; an unwanted one is given.
-    Source = 5,
+    Source,
     /// Too few places are free.
-    NoRoom = 6,
+    NoRoom,
     /// Above 31, or m not 0 with no second source.
-    Register = 7,
+    Register,
     /// More than 63 records.
-    LongBlock = 8,
+    LongBlock,
     /// The text is longer than the buffer.
-    ShortBuffer = 9,
+    ShortBuffer,
     /// An input line is not in columns: of the line program alone.
-    Line = 10,
+    Line,
+    /// A number that this wrapper does not know, from an archive that is newer than it.
+    Unknown(u64),
 }
 
+/// Each number with its word.
+const NUMBERS: [(u64, Number, &str); 10] = [
+    (1, Number::BadPool, "bad pool"),
+    (2, Number::NoSuchOperation, "no such operation"),
+    (3, Number::NoSuchForm, "no such form"),
+    (4, Number::Immediate, "immediate"),
+    (5, Number::Source, "source"),
+    (6, Number::NoRoom, "no room"),
+    (7, Number::Register, "register"),
+    (8, Number::LongBlock, "long block"),
+    (9, Number::ShortBuffer, "short buffer"),
+    (10, Number::Line, "line"),
+];
+
 impl Number {
-    fn of(number: u64) -> Option<Self> {
-        use Number::*;
-        let all = [BadPool, NoSuchOperation, NoSuchForm, Immediate, Source, NoRoom, Register, LongBlock, ShortBuffer, Line];
-        all.into_iter().find(|n| *n as u64 == number)
+    fn of(code: u64) -> Self {
+        let known = NUMBERS.into_iter().find(|row| row.0 == code);
+        known.map_or(Self::Unknown(code), |row| row.1)
+    }
+
+    /// The number in the table.
+    pub fn code(self) -> u64 {
+        match self {
+            Self::Unknown(code) => code,
+            known => NUMBERS.into_iter().find(|row| row.1 == known).expect("a row for each number").0,
+        }
     }
 }
 
 impl fmt::Display for Number {
     fn fmt(&self, f: &mut fmt::Formatter<'_>) -> fmt::Result {
-        f.write_str(match self {
-            Self::BadPool => "bad pool",
-            Self::NoSuchOperation => "no such operation",
-            Self::NoSuchForm => "no such form",
-            Self::Immediate => "immediate",
-            Self::Source => "source",
-            Self::NoRoom => "no room",
-            Self::Register => "register",
-            Self::LongBlock => "long block",
-            Self::ShortBuffer => "short buffer",
-            Self::Line => "line",
-        })
+        match NUMBERS.into_iter().find(|row| row.1 == *self) {
+            Some((_, _, word)) => f.write_str(word),
+            None => write!(f, "unknown number {}", self.code()),
+        }
     }
 }
 
-/// A number, and for a block the position of its first bad record.
+/// A number, and for a block the position of its first bad record, where the number is of a record.
 #[derive(Debug, Clone, Copy, PartialEq, Eq)]
 pub struct Refusal {
     pub number: Number,
-    pub position: usize,
+    pub position: Option<usize>,
 }
 
 impl fmt::Display for Refusal {
     fn fmt(&self, f: &mut fmt::Formatter<'_>) -> fmt::Result {
-        match self.number {
-            Number::NoSuchOperation | Number::NoSuchForm | Number::Immediate | Number::Register => {
-                write!(f, "{} (record {})", self.number, self.position)
-            }
-            _ => self.number.fmt(f),
+        match self.position {
+            Some(position) => write!(f, "{} (record {position})", self.number),
+            None => self.number.fmt(f),
         }
     }
 }
 
 impl std::error::Error for Refusal {}
 
-/// The number 0 is Ok.
-fn answer(number: u64, position: usize) -> Result<(), Refusal> {
-    match Number::of(number) {
-        None => Ok(()),
-        Some(number) => Err(Refusal { number, position }),
+/// The answer of an operation that is not on a block: 0 alone is Ok.
+fn answer(code: u64) -> Result<(), Refusal> {
+    match code {
+        0 => Ok(()),
+        _ => Err(Refusal { number: Number::of(code), position: None }),
     }
 }
 
-/// Arrangements by their numbers; n is the lane's bits.
-#[derive(Debug, Clone, Copy, PartialEq, Eq)]
-#[repr(u64)]
-pub enum Arrangement {
-    B8 = 0,
-    B16 = 1,
-    H4 = 2,
-    H8 = 3,
-    S2 = 4,
-    S4 = 5,
-    D2 = 6,
+/// The answer of a block: 2, 3, 4 and 7 are of the record at a position.
+fn block_answer(code: u64, position: u64) -> Result<(), Refusal> {
+    let of_record = matches!(code, 2 | 3 | 4 | 7);
+    answer(code).map_err(|refusal| Refusal { position: of_record.then_some(position as usize), ..refusal })
 }
 
 /// An instruction of a block: d, n and m are registers, m is 0 without a second source. Numbers that name nothing are refused.
@@ -132,7 +139,7 @@ pub struct Form {
     pub reads_destination: bool,
     /// 64 or 128.
     pub first_bits: u16,
-    /// 64 or 128.
+    /// 64 or 128; those of the first without a second source.
     pub second_bits: u16,
 }
 
@@ -152,9 +159,9 @@ pub enum Immediate {
 /// The form of an operation at an arrangement, where there is one.
 ///
 /// ```
-/// use neon_terms::{Arrangement, Immediate, form};
-/// assert_eq!(form(1, Arrangement::B8 as u64).unwrap().immediate, Immediate::Left);
-/// assert!(form(23, Arrangement::D2 as u64).is_none());
+/// use neon_terms::{Arrangement, Immediate, Operation, form};
+/// assert_eq!(form(Operation::SHL.number(), Arrangement::B8.number()).unwrap().immediate, Immediate::Left);
+/// assert!(form(Operation::SHADD.number(), Arrangement::D2.number()).is_none());
 /// ```
 pub fn form(operation: u64, arrangement: u64) -> Option<Form> {
     let code = raw::form_code(operation, arrangement);
@@ -212,11 +219,11 @@ impl Pool {
     /// A new pool with the terms of the 32 registers after the records.
     ///
     /// ```
-    /// use neon_terms::{Number, Pool, Record};
-    /// let good = Record { operation: 1, arrangement: 0, i: 7, d: 0, n: 1, m: 0 };
+    /// use neon_terms::{Arrangement, Number, Operation, Pool, Record};
+    /// let good = Record { operation: Operation::SHL.number(), arrangement: Arrangement::B8.number(), i: 7, d: 0, n: 1, m: 0 };
     /// let bad = Record { i: 8, ..good };
     /// let refusal = Pool::from_block(&[good, bad]).unwrap_err();
-    /// assert_eq!((refusal.number, refusal.position), (Number::Immediate, 1));
+    /// assert_eq!((refusal.number, refusal.position), (Number::Immediate, Some(1)));
     /// assert_eq!(refusal.to_string(), "immediate (record 1)");
     /// ```
     pub fn from_block(records: &[Record]) -> Result<(Self, [Node; 32]), Refusal> {
@@ -224,7 +231,7 @@ impl Pool {
         let mut words = vec![0; 4 * (32 + raw::RESERVE * records.len().min(63))];
         let mut results = [0; raw::RESULTS];
         let number = raw::lower_block(&mut words, &flat, &mut results);
-        answer(number, results[33] as usize)?;
+        block_answer(number, results[33])?;
         let count = results[32] as usize;
         words.truncate(4 * count);
         Ok((Self { words, count }, std::array::from_fn(|r| Node(results[r] as usize))))
@@ -248,12 +255,16 @@ impl Pool {
     /// form does not read. Room is made where there are nodes left to number.
     ///
     /// ```
-    /// use neon_terms::{Arrangement, Node, Pool};
+    /// use neon_terms::{Arrangement, Node, Operation, Pool};
     /// let mut pool = Pool::registers();
     /// // sqabs v0.16b, v3.16b, and the same of that
-    /// let once = pool.lower(38, Arrangement::B16 as u64, 0, None, Some(Node(3)), None)?;
-    /// let twice = pool.lower(38, Arrangement::B16 as u64, 0, None, Some(once), None)?;
+    /// let (operation, arrangement) = (Operation::SQABS.number(), Arrangement::B16.number());
+    /// let once = pool.lower(operation, arrangement, 0, None, Some(Node(3)), None)?;
+    /// let twice = pool.lower(operation, arrangement, 0, None, Some(once), None)?;
     /// assert_eq!(pool.view(twice).unwrap().width, 128);
+    /// // an instruction is no record of a block
+    /// let refusal = pool.lower(operation, arrangement, 1, None, Some(once), None).unwrap_err();
+    /// assert_eq!(refusal.to_string(), "immediate");
     /// # Ok::<(), neon_terms::Refusal>(())
     /// ```
     pub fn lower(&mut self, operation: u64, arrangement: u64, i: u64, d: Option<Node>, n: Option<Node>, m: Option<Node>) -> Result<Node, Refusal> {
@@ -263,7 +274,7 @@ impl Pool {
         }
         let nodes = [d, n, m].map(|node| node.map_or(raw::NO_NODE, |node| node.0));
         let (number, node, after) = raw::lower_instruction(&mut self.words, self.count, [operation, arrangement, i], nodes);
-        answer(number, 0)?;
+        answer(number)?;
         self.count = after;
         Ok(Node(node))
     }
@@ -272,22 +283,73 @@ impl Pool {
     ///
     /// Sharing is written out, so a text may be far longer than the pool: [`Number::ShortBuffer`] stands for more than 2^24 bytes.
     pub fn text(&self, node: Node) -> Result<String, Refusal> {
-        let ceiling = 1 << 24;
-        let (number, length) = raw::text_length(&self.words, self.count, node.0, ceiling);
-        answer(number, 0)?;
-        if length > ceiling as usize {
-            return Err(Refusal { number: Number::ShortBuffer, position: 0 });
-        }
-        let mut buffer = vec![0; length];
-        let (number, _) = raw::write_text(&self.words, self.count, node.0, &mut buffer);
-        answer(number, 0)?;
+        let mut buffer = vec![0; self.text_length(node)?];
+        self.write_text(node, &mut buffer)?;
         Ok(String::from_utf8(buffer).expect("the text is ASCII"))
+    }
+
+    /// Most texts are short, and are measured on the caller's stack.
+    fn text_length(&self, node: Node) -> Result<usize, Refusal> {
+        for ceiling in [raw::SHALLOW, 1 << 24] {
+            let (number, length) = raw::text_length(&self.words, self.count, node.0, ceiling as u32);
+            answer(number)?;
+            if length <= ceiling {
+                return Ok(length);
+            }
+        }
+        Err(Refusal { number: Number::ShortBuffer, position: None })
     }
 
     /// Writes the text of a node to the front of a buffer, and returns its length.
     pub fn write_text(&self, node: Node, buffer: &mut [u8]) -> Result<usize, Refusal> {
         let (number, length) = raw::write_text(&self.words, self.count, node.0, buffer);
-        answer(number, 0)?;
+        answer(number)?;
         Ok(length)
+    }
+}
+
+#[cfg(test)]
+mod tests {
+    use super::*;
+
+    #[test]
+    fn only_0_is_done() {
+        assert_eq!(answer(0), Ok(()));
+        for code in (1..20).chain([u64::MAX]) {
+            let refusal = answer(code).unwrap_err();
+            assert_eq!((refusal.number.code(), refusal.position), (code, None));
+        }
+        assert_eq!(answer(99).unwrap_err().to_string(), "unknown number 99");
+    }
+
+    #[test]
+    fn numbers_of_records_have_a_position() {
+        for code in 1..20 {
+            let position = matches!(code, 2 | 3 | 4 | 7).then_some(5);
+            assert_eq!(block_answer(code, 5).unwrap_err().position, position);
+        }
+        assert_eq!(block_answer(7, 0).unwrap_err().to_string(), "register (record 0)");
+        assert_eq!(block_answer(8, 0).unwrap_err().to_string(), "long block");
+    }
+
+    #[test]
+    fn each_number_once() {
+        for (k, (code, number, word)) in NUMBERS.into_iter().enumerate() {
+            assert_eq!((Number::of(code), number.code(), number.to_string().as_str()), (number, code, word));
+            assert!(NUMBERS[..k].iter().all(|row| row.0 < code && row.1 != number));
+        }
+    }
+
+    #[test]
+    fn operations_and_arrangements_by_number() {
+        for (k, operation) in Operation::ALL.into_iter().enumerate() {
+            assert_eq!((operation.number(), Operation::of(k as u64 + 1)), (k as u64 + 1, Some(operation)));
+            assert!((0..7).any(|arrangement| form(operation.number(), arrangement).is_some()));
+        }
+        for (k, arrangement) in Arrangement::ALL.into_iter().enumerate() {
+            assert_eq!((arrangement.number(), Arrangement::of(k as u64)), (k as u64, Some(arrangement)));
+        }
+        assert!((0..7).all(|arrangement| form(0, arrangement).is_none() && form(68, arrangement).is_none()));
+        assert_eq!(Arrangement::of(7), None);
     }
 }

@@ -9,7 +9,7 @@ pub const RESULTS: usize = 34;
 pub const NO_NODE: usize = 65535;
 
 /// A text of so many bytes has at most a fifth as many levels, of 64 bytes of stack each: 0.9 MB, which every thread has.
-const SHALLOW: usize = 65536;
+pub const SHALLOW: usize = 65536;
 
 /// 65,534 levels of 64 bytes, and to spare.
 const DEEP_STACK: usize = 8 << 20;

@@ -78,9 +78,10 @@ impl Pool {
     /// All nodes in the order of their numbers.
     ///
     /// ```
-    /// use neon_terms::{Kind, Pool, Record};
+    /// use neon_terms::{Arrangement, Kind, Operation, Pool, Record};
     /// // cnt v0.8b, v1.8b
-    /// let (pool, _) = Pool::from_block(&[Record { operation: 60, arrangement: 0, i: 0, d: 0, n: 1, m: 0 }])?;
+    /// let record = Record { operation: Operation::CNT.number(), arrangement: Arrangement::B8.number(), i: 0, d: 0, n: 1, m: 0 };
+    /// let (pool, _) = Pool::from_block(&[record])?;
     /// let sums = pool.nodes().filter(|view| matches!(view.kind, Kind::Add(..))).count();
     /// assert!(sums > 0 && pool.nodes().len() == pool.len());
     /// # Ok::<(), neon_terms::Refusal>(())
