@@ -28,8 +28,8 @@ static int show(const uint64_t *records, size_t count) {
 
 int main(void) {
     /* ushr v0.2d, v1.2d, #1; the same by a negative register shift; a shift of 65 bits, which is none */
-    const uint64_t by_number[] = {6, NEON_2D, 1, 0, 1, 0};
-    const uint64_t by_register[] = {10, NEON_2D, 0, 0, 1, 2};
-    const uint64_t bad[] = {6, NEON_2D, 1, 0, 1, 0, 6, NEON_2D, 65, 0, 1, 0};
+    const uint64_t by_number[] = {NEON_OP_USHR, NEON_2D, 1, 0, 1, 0};
+    const uint64_t by_register[] = {NEON_OP_USHL, NEON_2D, 0, 0, 1, 2};
+    const uint64_t bad[] = {NEON_OP_USHR, NEON_2D, 1, 0, 1, 0, NEON_OP_USHR, NEON_2D, 65, 0, 1, 0};
     return show(by_number, 1) || show(by_register, 1) || show(bad, 2);
 }

@@ -44,11 +44,36 @@ enum neon_number {
     NEON_LINE = 10              /* of the line program alone */
 };
 
+/* The kinds of nodes. */
 enum neon_kind {
     NEON_VAR = 1, NEON_CONST, NEON_ADD, NEON_SUB, NEON_MUL, NEON_AND, NEON_OR, NEON_XOR, NEON_SHL, NEON_LSHR, NEON_ASHR,
     NEON_EQ, NEON_ULT, NEON_SLT, NEON_ITE, NEON_EXTRACT, NEON_CONCAT, NEON_ZERO_EXTEND, NEON_SIGN_EXTEND
 };
 
+/* The operations, named as in the Arm manual. I: by an immediate, where the name has a form by a register too; 2: upper source
+ * lanes; E: by an element. */
+enum neon_operation {
+    NEON_OP_SHL = 1, NEON_OP_SQSHLI, NEON_OP_UQSHLI, NEON_OP_SQSHLU,
+    NEON_OP_SSHR = 5, NEON_OP_USHR, NEON_OP_SRSHR, NEON_OP_URSHR,
+    NEON_OP_SSHL = 9, NEON_OP_USHL, NEON_OP_SRSHL, NEON_OP_URSHL, NEON_OP_SQSHL, NEON_OP_UQSHL, NEON_OP_SQRSHL, NEON_OP_UQRSHL,
+    NEON_OP_SLI = 17, NEON_OP_SRI,
+    NEON_OP_SQADD = 19, NEON_OP_UQADD, NEON_OP_SQSUB, NEON_OP_UQSUB,
+    NEON_OP_SHADD = 23, NEON_OP_UHADD, NEON_OP_SRHADD, NEON_OP_URHADD,
+    NEON_OP_SQXTN = 27, NEON_OP_UQXTN, NEON_OP_SQXTUN,
+    NEON_OP_SHRN = 30, NEON_OP_RSHRN, NEON_OP_SQSHRN, NEON_OP_SQRSHRN,
+    NEON_OP_UQSHRN = 34, NEON_OP_UQRSHRN, NEON_OP_SQSHRUN, NEON_OP_SQRSHRUN,
+    NEON_OP_SQABS = 38, NEON_OP_SQNEG, NEON_OP_SQDMULH, NEON_OP_SQRDMULH,
+    NEON_OP_SQDMULL = 42, NEON_OP_SQDMLAL, NEON_OP_SQDMLSL,
+    NEON_OP_SQDMULL2 = 45, NEON_OP_SQDMLAL2, NEON_OP_SQDMLSL2,
+    NEON_OP_SQDMULLE = 48, NEON_OP_SQDMLALE, NEON_OP_SQDMLSLE,
+    NEON_OP_SQDMULL2E = 51, NEON_OP_SQDMLAL2E, NEON_OP_SQDMLSL2E,
+    NEON_OP_SUQADD = 54, NEON_OP_USQADD,
+    NEON_OP_SABD = 56, NEON_OP_UABD, NEON_OP_SABA, NEON_OP_UABA,
+    NEON_OP_CNT = 60, NEON_OP_CLZ, NEON_OP_CLS, NEON_OP_RBIT,
+    NEON_OP_ADDHN = 64, NEON_OP_RADDHN, NEON_OP_SUBHN, NEON_OP_RSUBHN
+};
+
+/* Lanes and their bits: 8B is 8 lanes of 8 bits. */
 enum neon_arrangement { NEON_8B, NEON_16B, NEON_4H, NEON_8H, NEON_2S, NEON_4S, NEON_2D };
 
 #define NEON_NO_NODE 65535
@@ -62,7 +87,8 @@ enum neon_arrangement { NEON_8B, NEON_16B, NEON_4H, NEON_8H, NEON_2S, NEON_4S, N
 
 /* What a form is: 0 where an operation (1 to 67) has no such arrangement (0 to 6). Else bits 0 to 2 tell of the immediate
  * (1: i is 0; 2: 0 to n - 1; 3: 1 to n, n being the lane's bits; 4: the number of an element), and 0x08 of a second source,
- * 0x10 of a destination that is read, 0x20 and 0x40 of a first and a second source of 128 bits, else 64. */
+ * 0x10 of a destination that is read, 0x20 and 0x40 of a first and a second source of 128 bits, else 64. Without a second source
+ * 0x40 is set where 0x20 is. */
 uint64_t neon_form_code(uint64_t operation, uint64_t arrangement);
 
 /* Whether the pool has `count` places and each node below `count` keeps the rules. */
