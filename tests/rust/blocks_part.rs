@@ -137,6 +137,7 @@ pub fn main(count: u64) {
             seen.refused += 1;
         }
     }
+    assert!(seen.refused > 0 && seen.texts > 0, "blocks: {} refused, {} texts", seen.refused, seen.texts);
     println!(
         "blocks: {count} blocks, {} refused; {} records, {} nodes: {} terms of registers equal the Rust's by hash, their values the table's at one start each; {} texts equal",
         seen.refused, seen.records, seen.nodes, seen.terms, seen.texts

@@ -4,6 +4,8 @@
 // The original's modules hold much that is not called here.
 #![allow(dead_code, unused_imports)]
 
+use std::thread::JoinHandle;
+
 // The original's two lower crates are this one.
 extern crate self as r2smt_common;
 extern crate self as r2smt_ir;
@@ -47,26 +49,70 @@ impl Address {
     }
 }
 
+/// A part of the comparison: its name and its function, which gets COUNT / divisor + least.
+struct Part {
+    name: &'static str,
+    divisor: u64,
+    least: u64,
+    run: fn(u64),
+}
+
+const fn part(name: &'static str, divisor: u64, least: u64, run: fn(u64)) -> Part {
+    Part { name, divisor, least, run }
+}
+
+/// The parts: a new one is a module and a row. The first takes as long as all the others, and so runs beside them.
+const PARTS: &[Part] = &[
+    part("forms", 25_000, 8, forms_part::main),
+    part("blocks", 800, 64, blocks_part::main),
+    part("values", 1, 0, values_part::main),
+    part("texts", 250, 10, texts_part::main),
+    part("damage", 1, 0, damage_part::main),
+    part("lines", 5_000, 10, lines_part::main),
+    part("solvers", 5_000, 5, solver_part::main),
+];
+
+/// What a stored sample has: the input, and a judge's answers.
+struct Sample {
+    input: String,
+    answers: String,
+}
+
+/// The samples in tests/stored that a judge makes, by name and number of cases; tests/stored/NAME.c reads NAME.in and writes NAME.out.
+const STORED: &[(&str, u64, fn(u64) -> Sample)] = &[("pools", 300, damage_part::stored)];
+
+impl Part {
+    /// The library has to make do with 8 MB of stack, whatever this machine gives the first thread.
+    fn start(&self, count: u64) -> JoinHandle<()> {
+        let (run, share) = (self.run, count / self.divisor + self.least);
+        std::thread::Builder::new().stack_size(8 << 20).spawn(move || run(share)).expect("a thread")
+    }
+}
+
 /// A failed comparison panics, and the program ends with 101.
+fn end(part: JoinHandle<()>) {
+    if part.join().is_err() {
+        std::process::exit(101);
+    }
+}
+
+/// `compare all COUNT`, `compare PART COUNT` or `compare stored FOLDER`.
 fn main() {
     let arguments: Vec<String> = std::env::args().skip(1).collect();
-    let number = |k: usize| -> u64 { arguments[k].parse().expect("a number") };
-    // The library has to make do with 8 MB of stack, whatever this machine gives the first thread.
-    let eight_megabytes = |part: fn(u64), count: u64| {
-        let thread = std::thread::Builder::new().stack_size(8 << 20).spawn(move || part(count));
-        if thread.expect("a thread").join().is_err() {
-            std::process::exit(101);
+    let [name, value] = arguments.as_slice() else { panic!("two arguments") };
+    if name == "stored" {
+        for (name, cases, sample) in STORED {
+            let Sample { input, answers } = sample(*cases);
+            std::fs::write(format!("{value}/{name}.in"), input).expect("the input is written");
+            std::fs::write(format!("{value}/{name}.out"), answers).expect("the answers are written");
         }
-    };
-    match arguments[0].as_str() {
-        "forms" => forms_part::main(number(1)),
-        "blocks" => blocks_part::main(number(1)),
-        "values" => values_part::main(&arguments[1], &arguments[2]),
-        "texts" => eight_megabytes(texts_part::main, number(1)),
-        "damage" => eight_megabytes(damage_part::main, number(1)),
-        "stored" => damage_part::stored(number(1)),
-        "lines" => lines_part::main(&arguments[1], number(2)),
-        "solver" => solver_part::main(&arguments[1], number(2)),
-        _ => panic!("no such part"),
+        return;
     }
+    let count = value.parse().expect("a number");
+    let mut parts = PARTS.iter().filter(|part| name == "all" || name == part.name);
+    let first = parts.next().expect("a part of that name").start(count);
+    for part in parts {
+        end(part.start(count));
+    }
+    end(first);
 }

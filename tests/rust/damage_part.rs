@@ -1,5 +1,6 @@
 //! Damaged pools and odd arguments: each operation's answer against the judge, on 8 MB of stack. A refusal changes no word
 //! and no byte.
+use crate::Sample;
 use crate::blocks_part::{record, refused, spoil};
 use crate::expr::Expr;
 use crate::judge::{self, NONE, RESERVE, Record, block_number, grown, instruction_number, lengths, text_number, view, wanted};
@@ -205,7 +206,18 @@ fn try_block(r: &mut Rng, lent: &mut Words, old: &[u64], seen: &mut Seen) {
     seen.block[number as usize] += 1;
 }
 
+/// Every number of an operation came up, and no other.
+fn given(operation: &str, counts: &[u64], numbers: &[usize]) {
+    for (number, &count) in counts.iter().enumerate() {
+        assert_eq!(count > 0, numbers.contains(&number), "damage: {operation} gave {number} {count} times");
+    }
+}
+
+/// So many pools bring up every number.
+const LEAST: u64 = 20_000;
+
 pub fn main(count: u64) {
+    let count = count.max(LEAST);
     let mut r = Rng(0xb5ad_4ece_da1c_e2a9);
     let mut seen = Seen::default();
     let mut lent = words(&[]);
@@ -233,11 +245,16 @@ pub fn main(count: u64) {
     let ways: Vec<String> = DAMAGE.iter().zip(seen.ways).map(|(name, n)| format!("{name} {n}")).collect();
     println!("damage: {count} pools ({}), {} of them bad: yes or no as the judge says", ways.join(", "), seen.bad);
     println!("damage: answers by number, all as the judge's: one instruction {:?}, text {:?}, block {:?}", seen.instruction, seen.text, seen.block);
+    assert!(seen.ways.iter().all(|&n| n > 0) && seen.bad > 0, "a way of damage did not come up");
+    given("one instruction", &seen.instruction, &[0, 1, 2, 3, 4, 5, 6]);
+    given("text", &seen.text, &[0, 1, 5, 9]);
+    given("block", &seen.block, &[0, 2, 3, 4, 6, 7, 8, 13]);
 }
 
-/// Writes a sample for tests/stored/pools: to standard output the cases, to standard error what the judge answers.
-pub fn stored(count: u64) {
+/// The sample for tests/stored/pools: the cases, and what the judge answers.
+pub fn stored(count: u64) -> Sample {
     let mut r = Rng(0x2545_f491_4f6c_dd1d);
+    let (mut input, mut answers) = (String::new(), String::new());
     for _ in 0..count {
         let Base { mut words, mut count } = base(&mut r);
         words.truncate(4 * count + r.below(6) as usize);
@@ -245,7 +262,8 @@ pub fn stored(count: u64) {
         let (case, nodes) = arguments(&mut r, &words, count);
         let head: Vec<String> = case.iter().copied().chain(nodes.map(|n| n as u64)).map(|x| x.to_string()).collect();
         let body: Vec<String> = words.iter().map(|w| format!("{w:x}")).collect();
-        println!("{} {count} {} {}", words.len(), head.join(" "), body.join(" "));
-        eprintln!("{} {}", u8::from(valid(&words, count)), instruction_number(&words, count, case, nodes));
+        input += &format!("{} {count} {} {}\n", words.len(), head.join(" "), body.join(" "));
+        answers += &format!("{} {}\n", u8::from(valid(&words, count)), instruction_number(&words, count, case, nodes));
     }
+    Sample { input, answers }
 }

@@ -8,6 +8,8 @@ use crate::judge::Record;
 use crate::pools::Rng;
 use crate::run;
 
+const PROGRAM: &str = "target/bin/lanes";
+
 fn line(r: &mut Rng) -> Vec<u8> {
     let mut records: [Record; 1] = [record(r, 32)];
     if r.below(4) == 0 {
@@ -32,8 +34,8 @@ fn line(r: &mut Rng) -> Vec<u8> {
     line
 }
 
-fn answer(program: &str, input: &[u8]) -> Vec<u8> {
-    let mut child = Command::new(program).stdin(Stdio::piped()).stdout(Stdio::piped()).spawn().expect("the program");
+fn answer(input: &[u8]) -> Vec<u8> {
+    let mut child = Command::new(PROGRAM).stdin(Stdio::piped()).stdout(Stdio::piped()).spawn().expect("the program");
     let mut to = child.stdin.take().expect("its input");
     let bytes = input.to_vec();
     let writer = std::thread::spawn(move || to.write_all(&bytes));
@@ -47,11 +49,11 @@ fn want(input: &[u8]) -> Vec<u8> {
     forms::lines(input).iter().flat_map(|line| run::line_answer(line).into_bytes()).collect()
 }
 
-pub fn main(program: &str, count: u64) {
+pub fn main(count: u64) {
     let mut r = Rng(0x6a09_e667_f3bc_c909);
     let (mut lines, mut bytes) = (0, 0);
     let mut try_it = |input: &[u8]| {
-        let (got, want) = (answer(program, input), want(input));
+        let (got, want) = (answer(input), want(input));
         if got != want {
             let at = got.iter().zip(&want).take_while(|(a, b)| a == b).count();
             std::fs::write("target/lines-input", input).expect("a file");

@@ -1,5 +1,6 @@
-//! Values of a sample of terms, asked of z3 or cvc5: at a fixed start no term has another value than the evaluator's.
+//! Values of a sample of terms, asked of z3 and of cvc5: at a fixed start no term has another value than the evaluator's.
 use std::fmt::Write as _;
+use std::path::Path;
 use std::process::{Command, Stdio};
 
 use crate::blocks_part::record;
@@ -60,7 +61,18 @@ fn question(r: &mut Rng, script: &mut String) {
     writeln!(script, "(assert (or {}))\n(check-sat)\n(pop 1)", differs.join(" ")).expect("a string");
 }
 
-pub fn main(solver: &str, count: u64) {
+/// The solvers, with what each has to be told for more than one question.
+const SOLVERS: [(&str, &[&str]); 2] = [("z3", &[]), ("cvc5", &["--incremental"])];
+
+fn ask(solver: &str, options: &[&str], path: &Path, count: u64) {
+    let output = Command::new(solver).args(options).arg(path).stderr(Stdio::inherit()).output().expect("the solver");
+    let answers = String::from_utf8(output.stdout).expect("text");
+    let unsat = answers.lines().filter(|line| *line == "unsat").count() as u64;
+    assert!(unsat == count && answers.lines().count() as u64 == count, "the solver says: {answers}");
+    println!("solvers: {solver} finds no other value of any register's term, at the starts of {count} blocks");
+}
+
+pub fn main(count: u64) {
     let mut r = Rng(0x510e_527f_ade6_82d1);
     let mut script = "(set-logic QF_BV)\n".to_string();
     for _ in 0..count {
@@ -68,14 +80,12 @@ pub fn main(solver: &str, count: u64) {
     }
     let path = std::env::temp_dir().join(format!("neon-terms-{}.smt2", std::process::id()));
     std::fs::write(&path, &script).expect("a file");
-    let mut command = Command::new(solver);
-    if solver.contains("cvc5") {
-        command.arg("--incremental");
+    for (solver, options) in SOLVERS {
+        if Command::new(solver).arg("--version").output().is_ok() {
+            ask(solver, options, &path, count);
+        } else {
+            println!("skipped: compare with {solver} (no {solver})");
+        }
     }
-    let output = command.arg(&path).stderr(Stdio::inherit()).output().expect("the solver");
     std::fs::remove_file(&path).expect("the file");
-    let answers = String::from_utf8(output.stdout).expect("text");
-    let unsat = answers.lines().filter(|line| *line == "unsat").count() as u64;
-    assert!(unsat == count && answers.lines().count() as u64 == count, "the solver says: {answers}");
-    println!("solver: {solver} finds no other value of any register's term, at the starts of {count} blocks");
 }

@@ -2,6 +2,7 @@
 use crate::evaluate;
 use crate::native::{self, Words, words};
 use crate::pools::Rng;
+use std::collections::HashSet;
 
 fn number(word: &str) -> u64 {
     word.parse().expect("a number")
@@ -27,7 +28,7 @@ fn lines(path: &str) -> Vec<String> {
 
 fn instructions(pool: &mut Words, path: &str) -> u64 {
     let mut r = Rng(0x2545_f491_4f6c_dd1d);
-    let mut count = 0;
+    let (mut count, mut operations) = (0, HashSet::new());
     for line in lines(path) {
         let words: Vec<&str> = line.split(' ').collect();
         let record: Vec<u64> = words[..6].iter().map(|w| number(w)).collect();
@@ -41,7 +42,9 @@ fn instructions(pool: &mut Words, path: &str) -> u64 {
         want[record[3] as usize] = register(words[9]);
         assert_eq!(run(pool, &record, &start), want, "{line}");
         count += 1;
+        operations.insert(record[0]);
     }
+    assert_eq!(operations.len(), 67, "operations in {path}");
     count
 }
 
@@ -63,12 +66,19 @@ fn blocks(pool: &mut Words, path: &str) -> (u64, u64) {
             _ => records.extend(line.split(' ').map(number)),
         }
     }
+    assert!(all > 0, "no block in {path}");
     (blocks, all)
 }
 
-pub fn main(values: &str, of_blocks: &str) {
+/// All values of the files, whatever the number is.
+pub fn main(_: u64) {
+    let folder = std::env::var("SHARED").unwrap_or("../shared".to_string()) + "/vectors";
+    if !std::path::Path::new(&folder).is_dir() {
+        println!("skipped: compare with Arm values (no {folder})");
+        return;
+    }
     let mut pool = words(&vec![0; 4 * (32 + 1024 * 63)]);
-    let count = instructions(&mut pool, values);
-    let (blocks, records) = blocks(&mut pool, of_blocks);
+    let count = instructions(&mut pool, &format!("{folder}/arm-values.txt"));
+    let (blocks, records) = blocks(&mut pool, &format!("{folder}/blocks.txt"));
     println!("values: {count} instructions and {blocks} blocks of {records} records: the terms' values are Arm's in all 32 registers");
 }
