@@ -345,6 +345,10 @@ mod tests {
         for (k, operation) in Operation::ALL.into_iter().enumerate() {
             assert_eq!((operation.number(), Operation::of(k as u64 + 1)), (k as u64 + 1, Some(operation)));
             assert!((0..7).any(|arrangement| form(operation.number(), arrangement).is_some()));
+            // the I of SQSHLI and UQSHLI and the E of an element are not the assembler's
+            let name = format!("{operation:?}").to_lowercase();
+            let ours = usize::from(matches!(operation.number(), 2 | 3 | 48..=53));
+            assert_eq!(operation.mnemonic(), &name[..name.len() - ours]);
         }
         for (k, arrangement) in Arrangement::ALL.into_iter().enumerate() {
             assert_eq!((arrangement.number(), Arrangement::of(k as u64)), (k as u64, Some(arrangement)));
