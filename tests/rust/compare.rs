@@ -85,7 +85,7 @@ impl Part {
     /// The library has to make do with 8 MB of stack, whatever this machine gives the first thread.
     fn start(&self, count: u64) -> JoinHandle<()> {
         let (run, share) = (self.run, count / self.divisor + self.least);
-        std::thread::Builder::new().stack_size(8 << 20).spawn(move || run(share)).expect("a thread")
+        std::thread::Builder::new().name(self.name.to_string()).stack_size(8 << 20).spawn(move || run(share)).expect("a thread")
     }
 }
 

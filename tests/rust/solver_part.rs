@@ -64,12 +64,11 @@ fn question(r: &mut Rng, script: &mut String) {
 /// The solvers, with what each has to be told for more than one question.
 const SOLVERS: [(&str, &[&str]); 2] = [("z3", &[]), ("cvc5", &["--incremental"])];
 
-fn ask(solver: &str, options: &[&str], path: &Path, count: u64) {
+/// What a solver answers, or None where it is not there.
+fn answers(solver: &str, options: &[&str], path: &Path) -> Option<String> {
+    Command::new(solver).arg("--version").output().ok()?;
     let output = Command::new(solver).args(options).arg(path).stderr(Stdio::inherit()).output().expect("the solver");
-    let answers = String::from_utf8(output.stdout).expect("text");
-    let unsat = answers.lines().filter(|line| *line == "unsat").count() as u64;
-    assert!(unsat == count && answers.lines().count() as u64 == count, "the solver says: {answers}");
-    println!("solvers: {solver} finds no other value of any register's term, at the starts of {count} blocks");
+    Some(String::from_utf8(output.stdout).expect("text"))
 }
 
 pub fn main(count: u64) {
@@ -80,12 +79,15 @@ pub fn main(count: u64) {
     }
     let path = std::env::temp_dir().join(format!("neon-terms-{}.smt2", std::process::id()));
     std::fs::write(&path, &script).expect("a file");
-    for (solver, options) in SOLVERS {
-        if Command::new(solver).arg("--version").output().is_ok() {
-            ask(solver, options, &path, count);
-        } else {
-            println!("skipped: compare with {solver} (no {solver})");
-        }
-    }
+    let answered = SOLVERS.map(|(solver, options)| (solver, answers(solver, options, &path)));
     std::fs::remove_file(&path).expect("the file");
+    for (solver, answers) in answered {
+        let Some(answers) = answers else {
+            println!("skipped: compare with {solver} (no {solver})");
+            continue;
+        };
+        let unsat = answers.lines().filter(|line| *line == "unsat").count() as u64;
+        assert!(unsat == count && answers.lines().count() as u64 == count, "{solver} says: {answers}");
+        println!("solvers: {solver} finds no other value of any register's term, at the starts of {count} blocks");
+    }
 }
