@@ -1,3 +1,4 @@
+use native.Mathlib.Omega.{arith}
 use Rattle.block_check.proofs.Refusals.{too-long, no-room, has-room}
 use borrow.Author.Needs.{needs}
 use Rattle.block_check.proofs.size_number.Statement.{statement}
@@ -17,12 +18,12 @@ add-if2 c = search needs
 returns-2 : tie.Need-returns-2
 returns-2 c =
     let st = c .before .before in
-    no-room (st .args .words) (st .args .count) (c .before .if1 .left) (c .if2 .taken)
+    no-room (st .args .words) (st .args .count) (c .before .if1 .left) (omega (arith, c .if2 .taken))
 
 returns-3 : tie.Need-returns-3
 returns-3 c =
     let st = c .before .before in
-    has-room (st .args .words) (st .args .count) (c .before .if1 .left) (c .if2 .left)
+    has-room (st .args .words) (st .args .count) (c .before .if1 .left) (omega (arith, c .if2 .left))
 
 pub size-number-spec : {M : Type 1} → statement M
 size-number-spec = tie.close (tie.spec returns mul-if2 add-if2 returns-2 returns-3)

@@ -1,6 +1,6 @@
 use mathlib.Core.Bool.{true}
 use mathlib.Core.Path.{_≡_, sym, ap, _∙_}
-use Prim.Native.Nat.{_≤_}
+use Prim.Native.Nat.{_≤_, _<_}
 use native.Mathlib.Omega.{arith}
 use lib.ListN.{length}
 use denote.Ref.{now, name}
@@ -21,8 +21,11 @@ entry c = c .before .before .before .before
 good : (c : tie.Else1) → poolOk (entry c .args .pool .now) (entry c .args .count) ≡ true
 good c = sym (c .before .pool-check .ensures) ∙ not-false _ (c .if1 .left)
 
+inside : (c : tie.Else2) → let a = entry (c .before) .args in a .node < a .count
+inside c = omega (arith, c .if2 .left)
+
 whole : (c : tie.Else2) → let a = entry (c .before) .args in Ready (a .pool .now) (a .node)
-whole c = let a = entry (c .before) .args in ready (a .pool .now) (a .count) (a .node) (good (c .before)) (c .if2 .left)
+whole c = let a = entry (c .before) .args in ready (a .pool .now) (a .count) (a .node) (good (c .before)) (inside c)
 
 abbrev measured : tie.Else3 → tie.Else2
 measured c = c .before .before
@@ -58,7 +61,7 @@ returns-3 c =
     let e = c .before .before in
     let a = entry (e .before) .args in
     refused (a .pool .now) (a .count) (a .node) (a .buffer .now) 8
-    (short (a .pool .now) (a .count) (a .node) (length (a .buffer .now)) (good (e .before)) (e .if2 .left) (omega (arith, c .before .measure .ensures, c .if3 .taken)))
+    (short (a .pool .now) (a .count) (a .node) (length (a .buffer .now)) (good (e .before)) (inside e) (omega (arith, c .before .measure .ensures, c .if3 .taken)))
 
 write-node-requires : tie.Need-write-node-requires
 write-node-requires c κs = (whole (measured (c .before)), record { room = omega (arith, enough (c .before)) })
@@ -77,7 +80,7 @@ returns-4 c =
     let e = measured f in
     let a = entry (e .before) .args in
     written (a .pool .now) (a .count) (a .node)
-    (fits (a .pool .now) (a .count) (a .node) (length (a .buffer .now)) (good (e .before)) (e .if2 .left) (enough f))
+    (fits (a .pool .now) (a .count) (a .node) (length (a .buffer .now)) (good (e .before)) (inside e) (enough f))
     (enough f) (omega (arith, f .before .measure .ensures, enough f))
     (b .buffer .given .1 .0 (sym (ap name (w .write-node .ensures))) ∙ ap now (w .write-node .ensures))
 
