@@ -43,7 +43,7 @@ lower-record-requires c κs =
     let t = r .before in
     let s = entry (t .before) in
     let l = t .before .loop in
-    (room t, (l .inv .2 .map-ok, rw (r .record-at .ensures) (legal-here (s .args .records .now) (l .j) (s .pre .1 .1) (in-records t))))
+    (room t, (l .inv .2 .map-ok, rw (r .record-at .ensures) (legal-here (s .args .records .now) _ (s .pre .1 .1) (omega (arith, in-records t)))))
 
 abbrev turn : tie.After-slice-known2 Inv-loop μ-loop → tie.In-loop Inv-loop μ-loop
 turn c = c .before .before .before .before .before
