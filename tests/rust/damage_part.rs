@@ -248,7 +248,7 @@ pub fn main(count: u64) {
     assert!(seen.ways.iter().all(|&n| n > 0) && seen.bad > 0, "a way of damage did not come up");
     given("one instruction", &seen.instruction, &[0, 1, 2, 3, 4, 5, 6]);
     given("text", &seen.text, &[0, 1, 5, 9]);
-    given("block", &seen.block, &[0, 2, 3, 4, 6, 7, 8, 13]);
+    given("block", &seen.block, &[0, 2, 3, 4, 6, 7, 8]);
 }
 
 /// The sample for tests/stored/pools: the cases, and what the judge answers.
