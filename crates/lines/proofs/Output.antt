@@ -1,5 +1,5 @@
 -- An input that is read in pieces: gathering its lines and answering them gives its output, whatever the pieces are. Assumes nothing.
-use mathlib.Core.Bool.{Bool, true, false, false≢true}
+use mathlib.Core.Bool.{Bool, true, false, cond, false≢true}
 use mathlib.Core.List.{List, [], _∷_, _++_, append-assoc, append-nil}
 use mathlib.Core.Path.{_≡_, refl, sym, ap, _∙_}
 use Prim.Native.Nat.{ℕ, zero, suc, _-_, _≤_, _<_}
@@ -29,7 +29,7 @@ line-closed p l (b ∷ s) rest e = go (eqb b 10) refl (λ h. line-closed p (l ++
     go true f ih = rw f (rw append-nil refl)
     go false f ih = rw f (ih (rw f at e) ∙ rw append-assoc)
 
-line-open : (p : ℕ) (l s rest : List ℕ) → ends s ≡ false → (outputFrom p l (s ++ rest) ≡ outputFrom p (l ++ s) rest) × (upTo s ≡ s)
+pub line-open : (p : ℕ) (l s rest : List ℕ) → ends s ≡ false → (outputFrom p l (s ++ rest) ≡ outputFrom p (l ++ s) rest) × (upTo s ≡ s)
 unfolding outputFrom upTo ends
 line-open p l [] rest e = (rw append-nil, refl)
 line-open p l (b ∷ s) rest e = go (eqb b 10) refl (λ h. line-open p (l ++ (b ∷ [])) s rest h)
@@ -67,6 +67,17 @@ take-cut : (h : ℕ) (l s : List ℕ) → take h (take h l ++ s) ≡ take h (l +
 take-cut zero l s = refl
 take-cut (suc h) [] s = refl
 take-cut (suc h) (b ∷ l) s = ap (λ (z : List ℕ). b ∷ z) (take-cut h l s)
+
+pub output-cut : (p h : ℕ) (l s : List ℕ) → 25 ≤ h → outputFrom p (take h l) s ≡ outputFrom p l s
+unfolding outputFrom
+output-cut p h l [] g = last-cut p h l g
+output-cut p h l (b ∷ s) g = go (eqb b 10) (output-cut p h (take h l ++ (b ∷ [])) s g) (output-cut p h (l ++ (b ∷ [])) s g)
+  where
+    go : (t : Bool) → outputFrom p (take h (take h l ++ (b ∷ []))) s ≡ outputFrom p (take h l ++ (b ∷ [])) s
+        → outputFrom p (take h (l ++ (b ∷ []))) s ≡ outputFrom p (l ++ (b ∷ [])) s
+        → cond t (answer p (take h l) ++ outputFrom p [] s) (outputFrom p (take h l ++ (b ∷ [])) s) ≡ cond t (answer p l ++ outputFrom p [] s) (outputFrom p (l ++ (b ∷ [])) s)
+    go true e f = ap (λ (z : List ℕ). z ++ outputFrom p [] s) (answer-cut p h l g)
+    go false e f = sym e ∙ ap (λ (z : List ℕ). outputFrom p z s) (take-cut h l (b ∷ [])) ∙ f
 
 -- ---- what the program's loop keeps: the first len bytes of `held` are those of the line so far, as many as have room
 

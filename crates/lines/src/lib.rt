@@ -5,7 +5,7 @@ use line_answers::put_number;
 use line_answers::put_term;
 use line_fields::fields_of;
 use line_fields::line_number;
-ghost use Prim.Native.Nat.{_-_};
+ghost use Prim.Native.Nat.{_-_, _≤_};
 ghost use lib.ListN.{length};
 ghost use Rattle.pool.specs.Node.{places};
 ghost use Rattle.digits.specs.Writing.{Wrote};
@@ -17,10 +17,12 @@ pub const POOL_WORDS: usize = 4224;
 // The bytes to hold of a line: one more than a line in columns has.
 pub const LINE_ROOM: usize = 25;
 
-// Writes the answer to a line, at `at`. Where fewer bytes are left than the longest answer has, nothing is written.
+// Writes the answer to a line, at `at`. Where fewer bytes are left than the longest answer has, nothing is written. The place after it,
+// which is inside the buffer where `at` is.
 pub fn answer_line(pool: &mut [u64], line: &[u8], out: &mut [u8], at: usize) -> usize
     ensures { λ r. ⌜ Wrote (now (out .entry)) at (answerIn (length (now (out .entry)) - at) (places (now (pool .entry))) (now (line .entry))) r (now (out .exit)) ⌝ }
     ensures { λ _. ⌜ PoolAfter (now (pool .entry)) (now (line .entry)) (length (now (out .entry)) - at) (now (pool .exit)) ⌝ }
+    ensures { λ r. ⌜ (at ≤ length (now (out .entry)) → r ≤ length (now (out .exit))) ⌝ }
 {
     if out.len() < at {
         return at;

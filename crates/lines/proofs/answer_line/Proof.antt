@@ -1,3 +1,4 @@
+-- `answer_line`, by the way that a line takes: no room, not in columns, refused, accepted. Assumes nothing.
 use native.Mathlib.Omega.{arith}
 use mathlib.Core.List.{List, [], _∷_}
 use mathlib.Core.Path.{_≡_, ap, _∙_}
@@ -9,6 +10,7 @@ use Rattle.block.specs.Block.{Answered}
 use Rattle.line_fields.specs.Fields.{lineNumber, recordOf}
 use Rattle.line_fields.proofs.Numbers.{line-low}
 use Rattle.line_answers.specs.Answer.{answerRoom}
+use Rattle.lines.proofs.Fits.{inside}
 use Rattle.lines.proofs.Records.{block-low, answered-one, long, low-d, node-under, left-little, left-other, lowered-one, no-room, little-room, other, refused, done}
 use borrow.Author.Needs.{needs}
 use Rattle.lines.proofs.answer_line.Statement.{statement}
@@ -52,20 +54,18 @@ node-is c = let l = lowered (c .before .before) in c .get .ensures ∙ ap (nodeO
 
 returns : tie.Need-returns
 returns c =
-    let a = c .before .before .before .before .args in (
-      no-room (a .pool .now) (a .line .now) (a .out .now) (a .at) (c .if1 .taken),
-      left-little (a .pool .now) (a .line .now) (a .out .now) (a .at) (omega (arith, c .if1 .taken)),
-    )
+    let a = c .before .before .before .before .args in
+    let w = no-room (a .pool .now) (a .line .now) (a .out .now) (a .at) (c .if1 .taken) in
+    (w, (left-little (a .pool .now) (a .line .now) (a .out .now) (a .at) (omega (arith, c .if1 .taken)), inside (places (a .pool .now)) (a .line .now) w))
 
 sub-if2 : tie.Need-sub-if2
 sub-if2 c = search needs
 
 returns-2 : tie.Need-returns-2
 returns-2 c =
-    let a = c .before .before .before .before .before .args in (
-      little-room (a .pool .now) (a .line .now) (a .out .now) (a .at) (c .if2 .taken),
-      left-little (a .pool .now) (a .line .now) (a .out .now) (a .at) (c .if2 .taken),
-    )
+    let a = c .before .before .before .before .before .args in
+    let w = little-room (a .pool .now) (a .line .now) (a .out .now) (a .at) (c .if2 .taken) in
+    (w, (left-little (a .pool .now) (a .line .now) (a .out .now) (a .at) (c .if2 .taken), inside (places (a .pool .now)) (a .line .now) w))
 
 line-number-requires : tie.Need-line-number-requires
 line-number-requires c κs = search needs
@@ -83,10 +83,9 @@ returns-3 c =
     let p = c .before .before in
     let t = p .before .before in
     let n = t .before in
-    let a = entry (n .before) .args in (
-      other (a .pool .now) (a .line .now) (a .out .now) (a .at) (n .before .if2 .left) (n .line-number .ensures) (t .if3 .taken) (p .put-number .ensures),
-      left-other (a .pool .now) (a .line .now) (a .out .now) (a .at) (n .before .if2 .left) (omega (arith, n .line-number .ensures, t .if3 .taken)),
-    )
+    let a = entry (n .before) .args in
+    let w = other (a .pool .now) (a .line .now) (a .out .now) (a .at) (n .before .if2 .left) (n .line-number .ensures) (t .if3 .taken) (p .put-number .ensures) in
+    (w, (left-other (a .pool .now) (a .line .now) (a .out .now) (a .at) (n .before .if2 .left) (omega (arith, n .line-number .ensures, t .if3 .taken)), inside (places (a .pool .now)) (a .line .now) w))
 
 fields-of-requires : tie.Need-fields-of-requires
 fields-of-requires c κs = omega (arith, long 0 (entry (roomy c) .args .line .now) (in-columns c))
@@ -115,10 +114,9 @@ returns-4 c =
     let t = p .before .before in
     let l = t .before .before .before .before in
     let q = ordered l in
-    let a = entry (roomy q) .args in (
-      refused (a .pool .now) (a .line .now) (a .out .now) (a .at) (roomy q .if2 .left) (in-columns q) (one l) (t .if4 .taken) (p .put-number2 .ensures),
-      lowered-one (a .pool .now) (a .line .now) (a .out .now) (a .at) (roomy q .if2 .left) (in-columns q) (one l),
-    )
+    let a = entry (roomy q) .args in
+    let w = refused (a .pool .now) (a .line .now) (a .out .now) (a .at) (roomy q .if2 .left) (in-columns q) (one l) (t .if4 .taken) (p .put-number2 .ensures) in
+    (w, (lowered-one (a .pool .now) (a .line .now) (a .out .now) (a .at) (roomy q .if2 .left) (in-columns q) (one l), inside (places (a .pool .now)) (a .line .now) w))
 
 array-read-get : tie.Need-array-read-get
 array-read-get c = search needs
@@ -147,10 +145,9 @@ returns-5 c =
     let g = p .before .before .before in
     let l = lowered (g .before .before) in
     let q = ordered l in
-    let a = entry (roomy q) .args in (
-      done (a .pool .now) (a .line .now) (a .out .now) (a .at) _ (roomy q .if2 .left) (in-columns q) (one l) (accepted (g .before .before)) (node-is g) (p .put-term .ensures),
-      lowered-one (a .pool .now) (a .line .now) (a .out .now) (a .at) (roomy q .if2 .left) (in-columns q) (one l),
-    )
+    let a = entry (roomy q) .args in
+    let w = done (a .pool .now) (a .line .now) (a .out .now) (a .at) _ (roomy q .if2 .left) (in-columns q) (one l) (accepted (g .before .before)) (node-is g) (p .put-term .ensures) in
+    (w, (lowered-one (a .pool .now) (a .line .now) (a .out .now) (a .at) (roomy q .if2 .left) (in-columns q) (one l), inside (places (a .pool .now)) (a .line .now) w))
 
 pub answer-line-spec : {M : Type 1} → statement M
 answer-line-spec =
