@@ -14,7 +14,7 @@ entry c = c .before .before .before .before
 returns : tie.Need-returns
 returns c =
     let a = c .before .before .before .before .args in
-    last-none (places (a .pool .now)) (a .held .now) (a .out .now) (a .line) (c .if1 .taken)
+    last-none (places (a .pool .now)) (a .held .now) (a .out .now) (a .line) (omega (arith, c .if1 .taken))
 
 slice-aggregate-answer-line : tie.Need-slice-aggregate-answer-line
 slice-aggregate-answer-line c =

@@ -116,7 +116,7 @@ loop-again c =
     turn-ended p (l .loop .held) (entry l .args .input .now) (l .loop .len) (l .loop .next) (g .gather .result) _ (holds-25 g) (g .gather .ensures)
     (t .if2 .taken) (i .1) (omega (arith, g .before .before .if1 .left)) (a .answer-line .ensures .0)
     in (
-      omega arith,
+      omega (arith, fits g, g .gather .kept .0),
       a .answer-line .ensures .1 .1 (i .1),
       a .answer-line .kept .0 ∙ i .2,
       g .gather .kept .0 ∙ i .3,
