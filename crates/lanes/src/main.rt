@@ -1,8 +1,8 @@
 // The line program (document 01, "Text and program"): reads standard input to its end, and writes an answer for each line.
-// What a line means and what is written for it is the library's, `lines`.
-ghost use Prim.Native.Nat.{_+_, _≤_};
+// It only reads and writes: what is written for the bytes that are read is the library's, `line_run`. At the first read or write that
+// fails it says so on standard error and stops.
+ghost use Prim.Native.Nat.{_≤_};
 ghost use lib.ListN.{length};
-ghost use Rattle.line_answers.specs.Answer.{answerRoom};
 ghost use Rattle.lines.specs.Output.{Rooms};
 
 // Standard input and output.
@@ -10,98 +10,82 @@ const INPUT: i32 = 0;
 
 const OUTPUT: i32 = 1;
 
-// The bytes that wait: of a line whose end is still to come, and of the output.
+// Between two reads: the bytes held of a line whose end is still to come, and whether there is more to read.
 struct Waiting {
     line: usize,
-    output: usize,
+    more: bool,
 }
 
-// The place for the next answer. Where the output has no room for one, what waits is written first.
-fn make_room(out: &[u8], at: usize) -> usize
-    requires { ⌜ answerRoom ≤ length (now out) ⌝ }
-    ensures { λ r. ⌜ r + answerRoom ≤ length (now (out .entry)) ⌝ }
+// Writes the first bytes of the output. Whether they are written; if not, it is said.
+fn write(out: &[u8], end: usize) -> bool
+    requires { ⌜ end ≤ length (now out) ⌝ }
 {
-    if out.len() < at {
-        return 0;
+    if io::write_all(OUTPUT, &out[..end]) {
+        return true;
     }
-    if line_answers::ANSWER_ROOM <= out.len() - at {
-        return at;
-    }
-    io::write_all(OUTPUT, &out[..at]);
-    0
+    os::fail(b"lanes: standard output");
+    false
 }
 
-// The end of the output that waits, after the answer to a line.
-fn answer(pool: &mut [u64], line: &[u8], out: &mut [u8], at: usize) -> usize
-    requires { ⌜ answerRoom ≤ length (now out) ⌝ }
-{
-    let place = make_room(out, at);
-    lines::answer_line(pool, line, out, place)
-}
-
-// Answers each line that ends among the bytes that were read.
-fn consume(
-    pool: &mut [u64],
-    held: &mut [u8],
-    input: &[u8],
-    out: &mut [u8],
-    before: Waiting,
-) -> Waiting
+// Answers the lines that end in a piece of the input.
+fn consume(pool: &mut [u64], held: &mut [u8], line: usize, piece: &[u8], out: &mut [u8]) -> Waiting
     requires { ⌜ Rooms (now pool) (now held) (now out) ⌝ }
-    requires { ⌜ before .line ≤ length (now held) ⌝ }
+    requires { ⌜ line ≤ length (now held) ⌝ }
     ensures { λ r. ⌜ r .line ≤ length (now (held .exit)) ⌝ }
 {
-    let mut line = before.line;
-    let mut output = before.output;
+    let mut len = line;
     let mut from = 0;
-    while from < input.len() {
-        let g = line_pieces::gather(held, line, input, from);
-        from = g.taken;
-        line = g.len;
-        if g.ended {
-            output = answer(pool, &held[..line], out, output);
-            line = 0;
+    while from < piece.len() {
+        let p = line_run::answer_lines(pool, held, len, piece, from, out);
+        len = p.line;
+        from = p.taken;
+        if !write(out, p.output) {
+            return Waiting {
+                line: len,
+                more: false,
+            };
         }
     }
-    Waiting { line, output }
+    Waiting {
+        line: len,
+        more: true,
+    }
 }
 
-// The end of the output that waits, after the answer to a last line that no newline ends.
-fn last(pool: &mut [u64], held: &[u8], out: &mut [u8], left: Waiting) -> usize
+// Reads a piece of the input and answers it. At the input's end a last line is answered that no newline ends; after a failure it is not.
+fn turn(pool: &mut [u64], held: &mut [u8], line: usize, input: &mut [u8], out: &mut [u8]) -> Waiting
     requires { ⌜ Rooms (now pool) (now held) (now out) ⌝ }
-    requires { ⌜ left .line ≤ length (now held) ⌝ }
+    requires { ⌜ line ≤ length (now held) ⌝ }
+    ensures { λ r. ⌜ r .line ≤ length (now (held .exit)) ⌝ }
 {
-    let line = left.line;
-    if 0 < line {
-        return answer(pool, &held[..line], out, left.output);
+    let got = libc::read(INPUT, input);
+    if got < 0 {
+        os::fail(b"lanes: standard input");
+        return Waiting { line, more: false };
     }
-    left.output
-}
-
-// Writes what waits of the output.
-fn finish(out: &[u8], end: usize) {
-    if end <= out.len() {
-        io::write_all(OUTPUT, &out[..end]);
+    if got == 0 {
+        let end = line_run::answer_last(pool, held, line, out);
+        write(out, end);
+        return Waiting { line, more: false };
     }
+    let n = io::count(got, input);
+    consume(pool, held, line, &input[..n], out)
 }
 
 // A proved loop has to end, and nothing says that the input does: the turns are counted down from a number that no run uses up.
 fn run(pool: &mut [u64], held: &mut [u8], input: &mut [u8], out: &mut [u8])
     requires { ⌜ Rooms (now pool) (now held) (now out) ⌝ }
 {
-    let mut waiting = Waiting { line: 0, output: 0 };
+    let mut line = 0;
     let mut turns = u64::MAX;
     while 0 < turns {
-        let got = libc::read(INPUT, input);
-        if got <= 0 {
-            break;
+        let w = turn(pool, held, line, input, out);
+        if !w.more {
+            return;
         }
-        let n = io::count(got, input);
-        waiting = consume(pool, held, &input[..n], out, waiting);
+        line = w.line;
         turns -= 1;
     }
-    let end = last(pool, held, out, waiting);
-    finish(out, end);
 }
 
 fn main() {

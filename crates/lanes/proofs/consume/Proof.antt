@@ -1,91 +1,89 @@
+-- `consume`: each turn takes some of the piece, and what is held of a line has room.
 use native.Mathlib.Omega.{arith}
-use mathlib.Core.Path.{_≡_, refl, sym}
-use lib.Seq.{length-take-le}
+use mathlib.Core.Path.{_≡_, refl, _∙_}
 use Prim.Native.Nat.{_-_, _≤_}
 use lib.ListN.{length}
-use Rattle.line_pieces.proofs.Gathering.{taken-more, held-fits}
+use Rattle.lines.proofs.Output.{rooms-kept}
 use Rattle.lanes.proofs.consume.Statement.{statement}
 use Rattle.lanes.proofs.consume.Tie as tie
 
 abbrev Inv-loop : tie.InvT-loop
-Inv-loop pool₀ held₀ input out₀ line₀ output₀ from₀ pool held out line output from =
-    (line ≤ length held) × (length pool ≡ length pool₀) × (length held ≡ length held₀) × (length out ≡ length out₀)
+Inv-loop pool₀ held₀ line piece out₀ len₀ from₀ pool held out len from =
+    (len ≤ length held) × (length pool ≡ length pool₀) × (length held ≡ length held₀) × (length out ≡ length out₀)
 
 abbrev μ-loop : tie.MeasureT-loop
-μ-loop pool₀ held₀ input out₀ line₀ output₀ from₀ pool held out line output from = length input - from
+μ-loop pool₀ held₀ line piece out₀ len₀ from₀ pool held out len from = length piece - from
+
+abbrev entry : tie.At-loop Inv-loop μ-loop → tie.Start Inv-loop μ-loop
+entry l = l .before .before .before .before .before
+
+abbrev test : tie.After-answer-lines Inv-loop μ-loop → tie.In-loop Inv-loop μ-loop
+test a = a .before .before .before .before
+
+abbrev answered : tie.After-write Inv-loop μ-loop → tie.After-answer-lines Inv-loop μ-loop
+answered w = w .before .before .before .before .before .before .before .before
+
+abbrev top : tie.After-answer-lines Inv-loop μ-loop → tie.At-loop Inv-loop μ-loop
+top a = test a .before
+
+-- the answers leave pool, held bytes and output as long as they were at the entry
+module _ (a : tie.After-answer-lines Inv-loop μ-loop) where
+  same-pool : length (a .answer-lines .last .0) ≡ length (entry (top a) .args .pool .now)
+  same-pool = a .answer-lines .kept .0 ∙ top a .loop .inv .1
+
+  same-held : length (a .answer-lines .last .1 .0) ≡ length (entry (top a) .args .held .now)
+  same-held = a .answer-lines .kept .1 .0 ∙ top a .loop .inv .2
+
+  same-out : length (a .answer-lines .last .1 .1 .1 .1 .1 .0) ≡ length (entry (top a) .args .out .now)
+  same-out = a .answer-lines .kept .1 .1 .1 .1 .1 .0 ∙ top a .loop .inv .3
 
 loop-holds : tie.Need-loop-holds Inv-loop μ-loop
-loop-holds c =
-    let st = c .before .before .before .before in
-    (st .pre .1, refl, refl, refl)
+loop-holds c = (c .before .before .before .before .pre .1, refl, refl, refl)
 
-gather-requires : tie.Need-gather-requires Inv-loop μ-loop
-gather-requires c κs =
-    tt
+answer-lines-requires : tie.Need-answer-lines-requires Inv-loop μ-loop
+answer-lines-requires c κs =
+    let l = c .before .before .before .before in
+    let i = l .loop .inv in
+    (rooms-kept (i .1) (i .2) (i .3) (entry l .pre .0), i .0)
 
-slice-reshare-prefix-answer : tie.Need-slice-reshare-prefix-answer Inv-loop μ-loop
-slice-reshare-prefix-answer c =
-    let l-gather = c .before .before .before .before in
-    let l-loop = l-gather .before .before .before in
-    omega (arith, held-fits (l-loop .loop .inv .0) (l-gather .gather .ensures), l-gather .gather .kept .0)
+write-requires : tie.Need-write-requires Inv-loop μ-loop
+write-requires c κs = c .before .before .before .before .before .before .before .answer-lines .ensures .output-fits
 
-slice-aggregate-answer : tie.Need-slice-aggregate-answer Inv-loop μ-loop
-slice-aggregate-answer c =
-    let l-gather = c .before .before .before .before .before in
-    let l-loop = l-gather .before .before .before in
-    sym (length-take-le _ _ (omega (arith, held-fits (l-loop .loop .inv .0) (l-gather .gather .ensures), l-gather .gather .kept .0)))
+-- a write failed
+same-length : tie.Need-same-length Inv-loop μ-loop
+same-length c = same-pool (answered (c .before))
 
-answer-requires : tie.Need-answer-requires Inv-loop μ-loop
-answer-requires c κs =
-    let l = c .before .before .before .before .before .before .before .before .before in
-    omega (arith, l .loop .inv .3, l .before .before .before .before .before .pre .0 .out-room)
+same-length-2 : tie.Need-same-length-2 Inv-loop μ-loop
+same-length-2 c = same-held (answered (c .before))
 
+same-length-3 : tie.Need-same-length-3 Inv-loop μ-loop
+same-length-3 c = same-out (answered (c .before))
+
+returns : tie.Need-returns Inv-loop μ-loop
+returns c = answered (c .before) .answer-lines .ensures .line-fits
+
+-- the answers are written
 loop-less : tie.Need-loop-less Inv-loop μ-loop
 loop-less c =
-    let l-gather = c .before .before .before .before .before .before .before .before .before .before .before in
-    let l-loop-test = l-gather .before .before in
-    let st = l-loop-test .before .before .before .before .before .before in
-    omega (arith, taken-more (st .args .input .now) (l-loop-test .loop-test .taken) (l-gather .gather .ensures), l-loop-test .loop-test .taken)
+    let a = answered (c .before) in
+    omega (arith, test a .loop-test .taken, a .answer-lines .ensures .further (test a .loop-test .taken))
 
 loop-again : tie.Need-loop-again Inv-loop μ-loop
 loop-again c =
-    let l-answer = c .before .before .before .before in
-    let l-gather = l-answer .before .before .before .before .before .before .before in
-    let l-loop = l-gather .before .before .before in
-    (omega arith, omega (arith, l-answer .answer .kept .0, l-loop .loop .inv .1), omega (arith, l-gather .gather .kept .0, l-loop .loop .inv .2), omega (arith, l-answer .answer .kept .1 .1 .0, l-loop .loop .inv .3))
+    let a = answered (c .before) in
+    (a .answer-lines .ensures .line-fits, same-pool a, same-held a, same-out a)
 
-loop-less-2 : tie.Need-loop-less-2 Inv-loop μ-loop
-loop-less-2 c =
-    let l-gather = c .before .before .before in
-    let l-loop-test = l-gather .before .before in
-    let st = l-loop-test .before .before .before .before .before .before in
-    omega (arith, taken-more (st .args .input .now) (l-loop-test .loop-test .taken) (l-gather .gather .ensures), l-loop-test .loop-test .taken)
+same-length-4 : tie.Need-same-length-4 Inv-loop μ-loop
+same-length-4 c = c .before .loop .inv .1
 
-loop-again-2 : tie.Need-loop-again-2 Inv-loop μ-loop
-loop-again-2 c =
-    let l-gather = c .before .before .before in
-    let l-loop = l-gather .before .before .before in
-    (omega (arith, held-fits (l-loop .loop .inv .0) (l-gather .gather .ensures), l-gather .gather .kept .0), l-loop .loop .inv .1, omega (arith, l-gather .gather .kept .0, l-loop .loop .inv .2), l-loop .loop .inv .3)
+same-length-5 : tie.Need-same-length-5 Inv-loop μ-loop
+same-length-5 c = c .before .loop .inv .2
 
-same-length : tie.Need-same-length Inv-loop μ-loop
-same-length c =
-    let l-loop = c .before in
-    l-loop .loop .inv .1
+same-length-6 : tie.Need-same-length-6 Inv-loop μ-loop
+same-length-6 c = c .before .loop .inv .3
 
-same-length-2 : tie.Need-same-length-2 Inv-loop μ-loop
-same-length-2 c =
-    let l-loop = c .before in
-    l-loop .loop .inv .2
-
-same-length-3 : tie.Need-same-length-3 Inv-loop μ-loop
-same-length-3 c =
-    let l-loop = c .before in
-    l-loop .loop .inv .3
-
-returns : tie.Need-returns Inv-loop μ-loop
-returns c =
-    let l-loop = c .before in
-    l-loop .loop .inv .0
+returns-2 : tie.Need-returns-2 Inv-loop μ-loop
+returns-2 c = c .before .loop .inv .0
 
 pub consume-spec : {M : Type 1} → statement M
 consume-spec =
@@ -94,15 +92,15 @@ consume-spec =
     Inv-loop
     μ-loop
     loop-holds
-    gather-requires
-    slice-reshare-prefix-answer
-    slice-aggregate-answer
-    answer-requires
-    loop-less
-    loop-again
-    loop-less-2
-    loop-again-2
+    answer-lines-requires
+    write-requires
     same-length
     same-length-2
     same-length-3
-    returns)
+    returns
+    loop-less
+    loop-again
+    same-length-4
+    same-length-5
+    same-length-6
+    returns-2)

@@ -1,93 +1,100 @@
-use mathlib.Core.Logic.{⊎-elim}
+-- `run`: the turns are counted down, and the rooms are as long as they were.
 use native.Mathlib.Omega.{arith}
-use mathlib.Core.Path.{_≡_, refl, ap}
+use mathlib.Core.Path.{_≡_, refl, _∙_}
 use Prim.Native.Nat.{_≤_}
-use borrow.Author.Needs.{needs}
 use lib.ListN.{length}
 use Rattle.lines.proofs.Output.{rooms-kept}
 use Rattle.lanes.proofs.run.Statement.{statement}
 use Rattle.lanes.proofs.run.Tie as tie
 
 abbrev Inv-loop : tie.InvT-loop
-Inv-loop pool₀ held₀ input₀ out₀ waiting₀ turns₀ pool held input out waiting turns =
-    (waiting .line ≤ length held) × (length pool ≡ length pool₀) × (length held ≡ length held₀) × (length input ≡ length input₀) × (length out ≡ length out₀)
+Inv-loop pool₀ held₀ input₀ out₀ line₀ turns₀ pool held input out line turns =
+    (line ≤ length held) × (length pool ≡ length pool₀) × (length held ≡ length held₀) × (length input ≡ length input₀) × (length out ≡ length out₀)
 
 abbrev μ-loop : tie.MeasureT-loop
-μ-loop pool₀ held₀ input₀ out₀ waiting₀ turns₀ pool held input out waiting turns = turns
+μ-loop pool₀ held₀ input₀ out₀ line₀ turns₀ pool held input out line turns = turns
+
+abbrev entry : tie.At-loop Inv-loop μ-loop → tie.Start Inv-loop μ-loop
+entry l = l .before .before .before .before .before
+
+abbrev test : tie.After-turn Inv-loop μ-loop → tie.In-loop Inv-loop μ-loop
+test t = t .before .before .before .before .before
+
+abbrev top : tie.After-turn Inv-loop μ-loop → tie.At-loop Inv-loop μ-loop
+top t = test t .before
+
+-- a turn leaves the four as long as they were at the entry
+module _ (t : tie.After-turn Inv-loop μ-loop) where
+  same-pool : length (t .turn .last .0) ≡ length (entry (top t) .args .pool .now)
+  same-pool = t .turn .kept .0 ∙ top t .loop .inv .1
+
+  same-held : length (t .turn .last .1 .0) ≡ length (entry (top t) .args .held .now)
+  same-held = t .turn .kept .1 .0 ∙ top t .loop .inv .2
+
+  same-input : length (t .turn .last .1 .1 .1 .0) ≡ length (entry (top t) .args .input .now)
+  same-input = t .turn .kept .1 .1 .1 .0 ∙ top t .loop .inv .3
+
+  same-out : length (t .turn .last .1 .1 .1 .1 .0) ≡ length (entry (top t) .args .out .now)
+  same-out = t .turn .kept .1 .1 .1 .1 .0 ∙ top t .loop .inv .4
 
 loop-holds : tie.Need-loop-holds Inv-loop μ-loop
-loop-holds c =
-    (omega arith, refl, refl, refl, refl)
+loop-holds c = (omega arith, refl, refl, refl, refl)
 
-read-requires : tie.Need-read-requires Inv-loop μ-loop
-read-requires c κs = tt
+turn-requires : tie.Need-turn-requires Inv-loop μ-loop
+turn-requires c κs =
+    let l = c .before .before .before .before .before in
+    let i = l .loop .inv in
+    (rooms-kept (i .1) (i .2) (i .4) (entry l .pre), i .0)
 
-count-requires : tie.Need-count-requires Inv-loop μ-loop
-count-requires c κs = tt
-
-slice-reshare-prefix-consume : tie.Need-slice-reshare-prefix-consume Inv-loop μ-loop
-slice-reshare-prefix-consume c = search needs
-
-slice-aggregate-consume : tie.Need-slice-aggregate-consume Inv-loop μ-loop
-slice-aggregate-consume c =
-    let l-count = c .before .before .before in
-    l-count .count .ensures .0 .1
-
-consume-requires : tie.Need-consume-requires Inv-loop μ-loop
-consume-requires c κs =
-    let l-loop = c .before .before .before .before .before .before .before .before .before .before .before .before in
-    (rooms-kept (l-loop .loop .inv .1) (l-loop .loop .inv .2) (l-loop .loop .inv .4) (l-loop .before .before .before .before .before .pre), l-loop .loop .inv .0)
-
-sub-turns : tie.Need-sub-turns Inv-loop μ-loop
-sub-turns c =
-    let l-loop-test = c .before .before .before .before .before .before .before .before .before .before .before .before .before .before .before .before .before .before in
-    omega (arith, l-loop-test .loop-test .taken)
-
-loop-less : tie.Need-loop-less Inv-loop μ-loop
-loop-less c =
-    let l-loop-test = c .before .before .before .before .before .before .before .before .before .before .before .before .before .before .before .before .before .before in
-    omega (arith, l-loop-test .loop-test .taken)
-
-loop-again : tie.Need-loop-again Inv-loop μ-loop
-loop-again c =
-    let l-consume = c .before .before .before .before .before .before in
-    let l-read = l-consume .before .before .before .before .before .before .before .before .before .before in
-    let l-loop = l-read .before .before .before in
-    (l-consume .consume .ensures, omega (arith, l-consume .consume .kept .0, l-loop .loop .inv .1), omega (arith, l-consume .consume .kept .1 .0, l-loop .loop .inv .2), omega (arith, l-read .read .kept .1 .0, l-loop .loop .inv .3), omega (arith, l-consume .consume .kept .1 .1 .1 .0, l-loop .loop .inv .4))
-
-last-requires : tie.Need-last-requires Inv-loop μ-loop
-last-requires c κs =
-    let l-loop = c .before .before .before .before in
-    (rooms-kept (l-loop .loop .inv .1) (l-loop .loop .inv .2) (l-loop .loop .inv .4) (l-loop .before .before .before .before .before .pre), l-loop .loop .inv .0)
-
-finish-requires : tie.Need-finish-requires Inv-loop μ-loop
-finish-requires c κs = tt
+-- there is no more to read
+abbrev last : tie.Then1 Inv-loop μ-loop → tie.After-turn Inv-loop μ-loop
+last c = c .before .before .before .before .before .before .before .before .before .before
 
 same-length : tie.Need-same-length Inv-loop μ-loop
-same-length c =
-    let l-last = c .before .before .before .before .before .before in
-    let l-loop = l-last .before .before .before .before .before in
-    omega (arith, l-last .last .kept .0, l-loop .loop .inv .1)
+same-length c = same-pool (last c)
 
 same-length-2 : tie.Need-same-length-2 Inv-loop μ-loop
-same-length-2 c =
-    let l-loop = c .before .before .before .before .before .before .before .before .before .before .before in
-    l-loop .loop .inv .2
+same-length-2 c = same-held (last c)
 
 same-length-3 : tie.Need-same-length-3 Inv-loop μ-loop
-same-length-3 c =
-    let l-loop-test = c .before .before .before .before .before .before .before .before .before .before in
-    let l-loop = l-loop-test .before in
-    ⊎-elim (λ w. omega (arith, l-loop .loop .inv .3, ap length (w .1))) (λ w. omega (arith, l-loop .loop .inv .3, w .2 .kept .1 .0, ap length (w .6))) (l-loop-test .loop-test .came)
+same-length-3 c = same-input (last c)
 
 same-length-4 : tie.Need-same-length-4 Inv-loop μ-loop
-same-length-4 c =
-    let l-last = c .before .before .before .before .before .before in
-    let l-loop = l-last .before .before .before .before .before in
-    omega (arith, l-last .last .kept .1 .1 .0, l-loop .loop .inv .4)
+same-length-4 c = same-out (last c)
 
 returns : tie.Need-returns Inv-loop μ-loop
 returns c = tt
+
+-- there may be more
+abbrev turned : tie.Else1 Inv-loop μ-loop → tie.After-turn Inv-loop μ-loop
+turned c = c .before .before .before .before .before .before .before .before .before .before
+
+sub-turns : tie.Need-sub-turns Inv-loop μ-loop
+sub-turns c = omega (arith, test (turned c) .loop-test .taken)
+
+loop-less : tie.Need-loop-less Inv-loop μ-loop
+loop-less c = omega (arith, test (turned c) .loop-test .taken)
+
+loop-again : tie.Need-loop-again Inv-loop μ-loop
+loop-again c =
+    let t = turned c in
+    (t .turn .ensures, same-pool t, same-held t, same-input t, same-out t)
+
+-- the turns are used up
+same-length-5 : tie.Need-same-length-5 Inv-loop μ-loop
+same-length-5 c = c .before .loop .inv .1
+
+same-length-6 : tie.Need-same-length-6 Inv-loop μ-loop
+same-length-6 c = c .before .loop .inv .2
+
+same-length-7 : tie.Need-same-length-7 Inv-loop μ-loop
+same-length-7 c = c .before .loop .inv .3
+
+same-length-8 : tie.Need-same-length-8 Inv-loop μ-loop
+same-length-8 c = c .before .loop .inv .4
+
+returns-2 : tie.Need-returns-2 Inv-loop μ-loop
+returns-2 c = tt
 
 pub run-spec : {M : Type 1} → statement M
 run-spec =
@@ -96,18 +103,17 @@ run-spec =
     Inv-loop
     μ-loop
     loop-holds
-    read-requires
-    count-requires
-    slice-reshare-prefix-consume
-    slice-aggregate-consume
-    consume-requires
-    sub-turns
-    loop-less
-    loop-again
-    last-requires
-    finish-requires
+    turn-requires
     same-length
     same-length-2
     same-length-3
     same-length-4
-    returns)
+    returns
+    sub-turns
+    loop-less
+    loop-again
+    same-length-5
+    same-length-6
+    same-length-7
+    same-length-8
+    returns-2)
