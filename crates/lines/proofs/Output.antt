@@ -68,6 +68,7 @@ take-cut zero l s = refl
 take-cut (suc h) [] s = refl
 take-cut (suc h) (b ∷ l) s = ap (λ (z : List ℕ). b ∷ z) (take-cut h l s)
 
+-- so of a line that is going on no byte past the 25th matters
 pub output-cut : (p h : ℕ) (l s : List ℕ) → 25 ≤ h → outputFrom p (take h l) s ≡ outputFrom p l s
 unfolding outputFrom
 output-cut p h l [] g = last-cut p h l g
@@ -103,12 +104,6 @@ module _ (p : ℕ) (line held s : List ℕ) (len from : ℕ) (r : Gathered) (aft
   piece-open e =
       let f : ends s ≡ false = sym (g .ended-is) ∙ e in
       (λ rest. line-open p line s rest f .0, bytes-are ∙ ap (λ (z : List ℕ). take (length held) (line ++ z)) (line-open p line s [] f .1))
-
--- the input ends
-pub piece-last : (p : ℕ) (line held : List ℕ) (len : ℕ) → 25 ≤ length held → take len held ≡ take (length held) line
-    → outputFrom p line [] ≡ lastAnswer p (take len held)
-unfolding outputFrom
-piece-last p line held len room holds = sym (ap (lastAnswer p) holds ∙ last-cut p (length held) line room)
 
 -- rooms are as long as they were
 pub rooms-kept : {p h o p′ h′ o′ : List ℕ} → length p′ ≡ length p → length h′ ≡ length h → length o′ ≡ length o → Rooms p h o → Rooms p′ h′ o′
