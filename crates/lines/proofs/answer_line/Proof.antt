@@ -85,7 +85,8 @@ returns-3 c =
     let n = t .before in
     let a = entry (n .before) .args in
     let w = other (a .pool .now) (a .line .now) (a .out .now) (a .at) (n .before .if2 .left) (n .line-number .ensures) (t .if3 .taken) (p .put-number .ensures) in
-    (w, (left-other (a .pool .now) (a .line .now) (a .out .now) (a .at) (n .before .if2 .left) (omega (arith, n .line-number .ensures, t .if3 .taken)), inside (places (a .pool .now)) (a .line .now) w))
+    let same = left-other (a .pool .now) (a .line .now) (a .out .now) (a .at) (n .before .if2 .left) (omega (arith, n .line-number .ensures, t .if3 .taken)) in
+    (w, (same, inside (places (a .pool .now)) (a .line .now) w))
 
 fields-of-requires : tie.Need-fields-of-requires
 fields-of-requires c κs = omega (arith, long 0 (entry (roomy c) .args .line .now) (in-columns c))
