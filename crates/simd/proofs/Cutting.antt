@@ -38,6 +38,10 @@ joined-below ws v hi e =
     let cut = eqb (kindNumber ws v) 16 && joins hi (wordAt ws v 2) (wordAt ws v 3) in
     le-of-lt (ltb-true (opA ws v) v (and-both cut (ltb (opA ws v) v) e .1))
 
+-- what the code's test says of a cut that is joined
+pub joined-by : (ws : List ℕ) (v hi : ℕ) → kindNumber ws v ≡ 16 → wordAt ws v 3 ≡ 0 → hi ≤ wordAt ws v 2 → opA ws v < v → joinsAt ws v hi ≡ true
+joined-by ws v hi kind low reach below = rw (kind, low, le-leb hi (wordAt ws v 2) reach, lt-ltb (opA ws v) v below) refl
+
 and-last : (a b : Bool) → b ≡ true → (a && b) ≡ false → a ≡ false
 and-last true b p q = sym p ∙ q
 and-last false b p q = refl

@@ -1,8 +1,12 @@
 use native.Mathlib.Nat.{le-refl}
+use native.Mathlib.Omega.{arith}
 use mathlib.Core.Path.{_≡_}
-use mathlib.Core.Bool.{true, false}
+use mathlib.Core.Bool.{false}
+use borrow.Author.Tests.{eqb-true, leb-true, ltb-true}
+use Rattle.facts.proofs.Tests.{and-both}
+use Rattle.pool.specs.Node.{wordAt}
 use Rattle.simd.specs.Cut.{joinsAt}
-use Rattle.simd.proofs.Cutting.{joined-below}
+use Rattle.simd.proofs.Cutting.{joined-by, joined-below}
 use borrow.Author.Needs.{needs}
 use Rattle.simd.proofs.cut_from.Statement.{statement}
 use Rattle.simd.proofs.cut_from.Tie as tie
@@ -26,7 +30,12 @@ returns c =
     let h = l .before in
     let f = h .before in
     let a = f .before .before .args in
-    let joined : joinsAt (a .pool .now) (a .value .0) (a .hi .0) ≡ true = rw (k .kind-of .ensures, l .low .ensures, h .high .ensures, f .first .ensures) at (c .if1 .taken) in
+    let tests = and-both _ _ (rw (k .kind-of .ensures, l .low .ensures, h .high .ensures, f .first .ensures) at (c .if1 .taken)) in
+    let cut = and-both _ _ (tests .0) in
+    let joins = and-both _ _ (cut .1) in
+    let joined =
+    joined-by (a .pool .now) (a .value .0) (a .hi .0) (eqb-true _ _ (cut .0)) (eqb-true (wordAt (a .pool .now) (a .value .0) 3) 0 (joins .0)) (omega (arith, leb-true, ltb-true, joins .1))
+    (ltb-true _ _ (tests .1)) in
     rw joined (f .first .ensures, rw (f .first .ensures) (joined-below (a .pool .now) (a .value .0) (a .hi .0) joined))
 
 returns-2 : tie.Need-returns-2
