@@ -153,7 +153,8 @@ fn blocks(rounds: u64, all: &[Record]) {
         record[3] = r.below(32);
         record[4] = r.below(32);
         if record[5] != 0 {
-            record[5] = r.below(32);
+            // an element of 16 bits is of v0 to v15
+            record[5] = r.below(if (48..=53).contains(&record[0]) && record[1] == 5 { 16 } else { 32 });
         }
     }
     let mut pool = words(&vec![0; 4 * (32 + 1024 * 63)]);

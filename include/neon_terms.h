@@ -38,7 +38,7 @@ enum neon_number {
     NEON_IMMEDIATE = 4,         /* i is not one of the form's */
     NEON_SOURCE = 5,            /* a wanted node is not below the count or has another width; an unwanted one is not NEON_NO_NODE */
     NEON_NO_ROOM = 6,           /* fewer than 1,024 free places; block of k: fewer than 32 + 1,024 * k places */
-    NEON_REGISTER = 7,          /* above 31, or m not 0 with no second source */
+    NEON_REGISTER = 7,          /* above 31, m above 15 for an element of 16 bits, or m not 0 with no second source */
     NEON_LONG_BLOCK = 8,        /* more than 63 records */
     NEON_SHORT_BUFFER = 9,      /* the text is longer than the buffer */
     NEON_LINE = 10              /* of the line program alone */

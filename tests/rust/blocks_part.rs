@@ -5,7 +5,7 @@ use crate::dag::{Dag, fnv};
 use crate::evaluate;
 use crate::forms;
 use crate::forms_part::hash;
-use crate::judge::{self, Record, block_number, form_number, has_second, immediates};
+use crate::judge::{self, RESERVE, Record, block_number, form_number, immediates, most_m};
 use crate::native::{self, Words, bytes, words};
 use crate::pools::{Node, Rng, valid};
 use crate::run;
@@ -22,7 +22,7 @@ pub fn record(r: &mut Rng, registers: u64) -> Record {
         }
         let (least, greatest) = immediates(operation, arrangement);
         let i = least + r.below(greatest - least + 1);
-        let m = if has_second(operation) { r.below(registers) } else { 0 };
+        let m = r.below(registers.min(most_m(operation, arrangement) + 1));
         return [operation, arrangement, i, r.below(registers), r.below(registers), m];
     }
 }
@@ -106,10 +106,45 @@ fn accepted(r: &mut Rng, pool: &Words, old: &[u64], results: &Words, records: &[
     seen.terms += 32;
 }
 
+/// Lowers a block in a pool of `size` words; the answer is the judge's, and for 0 the Rust's.
+fn try_block(r: &mut Rng, pool: &mut Words, records: &[Record], size: usize, seen: &mut Seen) {
+    let old: Vec<u64> = (0..size).map(|_| r.next()).collect();
+    pool.set(&old);
+    let mut flat: Vec<u64> = records.concat();
+    // numbers after the last whole record are not read
+    flat.extend((0..r.below(6)).map(|_| 99));
+    let entries = ENTRIES + r.below(4) as usize;
+    let mut results = words(&vec![TAIL; entries]);
+    let number = native::lower_block(pool, &flat, &mut results);
+    let (want, position) = block_number(size, records);
+    assert_eq!(number, want, "{records:?}");
+    if number == 0 {
+        accepted(r, pool, &old, &results, records, seen);
+        seen.records += records.len() as u64;
+    } else {
+        refused(pool, &old, &results, entries, position);
+        seen.refused += 1;
+    }
+}
+
+/// Elements of 16 bits (4S) of v0 to v15 and of 32 bits (2D) of any register are taken, others get 7 at their position.
+fn try_elements(r: &mut Rng, pool: &mut Words, seen: &mut Seen) {
+    for operation in 48..=53 {
+        for (arrangement, last) in [(5, 15), (6, 31)] {
+            for m in (0..=33).chain([63, 255, 1 << 32, u64::MAX]) {
+                let records = [record(r, 32), [operation, arrangement, r.below(4), 0, 1, m], record(r, 32)];
+                assert_eq!(block_number(4 * 65535, &records), if m <= last { (0, 0) } else { (7, 1) });
+                try_block(r, pool, &records, 4 * (32 + RESERVE * records.len()), seen);
+            }
+        }
+    }
+}
+
 pub fn main(count: u64) {
     let mut r = Rng(0x0fed_cba9_8765_4321);
     let mut seen = Seen { records: 0, refused: 0, nodes: 0, terms: 0, texts: 0 };
     let mut pool = words(&[]);
+    try_elements(&mut r, &mut pool, &mut seen);
     for turn in 0..count {
         let long = if turn % 97 == 96 { 64 + r.below(9) } else { turn % 64 };
         let registers = r.one_of(&[2, 5, 32]);
@@ -119,27 +154,11 @@ pub fn main(count: u64) {
         }
         let places = 32 + 1024 * long as usize;
         let size = if turn % 11 == 10 { 4 * places - 1 } else { 4 * places + r.below(9) as usize };
-        let old: Vec<u64> = (0..size).map(|_| r.next()).collect();
-        pool.set(&old);
-        let mut flat: Vec<u64> = records.concat();
-        // numbers after the last whole record are not read
-        flat.extend((0..r.below(6)).map(|_| 99));
-        let entries = ENTRIES + r.below(4) as usize;
-        let mut results = words(&vec![TAIL; entries]);
-        let number = native::lower_block(&mut pool, &flat, &mut results);
-        let (want, position) = block_number(size, &records);
-        assert_eq!(number, want, "{records:?}");
-        if number == 0 {
-            accepted(&mut r, &pool, &old, &results, &records, &mut seen);
-            seen.records += long;
-        } else {
-            refused(&pool, &old, &results, entries, position);
-            seen.refused += 1;
-        }
+        try_block(&mut r, &mut pool, &records, size, &mut seen);
     }
     assert!(seen.refused > 0 && seen.texts > 0, "blocks: {} refused, {} texts", seen.refused, seen.texts);
     println!(
-        "blocks: {count} blocks, {} refused; {} records, {} nodes: {} terms of registers equal the Rust's by hash, their values the table's at one start each; {} texts equal",
+        "blocks: {count} blocks and one of each element of each register, {} refused; {} records, {} nodes: {} terms of registers equal the Rust's by hash, their values the table's at one start each; {} texts equal",
         seen.refused, seen.records, seen.nodes, seen.terms, seen.texts
     );
 }

@@ -109,13 +109,22 @@ pub fn instruction_number(pool: &[u64], count: usize, case: [u64; 3], nodes: [us
     if places(pool.len()) - count < RESERVE { 6 } else { 0 }
 }
 
+/// The last register that m may name: an element of 16 bits is of v0 to v15.
+pub fn most_m(operation: u64, arrangement: u64) -> u64 {
+    match operation {
+        48..=53 if arrangement == 5 => 15,
+        _ if has_second(operation) => 31,
+        _ => 0,
+    }
+}
+
 pub fn record_number(r: &Record) -> u64 {
     let [operation, arrangement, i, d, n, m] = *r;
     let number = form_number(operation, arrangement, i);
     if number != 0 {
         return number;
     }
-    if d > 31 || n > 31 || m > 31 || m != 0 && !has_second(operation) { 7 } else { 0 }
+    if d > 31 || n > 31 || m > most_m(operation, arrangement) { 7 } else { 0 }
 }
 
 /// Number and position.

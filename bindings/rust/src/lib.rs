@@ -38,7 +38,7 @@ pub enum Number {
     Source,
     /// Too few places are free.
     NoRoom,
-    /// Above 31, or m not 0 with no second source.
+    /// Above 31, m above 15 for an element of 16 bits, or m not 0 with no second source.
     Register,
     /// More than 63 records.
     LongBlock,

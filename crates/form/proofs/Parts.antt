@@ -7,7 +7,7 @@ use native.Mathlib.Nat.{le-div-iff-mul-le}
 use lib.Dec.{eqb}
 use borrow.Author.Tests.{le-leb}
 use Rattle.neon.specs.Op.{Op, opAt, Arrangement, arrangementAt, isArrangement, full}
-use Rattle.neon.specs.Form.{Immediate, None, Left, Right, Element, leastOf, mostOf, form, hasForm, hasSecond, readsD, byElement, firstFull, secondFull, flag, immediateCode, formCode, formCodeAt}
+use Rattle.neon.specs.Form.{Immediate, None, Left, Right, Element, leastOf, mostOf, isElement, form, hasForm, hasSecond, readsD, byElement, firstFull, secondFull, flag, immediateCode, formCode, formCodeAt}
 use Rattle.neon.specs.Refusal.{formNumber}
 use Rattle.neon.proofs.Geometry.{immediate-le}
 use Rattle.neon.proofs.Legal.{formed}
@@ -104,6 +104,13 @@ most-element None n p q r = absurd (p refl)
 most-element Left n p q r = absurd (q refl)
 most-element Right n p q r = absurd (r refl)
 most-element Element n p q r = refl
+
+-- the class of immediate that is an element's
+pub element-row : (i : Immediate) → eqb (immediateCode i) 4 ≡ isElement i
+element-row None = refl
+element-row Left = refl
+element-row Right = refl
+element-row Element = refl
 
 -- a lane has at most 64 bits, so there are some elements
 pub quotient : (n : ℕ) → 8 ≤ n → n ≤ 64 → 1 ≤ 256 / n

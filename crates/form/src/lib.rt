@@ -66,6 +66,13 @@ pub fn second_full(code: u64) -> bool
     code / 64 % 2 == 1
 }
 
+// Whether the second source is one element.
+pub fn by_element(code: u64) -> bool
+    ensures { λ r. ⌜ OfCode code (λ o v. r ≡ byElement o) ⌝ }
+{
+    code % 8 == 4
+}
+
 // The least immediate.
 fn least_immediate(code: u64) -> u64
     ensures { λ r. ⌜ OfCode code (λ o v. r ≡ least o) ⌝ }

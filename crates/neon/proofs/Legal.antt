@@ -10,7 +10,7 @@ use Rattle.facts.proofs.Tests.{and-both, passed}
 use Rattle.neon.specs.declared.Instruction.{Instruction}
 use Rattle.neon.specs.Op.{Op, isOperation, opAt, Arrangement, isArrangement, arrangementAt, laneBits}
 use Rattle.neon.specs.Form.{hasForm, least, most, hasSecond}
-use Rattle.neon.specs.Refusal.{formNumber, mostM, registersOk, recordNumber, Legal}
+use Rattle.neon.specs.Refusal.{formNumber, shortElement, mostM, registersOk, recordNumber, Legal}
 
 -- the operation, the form and the immediate are of the table
 pub record Formed (operation arrangement i : ℕ) : Type 0 where
@@ -60,11 +60,12 @@ accepted c e =
 
 -- m names a register in any case
 pub m-le : (o : Op) (v : Arrangement) → mostM o v ≤ 31
-m-le o v = go (hasSecond o)
+m-le o v = go (hasSecond o) (shortElement o v)
   where
-    go : (b : Bool) → cond b 31 0 ≤ 31
-    go true = omega arith
-    go false = omega arith
+    go : (b s : Bool) → cond b (cond s 15 31) 0 ≤ 31
+    go true true = omega arith
+    go true false = omega arith
+    go false s = omega arith
 
 -- ---- what follows the tests on the form is looked at where they pass, and only there
 

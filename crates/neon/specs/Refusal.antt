@@ -2,13 +2,13 @@
 use mathlib.Core.Bool.{Bool, cond, _&&_}
 use mathlib.Core.List.{List, [], _∷_}
 use mathlib.Core.Path.{_≡_}
-use Prim.Native.Nat.{ℕ, suc, _+_, _*_}
+use Prim.Native.Nat.{ℕ, suc, _+_, _*_, _/_}
 use lib.Dec.{leb, eqb}
 use lib.ListN.{length}
 use Rattle.facts.specs.Refuse.{unless}
 use Rattle.neon.specs.declared.Instruction.{Instruction}
 use Rattle.neon.specs.Op.{Op, isOperation, opAt, Arrangement, isArrangement, arrangementAt, laneBits}
-use Rattle.neon.specs.Form.{hasForm, least, most, hasSecond}
+use Rattle.neon.specs.Form.{hasForm, least, most, hasSecond, byElement}
 
 -- the nodes that one instruction may add, and the records that a block may have
 abbrev pub reserve : ℕ
@@ -25,9 +25,15 @@ formNumber operation arrangement i rest =
     unless (isOperation operation) 2
     (unless (isArrangement arrangement && hasForm o v) 3 (unless (leb (least o) i && leb i (most o (laneBits v))) 4 rest))
 
--- the registers that m may name: all, or 0 where there is no second source; at every arrangement (document 02 may change that)
+-- The encodings by an element have five bits M, Rm for the register and two, H, L, for the index. An element of 32 bits is one of four,
+-- and H:L is its index. One of 16 bits is one of eight: its index is H:L:M, so the register's top bit belongs to the index, and Rm alone
+-- names v0 to v15. The element has half the bits of a lane of the result.
+abbrev pub shortElement : Op → Arrangement → Bool
+shortElement o v = byElement o && eqb (laneBits v / 2) 16
+
+-- the last register that m may name: of the low sixteen for an element of 16 bits, else of all; 0 where there is no second source
 abbrev pub mostM : Op → Arrangement → ℕ
-mostM o v = cond (hasSecond o) 31 0
+mostM o v = cond (hasSecond o) (cond (shortElement o v) 15 31) 0
 
 abbrev pub registersOk : Instruction → Bool
 registersOk c = leb (c .d) 31 && leb (c .n) 31 && leb (c .m) (mostM (opAt (c .operation)) (arrangementAt (c .arrangement)))

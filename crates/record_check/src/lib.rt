@@ -4,6 +4,7 @@ use neon::Instruction;
 ghost use mathlib.Core.Path.{_≡_};
 ghost use Prim.Native.Nat.{_+_, _*_, _≤_};
 ghost use lib.ListN.{length};
+ghost use Rattle.neon.specs.Op.{laneBits};
 ghost use Rattle.neon.specs.Refusal.{mostM, recordNumber};
 ghost use Rattle.form.specs.Code.{OfCode};
 ghost use Rattle.record_check.specs.Record.{instruction, recordAt};
@@ -24,11 +25,14 @@ pub fn record_at(records: &[u64], j: usize) -> Instruction
     }
 }
 
-// The last register that m may name, by the form code: 0 where there is no second source.
-fn most_m(code: u64) -> u64
-    ensures { λ r. ⌜ OfCode code (λ o v. r ≡ mostM o v) ⌝ }
+// The last register that m may name, by the form code and the bits of a lane: 0 where there is no second source, and 15 for an
+// element of 16 bits.
+fn most_m(code: u64, bits: u64) -> u64
+    ensures { λ r. ⌜ OfCode code (λ o v. bits ≡ laneBits v → r ≡ mostM o v) ⌝ }
 {
-    if form::has_second(code) { 31 } else { 0 }
+    let short = form::by_element(code) & (bits / 2 == 16);
+    let last = if short { 15 } else { 31 };
+    if form::has_second(code) { last } else { 0 }
 }
 
 // 0, or the first of 2, 3, 4 and 7 that refuses a record.
@@ -39,7 +43,8 @@ pub fn record_number(operation: u64, arrangement: u64, i: u64, d: u64, n: u64, m
     if 0 < number {
         return number;
     }
-    let most = most_m(neon::form_code(operation, arrangement));
+    let code = neon::form_code(operation, arrangement);
+    let most = most_m(code, form::lane_bits(arrangement));
     if (d <= 31) & (n <= 31) & (m <= most) {
         return 0;
     }
