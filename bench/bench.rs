@@ -19,6 +19,8 @@ use pools::{Node, Rng, grow};
 type Record = [u64; 6];
 
 const NONE: usize = 65535;
+const RESERVE: usize = 768;
+const MOST_RECORDS: usize = 85;
 
 /// Nanoseconds of the best of `rounds` runs.
 fn best(rounds: u64, mut run: impl FnMut()) -> f64 {
@@ -39,12 +41,12 @@ fn forms(oracle: &str) -> (Vec<u8>, Vec<Record>) {
     (list, records)
 }
 
-/// v0 to v31, the low halves of v0, v1 and v2, and 1,024 places.
+/// v0 to v31, the low halves of v0, v1 and v2, and the places that one instruction needs.
 fn sources() -> Vec<u64> {
     let mut nodes: Vec<Node> = (0..32).map(|r| Node { kind: 1, width: 128, operands: [0; 3], data: [r, 0] }).collect();
     nodes.extend((0..3).map(|r| Node { kind: 16, width: 64, operands: [r, 0, 0], data: [63, 0] }));
     let mut pool: Vec<u64> = nodes.iter().flat_map(Node::words).collect();
-    pool.resize(4 * (35 + 1024), 0);
+    pool.resize(4 * (35 + RESERVE), 0);
     pool
 }
 
@@ -81,7 +83,7 @@ fn text(rounds: u64, all: &[Record]) {
     let terms: Vec<(Vec<u64>, usize, usize)> = all
         .iter()
         .map(|record| {
-            let mut pool = words(&vec![0; 4 * (32 + 1024)]);
+            let mut pool = words(&vec![0; 4 * (32 + RESERVE)]);
             let mut results = words(&[0; 34]);
             assert_eq!(lower_block(&mut pool, record, &mut results), 0);
             let count = results.items()[32] as usize;
@@ -157,9 +159,9 @@ fn blocks(rounds: u64, all: &[Record]) {
             record[5] = r.below(if (48..=53).contains(&record[0]) && record[1] == 5 { 16 } else { 32 });
         }
     }
-    let mut pool = words(&vec![0; 4 * (32 + 1024 * 63)]);
+    let mut pool = words(&vec![0; 4 * (32 + RESERVE * MOST_RECORDS)]);
     let mut results = words(&[0; 34]);
-    for k in [1, 2, 4, 8, 16, 32, 63] {
+    for k in [1, 2, 4, 8, 16, 32, 64, MOST_RECORDS] {
         let blocks: Vec<Vec<u64>> = mixed.chunks_exact(k).map(<[Record]>::concat).collect();
         let time = best(rounds.div_ceil(4), || {
             for block in &blocks {

@@ -37,9 +37,9 @@ enum neon_number {
     NEON_NO_SUCH_FORM = 3,      /* no such arrangement, or the operation has none such */
     NEON_IMMEDIATE = 4,         /* i is not one of the form's */
     NEON_SOURCE = 5,            /* a wanted node is not below the count or has another width; an unwanted one is not NEON_NO_NODE */
-    NEON_NO_ROOM = 6,           /* fewer than 1,024 free places; block of k: fewer than 32 + 1,024 * k places */
+    NEON_NO_ROOM = 6,           /* fewer than 768 free places; block of k: fewer than 32 + 768 * k places */
     NEON_REGISTER = 7,          /* above 31, m above 15 for an element of 16 bits, or m not 0 with no second source */
-    NEON_LONG_BLOCK = 8,        /* more than 63 records */
+    NEON_LONG_BLOCK = 8,        /* more than 85 records */
     NEON_SHORT_BUFFER = 9,      /* the text is longer than the buffer */
     NEON_LINE = 10              /* of the line program alone */
 };
@@ -77,8 +77,8 @@ enum neon_operation {
 enum neon_arrangement { NEON_8B, NEON_16B, NEON_4H, NEON_8H, NEON_2S, NEON_4S, NEON_2D };
 
 #define NEON_NO_NODE 65535
-#define NEON_RESERVE 1024      /* free places that one instruction needs */
-#define NEON_MOST_RECORDS 63
+#define NEON_RESERVE 768       /* free places that one instruction needs */
+#define NEON_MOST_RECORDS 85
 #define NEON_RECORD 6          /* words of a record: operation, arrangement, i, d, n, m */
 #define NEON_RESULTS 34        /* words of a block's results: 32 nodes, the count, the position */
 
@@ -95,7 +95,7 @@ uint64_t neon_form_code(uint64_t operation, uint64_t arrangement);
 bool neon_pool_check(const uint64_t *pool, size_t words, size_t count);
 
 /* Lowers one instruction on the nodes d (old destination), n and m (sources); NEON_NO_NODE for one that the form does not read.
- * Done: *node is the term, of 64 or 128 bits, and *after the new count; at most 1,024 nodes are added after the old ones, each
+ * Done: *node is the term, of 64 or 128 bits, and *after the new count; at most 768 nodes are added after the old ones, each
  * reached from *node, and no other word changes. Refused: *node is NEON_NO_NODE, *after is count. */
 uint64_t neon_lower_instruction(uint64_t *pool, size_t words, size_t count, uint64_t operation, uint64_t arrangement, uint64_t i,
                                 size_t d, size_t n, size_t m, size_t *node, size_t *after);

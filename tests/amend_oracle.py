@@ -11,6 +11,8 @@ from pathlib import Path
 CHANGES = [
     # An element of 16 bits is of v0 to v15. The Rust takes it from any register.
     ("S-3", "forms.rs", "r.m > 31 ||", "r.m > (if by_element(r.op) && lane_bits(r.arr) == 32 { 15 } else { 31 }) ||"),
+    # A block has up to 85 records, 63 by document 01.
+    ("S-9", "forms.rs", "block.len() > 63", "block.len() > 85"),
 ]
 
 

@@ -5,7 +5,7 @@ use crate::dag::{Dag, fnv};
 use crate::evaluate;
 use crate::forms;
 use crate::forms_part::hash;
-use crate::judge::{self, RESERVE, Record, block_number, form_number, immediates, most_m};
+use crate::judge::{self, MOST_RECORDS, RESERVE, Record, block_number, form_number, immediates, most_m};
 use crate::native::{self, Words, bytes, words};
 use crate::pools::{Node, Rng, valid};
 use crate::run;
@@ -73,7 +73,7 @@ fn accepted(r: &mut Rng, pool: &Words, old: &[u64], results: &Words, records: &[
     let (count, position) = (entries[32] as usize, entries[33]);
     assert!(position == 0 && entries[ENTRIES..].iter().all(|&x| x == TAIL));
     let new = pool.items();
-    assert!(count <= 32 + 1024 * records.len() && valid(new, count), "count {count}");
+    assert!(count <= 32 + RESERVE * records.len() && valid(new, count), "count {count}");
     assert!(new[4 * count..] == old[4 * count..], "a word past the count changed");
     let mut hashes = Vec::with_capacity(count);
     for n in 0..count {
@@ -140,25 +140,36 @@ fn try_elements(r: &mut Rng, pool: &mut Words, seen: &mut Seen) {
     }
 }
 
+/// 85 records pass in 65,312 places; one word less is one place less and gets 6; 86 get 8 in the largest pool.
+fn try_sizes(r: &mut Rng, pool: &mut Words, seen: &mut Seen) {
+    assert_eq!(32 + RESERVE * MOST_RECORDS, 65_312);
+    for (long, words, want) in [(0, 4 * 32, 0), (0, 4 * 32 - 1, 6), (1, 4 * 800, 0), (1, 4 * 800 - 1, 6), (85, 4 * 65_312, 0), (85, 4 * 65_312 - 1, 6), (86, 4 * 65_535, 8)] {
+        let records: Vec<Record> = (0..long).map(|_| record(r, 32)).collect();
+        assert_eq!(block_number(words, &records), (want, 0));
+        try_block(r, pool, &records, words, seen);
+    }
+}
+
 pub fn main(count: u64) {
     let mut r = Rng(0x0fed_cba9_8765_4321);
     let mut seen = Seen { records: 0, refused: 0, nodes: 0, terms: 0, texts: 0 };
     let mut pool = words(&[]);
     try_elements(&mut r, &mut pool, &mut seen);
+    try_sizes(&mut r, &mut pool, &mut seen);
     for turn in 0..count {
-        let long = if turn % 97 == 96 { 64 + r.below(9) } else { turn % 64 };
+        let long = if turn % 97 == 96 { 86 + r.below(9) } else { turn % 86 };
         let registers = r.one_of(&[2, 5, 32]);
         let mut records: Vec<Record> = (0..long).map(|_| record(&mut r, registers)).collect();
         if turn % 5 == 4 {
             spoil(&mut r, &mut records);
         }
-        let places = 32 + 1024 * long as usize;
+        let places = 32 + RESERVE * long as usize;
         let size = if turn % 11 == 10 { 4 * places - 1 } else { 4 * places + r.below(9) as usize };
         try_block(&mut r, &mut pool, &records, size, &mut seen);
     }
     assert!(seen.refused > 0 && seen.texts > 0, "blocks: {} refused, {} texts", seen.refused, seen.texts);
     println!(
-        "blocks: {count} blocks and one of each element of each register, {} refused; {} records, {} nodes: {} terms of registers equal the Rust's by hash, their values the table's at one start each; {} texts equal",
+        "blocks: {count} blocks, one of each element of each register and some at the limits of room and length, {} refused; {} records, {} nodes: {} terms of registers equal the Rust's by hash, their values the table's at one start each; {} texts equal",
         seen.refused, seen.records, seen.nodes, seen.terms, seen.texts
     );
 }

@@ -185,7 +185,7 @@ fn try_text(r: &mut Rng, pool: &[u64], count: usize, ok: bool, seen: &mut Seen) 
 }
 
 fn try_block(r: &mut Rng, lent: &mut Words, old: &[u64], seen: &mut Seen) {
-    let long = r.one_of(&[0, 0, 1, 1, 2, 63, 64, 70]);
+    let long = r.one_of(&[0, 0, 1, 1, 2, 85, 86, 95]);
     let mut records: Vec<Record> = (0..long).map(|_| record(r, 32)).collect();
     if r.below(2) == 0 {
         spoil(r, &mut records);

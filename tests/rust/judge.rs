@@ -2,7 +2,8 @@
 use crate::pools::{Node, valid};
 
 pub const NONE: usize = 65535;
-pub const RESERVE: usize = 1024;
+pub const RESERVE: usize = 768;
+pub const MOST_RECORDS: usize = 85;
 
 /// Operation, arrangement, i, d, n, m.
 pub type Record = [u64; 6];
@@ -129,7 +130,7 @@ pub fn record_number(r: &Record) -> u64 {
 
 /// Number and position.
 pub fn block_number(words: usize, records: &[Record]) -> (u64, usize) {
-    if records.len() > 63 {
+    if records.len() > MOST_RECORDS {
         return (8, 0);
     }
     if places(words) < 32 + RESERVE * records.len() {

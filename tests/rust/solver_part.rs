@@ -5,6 +5,7 @@ use std::process::{Command, Stdio};
 
 use crate::blocks_part::record;
 use crate::evaluate;
+use crate::judge::RESERVE;
 use crate::native::{self, words};
 use crate::pools::{Node, Rng};
 
@@ -36,7 +37,7 @@ fn term(pool: &[u64], n: usize) -> String {
 
 /// A block of a few records, and the question whether a register can have another value than the one found.
 fn question(r: &mut Rng, script: &mut String) {
-    let mut pool = words(&vec![0; 4 * (32 + 1024 * 3)]);
+    let mut pool = words(&vec![0; 4 * (32 + RESERVE * 3)]);
     let records: Vec<u64> = (0..1 + r.below(3)).flat_map(|_| record(r, 4)).collect();
     let mut results = words(&[0; 34]);
     assert_eq!(native::lower_block(&mut pool, &records, &mut results), 0);

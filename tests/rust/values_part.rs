@@ -1,5 +1,6 @@
 //! The terms' values at the starts of the files of Arm values.
 use crate::evaluate;
+use crate::judge::{MOST_RECORDS, RESERVE};
 use crate::native::{self, Words, words};
 use crate::pools::Rng;
 use std::collections::HashSet;
@@ -77,7 +78,7 @@ pub fn main(_: u64) {
         println!("skipped: compare with Arm values (no {folder})");
         return;
     }
-    let mut pool = words(&vec![0; 4 * (32 + 1024 * 63)]);
+    let mut pool = words(&vec![0; 4 * (32 + RESERVE * MOST_RECORDS)]);
     let count = instructions(&mut pool, &format!("{folder}/arm-values.txt"));
     let (blocks, records) = blocks(&mut pool, &format!("{folder}/blocks.txt"));
     println!("values: {count} instructions and {blocks} blocks of {records} records: the terms' values are Arm's in all 32 registers");

@@ -40,7 +40,7 @@ pub enum Number {
     NoRoom,
     /// Above 31, m above 15 for an element of 16 bits, or m not 0 with no second source.
     Register,
-    /// More than 63 records.
+    /// More than 85 records.
     LongBlock,
     /// The text is longer than the buffer.
     ShortBuffer,
@@ -228,7 +228,7 @@ impl Pool {
     /// ```
     pub fn from_block(records: &[Record]) -> Result<(Self, [Node; 32]), Refusal> {
         let flat: Vec<u64> = records.iter().flat_map(|r| [r.operation, r.arrangement, r.i, r.d, r.n, r.m]).collect();
-        let mut words = vec![0; 4 * (32 + raw::RESERVE * records.len().min(63))];
+        let mut words = vec![0; 4 * (32 + raw::RESERVE * records.len().min(raw::MOST_RECORDS))];
         let mut results = [0; raw::RESULTS];
         let number = raw::lower_block(&mut words, &flat, &mut results);
         block_answer(number, results[33])?;

@@ -4,7 +4,8 @@
 
 use std::thread;
 
-pub const RESERVE: usize = 1024;
+pub const RESERVE: usize = 768;
+pub const MOST_RECORDS: usize = 85;
 pub const RESULTS: usize = 34;
 pub const NO_NODE: usize = 65535;
 

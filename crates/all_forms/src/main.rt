@@ -103,9 +103,9 @@ fn words_of(pool: &[u64], places: u64) -> usize
     pool.len()
 }
 
-// One case in a pool of its own, of at most 1,059 places. The nodes added.
+// One case in a pool of its own, of at most 803 places. The nodes added.
 fn run(case: &[u8; 48]) -> usize {
-    let mut words = [0u64; 4236];
+    let mut words = [0u64; 3212];
     registers(&mut words);
     let count = column(case, 1) as usize;
     let end = words_of(&words, column(case, 0));

@@ -10,7 +10,7 @@ use borrow.Author.Tests.{le-leb}
 use Rattle.facts.proofs.Tests.{and-both}
 use Rattle.neon.specs.Op.{Op, Arrangement, opAt, arrangementAt, view}
 use Rattle.neon.specs.Form.{hasSecond, readsD, firstBits, secondBits}
-use Rattle.neon.specs.Refusal.{reserve, formNumber}
+use Rattle.neon.specs.Refusal.{reserve, mostNodes, formNumber}
 use Rattle.trees.specs.Neon.{resultTree}
 use Rattle.pool.specs.declared.Node.{Node}
 use Rattle.pool.specs.declared.Built.{Built}
@@ -19,7 +19,6 @@ use Rattle.pool.specs.Rules.{okPool, poolOk}
 use Rattle.pool.specs.Unfold.{unfoldAt}
 use Rattle.pool.specs.Growth.{NodeIs, Room}
 use Rattle.lower.specs.Builds.{Lowers, Below, read, readIf}
-use Rattle.lower_neon.specs.Family.{mostNodes}
 use Rattle.instruction_check.specs.Number.{sourceOk, instructionNumber}
 use Rattle.instruction.specs.Lowering.{Answers}
 use Rattle.instruction_check.proofs.Refusing.{Passed, passes, source-is}

@@ -16,7 +16,8 @@ use Rattle.pool.specs.declared.Node.{Node}
 use Rattle.pool.specs.declared.Built.{Built}
 use Rattle.pool.specs.Growth.{NodeIs}
 use Rattle.lower.specs.Builds.{Source, SourceIs, Below, Lowers, read, readIf, unread, withLower}
-use Rattle.lower_neon.specs.Family.{readsSecond, readsOld, keepsLower, oldWidth, firstWidth, secondWidth, FamilyIn, mostNodes}
+use Rattle.lower_neon.specs.Family.{readsSecond, readsOld, keepsLower, oldWidth, firstWidth, secondWidth, FamilyIn}
+use Rattle.neon.specs.Refusal.{mostNodes}
 use Rattle.lower_neon.proofs.Rows.{Row}
 
 -- at most 16 lanes

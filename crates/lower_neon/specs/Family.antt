@@ -8,10 +8,6 @@ use Rattle.trees.specs.Arith.{kindBits}
 use Rattle.kinds.specs.Sources.{isRegister, AmountIn, usesSecond, KindIn}
 use Rattle.lower_doubling.specs.Elements.{accumulates, factorBits, secondFactorBits}
 
--- a bound on the nodes that a form adds: with a block's three reads and its widening, below the 768 of document 02
-abbrev pub mostNodes : ℕ
-mostNodes = 760
-
 abbrev pub readsSecond : NeonOp → Bool
 readsSecond (Shift kind signed) = isRegister kind
 readsSecond (ShiftInsert left shift) = false

@@ -13,7 +13,7 @@ use Rattle.terms.specs.Expr.{Expr}
 use Rattle.neon.specs.declared.Instruction.{Instruction}
 use Rattle.neon.specs.Op.{Op, opAt, Arrangement, arrangementAt, full, view}
 use Rattle.neon.specs.Form.{form, hasSecond, readsD, byElement, firstFull, secondFull, firstBits, secondBits}
-use Rattle.neon.specs.Refusal.{reserve, Legal}
+use Rattle.neon.specs.Refusal.{mostNodes, recordNodes, Legal}
 use Rattle.neon.proofs.Legal.{accepted, m-le}
 use Rattle.trees.specs.Neon.{resultTree}
 use Rattle.trees.specs.Block.{readTree, widenTree, recordTree, treeStep}
@@ -26,7 +26,6 @@ use Rattle.lower.specs.Builds.{Builds1, Lowers, read, readIf}
 use Rattle.register_map.specs.declared.RegisterMap.{RegisterMap}
 use Rattle.register_map.specs.Map.{node, nodeOf, written}
 use Rattle.register_map.proofs.Nodes.{written-is}
-use Rattle.lower_neon.specs.Family.{mostNodes}
 use Rattle.register_reads.specs.Reads.{LowHalf, Reads}
 use Rattle.register_reads.proofs.Reading.{read-more, read-most}
 use Rattle.lower_record.specs.Step.{MapOk, MapIs, RegisterRead, StepMade, Steps}
@@ -62,7 +61,8 @@ module _ (m : RegisterMap) (ok : MapOk m) (c : Instruction) (hd : c .d < 32) (hn
   after-at : nodeOf (written m (c .d) (b5 .node .0) (b5 .count)) (c .d) ≡ b5 .node .0
   after-at = written-at m (c .d) (b5 .node .0) (b5 .count) in-map
 
-  sizes : (m .count ≤ b5 .count) × (b5 .count ≤ m .count + reserve)
+  -- three reads, the form's nodes, one widening
+  sizes : (m .count ≤ b5 .count) × (b5 .count ≤ m .count + recordNodes)
   sizes = (
     omega (arith, read-more r1, read-more r2, read-more r3, f .sized, w .sized),
     omega (arith, read-most r1, read-most r2, read-most r3, f .sized, w .sized),
@@ -115,7 +115,7 @@ module _ (m : RegisterMap) (ok : MapOk m) (c : Instruction) (hd : c .d < 32) (hn
         is = λ x l.
             rw (eo, ev, written-is m (c .d) (b5 .node .0) (b5 .count) x in-map)
             (either (eqb x (c .d)) (mw .is) (is-kept g05 (h x l)));
-        added = rw after-at (record { more = sizes .0; most = sizes .1; is = answered; all = own });
+        added = rw after-at (record { more = sizes .0; most = omega (arith, sizes .1); is = answered; all = own });
       }
 
   pub recorded : Steps w0 m w5 (written m (c .d) (b5 .node .0) (b5 .count)) c

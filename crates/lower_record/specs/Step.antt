@@ -9,7 +9,7 @@ use Rattle.terms.specs.Expr.{Expr}
 use Rattle.neon.specs.declared.Instruction.{Instruction}
 use Rattle.neon.specs.Op.{opAt, arrangementAt, full}
 use Rattle.neon.specs.Form.{form, hasSecond, readsD, byElement, firstFull, secondFull}
-use Rattle.neon.specs.Refusal.{reserve}
+use Rattle.neon.specs.Refusal.{reserve, recordNodes}
 use Rattle.trees.specs.Block.{recordTree, treeStep}
 use Rattle.pool.specs.Rules.{Valid}
 use Rattle.pool.specs.Growth.{Reach, Grown, NodeIs}
@@ -54,7 +54,7 @@ pub record StepMade (old : List ℕ) (m : RegisterMap) (new : List ℕ) (m′ : 
 -- the numbers, whatever the pool holds; and what a valid pool and registers of known terms become
 pub record Steps (old : List ℕ) (m : RegisterMap) (new : List ℕ) (m′ : RegisterMap) (c : Instruction) : Type 0 where
   pub long : length new ≡ length old
-  pub most : m′ .count ≤ m .count + reserve
+  pub most : m′ .count ≤ m .count + recordNodes
   pub map-ok : MapOk m′
   pub map-is : m′ ≡ written m (c .d) (nodeOf m′ (c .d)) (m′ .count)
   pub made : {t : ℕ → Expr} → Valid old (m .count) → MapIs old m t → StepMade old m new m′ c t

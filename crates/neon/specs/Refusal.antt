@@ -12,10 +12,18 @@ use Rattle.neon.specs.Form.{hasForm, least, most, hasSecond, byElement}
 
 -- the nodes that one instruction may add, and the records that a block may have
 abbrev pub reserve : ℕ
-reserve = 1024
+reserve = 768
 
 abbrev pub mostRecords : ℕ
-mostRecords = 63
+mostRecords = 85
+
+-- a bound on the nodes that a form adds, all forms together; and on those of a record, with a read of a low half for each of n, m and d and
+-- the widening of a result of 64 bits
+abbrev pub mostNodes : ℕ
+mostNodes = 760
+
+abbrev pub recordNodes : ℕ
+recordNodes = mostNodes + 3 + 1
 
 -- 2, 3, 4: the operation, its form, its immediate; else what follows
 abbrev pub formNumber : (operation arrangement i rest : ℕ) → ℕ

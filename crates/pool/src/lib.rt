@@ -10,7 +10,7 @@ pub struct Node(pub usize);
 
 impl Node {
     // The nodes that one instruction may add.
-    pub const RESERVE: usize = 1024;
+    pub const RESERVE: usize = 768;
     // The number that stands for no node. A pool has no more places than this.
     pub const NONE: usize = 65535;
 

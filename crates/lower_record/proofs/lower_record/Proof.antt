@@ -3,7 +3,7 @@ use mathlib.Core.Path.{_≡_, refl, _∙_}
 use Prim.Native.Nat.{_+_, _<_}
 use Rattle.neon.specs.declared.Instruction.{Instruction}
 use Rattle.neon.specs.Op.{Op, opAt, Arrangement, arrangementAt}
-use Rattle.neon.specs.Refusal.{formNumber}
+use Rattle.neon.specs.Refusal.{mostNodes, formNumber}
 use Rattle.neon.proofs.Legal.{accepted}
 use Rattle.pool.specs.Growth.{Room}
 use Rattle.form.specs.Code.{OfCode}
@@ -12,7 +12,6 @@ use Rattle.register_map.specs.Map.{nodeOf}
 use Rattle.register_reads.proofs.Reading.{read-more, read-most, read-flags, widen-flag}
 use Rattle.record_check.specs.Record.{instruction}
 use Rattle.record_check.proofs.Refusals.{form-legal}
-use Rattle.lower_neon.specs.Family.{mostNodes}
 use Rattle.lower_record.proofs.Recording.{recorded, registers-in, nodes-in}
 use borrow.Author.Needs.{needs}
 use Rattle.lower_record.proofs.lower_record.Statement.{statement}
