@@ -172,6 +172,24 @@ fn blocks(rounds: u64, all: &[Record]) {
     }
 }
 
+/// SQADD 16B on a source that is k cuts of cuts: each lane's cut of each source goes past them all. Microseconds, the pool check with it.
+fn nested(rounds: u64) {
+    let mut r = vec![Node { kind: 1, width: 128, operands: [0; 3], data: [1, 0] }];
+    for k in [1, 1_000, 4_000, 16_000, 64_000] {
+        while r.len() <= k {
+            r.push(Node { kind: 16, width: 128, operands: [r.len() - 1, 0, 0], data: [127, 0] });
+        }
+        let mut all: Vec<u64> = r.iter().flat_map(Node::words).collect();
+        all.resize(4 * (r.len() + RESERVE), 0);
+        let mut pool = words(&all);
+        let count = r.len();
+        let time = best(rounds.div_ceil(20), || {
+            assert_eq!(black_box(lower_instruction(&mut pool, count, [19, 1, 0], [NONE, k, k])).0, 0);
+        });
+        println!("nested-{k} {:.1}", time / 1000.0);
+    }
+}
+
 /// A whole run of a program that reads all forms.
 fn program(rounds: u64, command: &[&str], input: &[u8]) -> f64 {
     best(rounds, || {
@@ -189,6 +207,7 @@ fn main() {
     text(rounds, &all);
     check(rounds, &all);
     blocks(rounds, &all);
+    nested(rounds);
     // in turn, so that both meet the same machine
     let (mut ours, mut rust) = (f64::MAX, f64::MAX);
     for _ in 0..rounds.div_ceil(4) {

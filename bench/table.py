@@ -72,3 +72,13 @@ Blocks are cut from one mixed list of all forms.
 |---|---|""")
 for count, time in block.items():
     print(f"| {count} | {time:.0f} |")
+print("""
+## Nested cuts
+
+SQADD 16B, both sources a cut of a cut of a cut and so on, the pool check with it. Each of the 32 lanes' cuts goes past all of them; what the
+lowering makes has none.
+
+| Cuts, one of the other | µs |
+|---|---|""")
+for count, time in growth("nested").items():
+    print(f"| {count:,} | {time:.1f} |")

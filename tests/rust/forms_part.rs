@@ -92,8 +92,43 @@ impl Sources {
         s
     }
 
+    /// Cuts of cuts, of every inner lo: of 64 bits at the lower and the upper end of a term of 129 bits from which lo bits are cut, once and
+    /// twice; of 128 bits where lo is 0 or 1.
+    fn nested() -> Self {
+        let mut s = Self { nodes: vec![], trees: vec![] };
+        for r in 0..32 {
+            s.add(1, 128, &[], [r, 0]);
+        }
+        for lo in 0..=65 {
+            let sum = s.add(18 + lo % 2, 129, &[lo as usize % 32], [0, 0]);
+            let once = s.cut(sum, 128, lo);
+            let width = 129 - lo;
+            s.cut(once, 63, 0);
+            s.cut(once, width - 1, width - 64);
+            let twice = s.cut(once, width - 1, 0);
+            s.cut(twice, width - 1, width - 64);
+            if width >= 128 {
+                s.cut(once, 127, 0);
+                s.cut(twice, width - 1, width - 128);
+            }
+        }
+        s
+    }
+
+    /// The nodes of a width.
     fn of_width(&self, width: u64) -> Vec<usize> {
         (0..self.nodes.len()).filter(|&n| self.nodes[n].width == width).collect()
+    }
+
+    /// The pool's words, with room for an instruction, and the structural hash of each node.
+    fn pool(&self, r: &mut Rng) -> (Vec<u64>, Vec<u64>) {
+        let mut base: Vec<u64> = self.nodes.iter().flat_map(Node::words).collect();
+        base.extend((0..4 * RESERVE).map(|_| r.next()));
+        let mut hashes = vec![];
+        for node in &self.nodes {
+            hashes.push(hash(node, &hashes));
+        }
+        (base, hashes)
     }
 }
 
@@ -151,15 +186,37 @@ fn compare(s: &Sources, base: &[u64], base_hashes: &[u64], pool: &mut Words, for
     after - count
 }
 
+/// Every operation and arrangement, at its last immediate, on each nested cut in turn.
+fn nested(all: &[Record]) -> usize {
+    let s = Sources::nested();
+    let mut r = Rng(0x3c6e_f372_fe94_f82b);
+    let (base, hashes) = s.pool(&mut r);
+    let mut pool = native::words(&base);
+    let registers = 32;
+    let lists = [64, 128].map(|width| s.of_width(width).into_iter().filter(|&n| n >= registers).collect::<Vec<_>>());
+    let mut compared = 0;
+    for (k, form) in all.iter().enumerate() {
+        if all.get(k + 1).is_some_and(|next| (next.op, next.arr) == (form.op, form.arr)) {
+            continue;
+        }
+        let widths = wanted(form.op.into(), form.arr.into());
+        let turns = widths.iter().flatten().map(|&width| lists[(width == 128) as usize].len()).max().expect("a source");
+        for turn in 0..turns {
+            let nodes = std::array::from_fn(|k| widths[k].map_or(NONE, |width| {
+                let list = &lists[(width == 128) as usize];
+                list[(turn * (k + 1) + k) % list.len()]
+            }));
+            compare(&s, &base, &hashes, &mut pool, form, nodes, turn % 64 == 0);
+            compared += 1;
+        }
+    }
+    compared
+}
+
 pub fn main(sets: u64) {
     let s = Sources::new();
-    let mut base: Vec<u64> = s.nodes.iter().flat_map(Node::words).collect();
     let mut r = Rng(0x1234_5678_9abc_def1);
-    base.extend((0..4 * RESERVE).map(|_| r.next()));
-    let mut hashes = vec![];
-    for node in &s.nodes {
-        hashes.push(hash(node, &hashes));
-    }
+    let (base, hashes) = s.pool(&mut r);
     let lists = [s.of_width(64), s.of_width(128)];
     let mut pool = native::words(&base);
     let all = forms::all();
@@ -176,8 +233,10 @@ pub fn main(sets: u64) {
             assert_eq!(native::form_code(operation, arrangement), crate::judge::form_code(operation, arrangement), "{operation} {arrangement}");
         }
     }
+    let cuts = nested(&all);
     println!(
-        "forms: {} forms on {sets} sets of sources, of {} terms of 64 bits and {} of 128: {} terms equal the Rust's; at most {most} nodes added",
+        "forms: {cuts} terms on cuts of cuts of every inner lo equal the Rust's\n\
+         forms: {} forms on {sets} sets of sources, of {} terms of 64 bits and {} of 128: {} terms equal the Rust's; at most {most} nodes added",
         all.len(), lists[0].len(), lists[1].len(), all.len() as u64 * sets
     );
 }

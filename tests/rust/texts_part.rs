@@ -26,7 +26,7 @@ pub fn tree(e: &[Expr], n: &Node) -> Expr {
         13 => Expr::ult(a, b),
         14 => Expr::slt(a, b),
         15 => Expr::Ite { cond: Box::new(a), then_expr: Box::new(b), else_expr: Box::new(c.unwrap()) },
-        16 => Expr::extract(a, n.data[0] as u16, n.data[1] as u16),
+        16 => Expr::Extract { src: Box::new(a), hi: n.data[0] as u16, lo: n.data[1] as u16 },
         17 => Expr::concat(a, b),
         18 => Expr::zero_ext(a, w),
         _ => Expr::sign_ext(a, w),

@@ -18,6 +18,7 @@ use Rattle.pool.specs.Node.{Cell, decode, kindAt, kinds, none, places}
 use Rattle.pool.specs.Rules.{Valid, okPool}
 use Rattle.pool.specs.Growth.{Room, Grown}
 use Rattle.nodes.specs.Builders.{MadeVar}
+use Rattle.register_reads.proofs.Reading.{half-kept}
 use Rattle.pool.proofs.Laws.{grown-refl, grown-trans, cell-kept, is-kept, reach-kept, packed, appended, unfold-step}
 use Rattle.register_map.specs.declared.RegisterMap.{RegisterMap}
 use Rattle.register_map.specs.Map.{nodesFrom, firstMap, written}
@@ -25,7 +26,7 @@ use Rattle.register_map.proofs.Nodes.{first-is}
 use Rattle.record_check.specs.Record.{recordAt}
 use Rattle.block_check.specs.Records.{recordsFrom, recordsOf}
 use Rattle.block_check.proofs.Refusals.{from-length, block-legal, legal-at}
-use Rattle.lower_record.specs.Step.{MapOk, MapIs, Added, Steps}
+use Rattle.lower_record.specs.Step.{MapOk, MapIs, RegisterRead, Added, Steps}
 use Rattle.block.specs.Block.{VarAt, Lowered, Accepted, Started, Runs}
 
 -- ---- one record more
@@ -48,10 +49,16 @@ lowered-more : (ws : List ℕ) (m : RegisterMap) (t : ℕ → Expr) (cs : List I
 lowered-more ws m t [] m′ h = rw h (le-refl (m .count))
 lowered-more ws m t (c ∷ cs) m′ h = le-trans (h .2 .more) (lowered-more ws (written m (c .d) (h .0) (h .1)) (treeStep c t) cs m′ (h .3))
 
+-- a record's reads stay while the pool grows
+reads-kept : {a b : List ℕ} {k k′ : ℕ} → Grown a k b k′ → (m : RegisterMap) (c : Instruction) (x : ℕ) → x < k → RegisterRead a m c x → RegisterRead b m c x
+reads-kept g m c x l (inl h) = inl (h .0, half-kept g refl x l (h .1))
+reads-kept g m c x l (inr (inl h)) = inr (inl (h .0, h .1, half-kept g refl x l (h .2)))
+reads-kept g m c x l (inr (inr h)) = inr (inr (h .0, h .1, half-kept g refl x l (h .2)))
+
 -- what a record added stays while the pool grows
 added-kept : {a b : List ℕ} {k k′ : ℕ} → Grown a k b k′ → {m : RegisterMap} {t : ℕ → Expr} {c : Instruction} {answer n : ℕ} → n ≤ k → Added a m t c answer n
     → Added b m t c answer n
-added-kept g l h =
+added-kept g {m} {c = c} l h =
     let i = h .is in
     let kept = is-kept g (record { under = omega (arith, i .under); wide = i .wide; tree = i .tree }) in
     record {
@@ -59,8 +66,7 @@ added-kept g l h =
       most = h .most;
       is = record { under = i .under; wide = kept .wide; tree = kept .tree };
       all = λ x p q.
-          ⊎-elim (λ y. inl (reach-kept g (omega (arith, i .under)) y))
-          (λ y. inr (⊎-elim (λ z. inl (z .0, cell-kept g x (omega arith) ∙ z .1)) (λ z. inr (⊎-elim (λ u. inl (u .0, u .1, cell-kept g x (omega arith) ∙ u .2)) (λ u. inr (u .0, u .1, cell-kept g x (omega arith) ∙ u .2)) z)) y)) (h .all x p q);
+          ⊎-elim (λ y. inl (reach-kept g (omega (arith, i .under)) y)) (λ y. inr (reads-kept g m c x (omega arith) y)) (h .all x p q);
     }
 
 -- and so what a run added

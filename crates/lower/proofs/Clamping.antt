@@ -16,7 +16,7 @@ use Rattle.nodes.specs.Builders.{MadeConst, MadeBv, MadeCompare, MadeIte, MadeE
 use Rattle.pool.proofs.Steps.{start, step, finish, stay, given}
 use Rattle.trees.specs.declared.SaturateTo.{SaturateTo}
 use Rattle.trees.specs.declared.SaturateTo.the-variants.{Signed, Unsigned, SignedToUnsigned}
-use Rattle.trees.specs.Simd.{extract}
+use Rattle.trees.specs.Simd.{extractCollapsing}
 use Rattle.trees.specs.Lower.{unsignedMax}
 use Rattle.trees.specs.Arith.{clampBetween, clampBelow, clamp, plusIf}
 use Rattle.lower.specs.Builds.{Builds1, MadeExtend}
@@ -30,7 +30,7 @@ pub between : {w0 w1 w2 w3 w4 w5 w6 w7 : List ℕ} {k : ℕ} {r1 r2 r3 r4 r5 r6 
     → MadeCompare w4 (r4 .count) w5 r5 Slt value (r4 .node)
     → MadeIte w5 (r5 .count) w6 r6 (r5 .node) (r4 .node) (r3 .node)
     → MadeExtract w6 (r6 .count) w7 r7 (r6 .node) (narrow - 1) 0
-    → Builds1 w0 k w7 r7 7 value wide narrow (λ v. extract (clampBetween v (Const (words ll lh) wide) (Const (words hl hh) wide)) (narrow - 1) 0) (value .0 ∷ [])
+    → Builds1 w0 k w7 r7 7 value wide narrow (λ v. extractCollapsing (clampBetween v (Const (words ll lh) wide) (Const (words hl hh) wide)) (narrow - 1) 0) (value .0 ∷ [])
 between {value = value} {wide = wide} b c d lo hi e1 e2 e3 e4 e5 e6 e7 =
     let l : 1 ≤ wide = omega arith in
     let m : wide ≤ 129 = omega arith in
@@ -53,7 +53,7 @@ pub below : {w0 w1 w2 w3 w4 : List ℕ} {k : ℕ} {r1 r2 r3 r4 : Built} {value :
     → MadeCompare w1 (r1 .count) w2 r2 Ult (r1 .node) value
     → MadeIte w2 (r2 .count) w3 r3 (r2 .node) (r1 .node) value
     → MadeExtract w3 (r3 .count) w4 r4 (r3 .node) (narrow - 1) 0
-    → Builds1 w0 k w4 r4 4 value wide narrow (λ v. extract (clampBelow v (Const high wide)) (narrow - 1) 0) (value .0 ∷ [])
+    → Builds1 w0 k w4 r4 4 value wide narrow (λ v. extractCollapsing (clampBelow v (Const high wide)) (narrow - 1) 0) (value .0 ∷ [])
 below {value = value} {wide = wide} b c d hi e1 e2 e3 e4 =
     let l : 1 ≤ wide = omega arith in
     let m : wide ≤ 129 = omega arith in
@@ -76,7 +76,7 @@ high-fits wide b h = lt-of-lt-of-le (ones-lt b) (pow-mono h)
 
 module _ {w0 w1 : List ℕ} {k : ℕ} {r : Built} {value : Node} {wide narrow : ℕ} {to : SaturateTo} where
   pub clamp-signed : {p low high : ℕ} → to ≡ Signed → p ≡ 2 ^ (narrow - 1) → low ≡ 2 ^ wide - 2 ^ (narrow - 1) → words (p - 1) 0 ≡ high
-      → Builds1 w0 k w1 r 7 value wide narrow (λ v. extract (clampBetween v (Const low wide) (Const high wide)) (narrow - 1) 0) (value .0 ∷ [])
+      → Builds1 w0 k w1 r 7 value wide narrow (λ v. extractCollapsing (clampBetween v (Const low wide) (Const high wide)) (narrow - 1) 0) (value .0 ∷ [])
       → Builds1 w0 k w1 r 7 value wide narrow (λ v. clamp v wide narrow to) (value .0 ∷ [])
   unfolding clamp
   clamp-signed {p} {low} {high} q e f g d =
@@ -84,13 +84,13 @@ module _ {w0 w1 : List ℕ} {k : ℕ} {r : Built} {value : Node} {wide narrow : 
       rw (q, ← f, ← h) d
 
   pub clamp-unsigned : {h : ℕ} → to ≡ Unsigned → h ≡ unsignedMax narrow
-      → Builds1 w0 k w1 r 4 value wide narrow (λ v. extract (clampBelow v (Const h wide)) (narrow - 1) 0) (value .0 ∷ [])
+      → Builds1 w0 k w1 r 4 value wide narrow (λ v. extractCollapsing (clampBelow v (Const h wide)) (narrow - 1) 0) (value .0 ∷ [])
       → Builds1 w0 k w1 r 7 value wide narrow (λ v. clamp v wide narrow to) (value .0 ∷ [])
   unfolding clamp
   clamp-unsigned q e d = rw (q, ← e) (record { sized = omega (arith, d .sized); made = d .made })
 
   pub clamp-to-unsigned : {h high : ℕ} → to ≡ SignedToUnsigned → h ≡ unsignedMax narrow → words h 0 ≡ high
-      → Builds1 w0 k w1 r 7 value wide narrow (λ v. extract (clampBetween v (Const 0 wide) (Const high wide)) (narrow - 1) 0) (value .0 ∷ [])
+      → Builds1 w0 k w1 r 7 value wide narrow (λ v. extractCollapsing (clampBetween v (Const 0 wide) (Const high wide)) (narrow - 1) 0) (value .0 ∷ [])
       → Builds1 w0 k w1 r 7 value wide narrow (λ v. clamp v wide narrow to) (value .0 ∷ [])
   unfolding clamp
   clamp-to-unsigned {h} {high} q e f d =

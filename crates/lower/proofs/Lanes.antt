@@ -9,12 +9,13 @@ use Rattle.terms.specs.Expr.{Expr, Concat}
 use Rattle.pool.specs.declared.Node.{Node}
 use Rattle.pool.specs.declared.Built.{Built}
 use Rattle.pool.specs.Growth.{Room, Grown, Reach, AllReached, Sized, Made}
-use Rattle.nodes.specs.Builders.{MadeConcat, MadeExtract}
+use Rattle.nodes.specs.Builders.{MadeConcat}
+use Rattle.simd.specs.Cut.{MadeCut}
 use Rattle.pool.proofs.Laws.{is-kept, reach-kept, reach-trans, grown-trans}
-use Rattle.pool.proofs.Steps.{start, step, finish, forget, stay, given}
+use Rattle.pool.proofs.Steps.{start, step, finish, forget, stay, given, spare}
 use Rattle.trees.specs.Simd.{concatLanes}
 use Rattle.trees.specs.Arith.{keepLower}
-use Rattle.lower.specs.Builds.{Source, SourceIs, readIf, unread, withLower, BuildsIf, Lowers}
+use Rattle.lower.specs.Builds.{Source, SourceIs, readIf, unread, withLower, BuildsCut, Lowers}
 
 -- a source stays what it is while the pool grows
 pub source-kept : {a b : List ℕ} {k k′ : ℕ} {s : Source} {t : Expr} → Grown a k b k′ → SourceIs a k s t → SourceIs b k′ s t
@@ -109,34 +110,31 @@ lane-fits bits i lanes h l = omega (arith, mul-le-mul-left bits h)
 
 -- ---- the lower half of the old destination
 
-first-only : {a b : List ℕ} {k k′ r w n : ℕ} {t : Expr} {l : List ℕ} → Made a k b r k′ w t (n ∷ l) → Made a k b r k′ w t (n ∷ [])
-first-only d = record { grown = d .grown; valid = d .valid; is = d .is; all = d .all; ins-reached = (d .ins-reached .0, tt) }
-
 pub keep-yes : {w0 w1 w2 : List ℕ} {k : ℕ} {r1 r2 : Built} {upper : Bool} {new d : Node} (n lanes : ℕ)
     → 1 ≤ n * lanes
     → n * lanes ≤ 64
     → upper ≡ true
-    → MadeExtract w0 k w1 r1 d (n * lanes - 1) 0
+    → MadeCut w0 k w1 r1 d (n * lanes - 1) 0
     → MadeConcat w1 (r1 .count) w2 r2 new (r1 .node)
-    → BuildsIf w0 k w2 r2 2 new (n * lanes) upper d (n * lanes * 2) (withLower upper (n * lanes)) (λ v x. keepLower upper v x n lanes)
+    → BuildsCut w0 k w2 r2 2 new (n * lanes) upper d (n * lanes * 2) (withLower upper (n * lanes)) (λ v x. keepLower upper v x n lanes)
 keep-yes {new = new} {d = d} n lanes l m q e1 e2 =
     rw q
     (record {
       sized = omega (arith, e1 .sized, e2 .sized);
       made = λ {ta} {tb} v x y.
-          let s0 = start v (given (new .0) (n * lanes) ta ∷ given (d .0) (n * lanes * 2) tb ∷ []) (x, (y refl, tt)) in
-          let s1 = step s0 (1 ∷ []) (e1 .made {u = n * lanes} (s0 .valid) (omega arith) (omega arith) (s0 .env .1 .0)) in
+          let s0 = start v (given (new .0) (n * lanes) ta ∷ spare (d .0) (n * lanes * 2) tb ∷ []) (x, (y refl, tt)) in
+          let s1 = step s0 [] (e1 .made {u = n * lanes} (s0 .valid) (omega arith) (omega arith) (s0 .env .1 .0)) in
           finish (step s1 (1 ∷ 0 ∷ []) (e2 .made {s = n * lanes * 2} (s1 .valid) l l (omega arith) (omega arith) (s1 .env .1 .0) (s1 .env .0))) tt;
     })
 
 pub keep-no : {ws : List ℕ} {k : ℕ} {r : Built} {upper : Bool} {new d : Node} (n lanes : ℕ) → upper ≡ false → new .0 < k → r .node .0 ≡ new .0 → r .count ≡ k
-    → BuildsIf ws k ws r 2 new (n * lanes) upper d (n * lanes * 2) (withLower upper (n * lanes)) (λ v x. keepLower upper v x n lanes)
+    → BuildsCut ws k ws r 2 new (n * lanes) upper d (n * lanes * 2) (withLower upper (n * lanes)) (λ v x. keepLower upper v x n lanes)
 keep-no n lanes q b e f = rw q (record { sized = omega (arith, b, e, f); made = λ v x y. rw (e, f) (stay v x) })
 
 -- lanes that are made, and what is kept below them
 pub kept-below : {w0 w1 w2 : List ℕ} {k m : ℕ} {r1 r2 : Built} {first second : Source} {d : Node} {t : Expr → Expr → Expr → Expr} (upper : Bool) (n lanes : ℕ)
     → Lowers w0 k w1 r1 m (n * lanes) unread first second t []
-    → BuildsIf w1 (r1 .count) w2 r2 2 (r1 .node) (n * lanes) upper d (n * lanes * 2) (withLower upper (n * lanes)) (λ v x. keepLower upper v x n lanes)
+    → BuildsCut w1 (r1 .count) w2 r2 2 (r1 .node) (n * lanes) upper d (n * lanes * 2) (withLower upper (n * lanes)) (λ v x. keepLower upper v x n lanes)
     → Lowers w0 k w2 r2 (m + 2) (withLower upper (n * lanes)) (readIf upper d (n * lanes * 2)) first second (λ td ta tb. keepLower upper (t td ta tb) td n lanes) []
 kept-below upper n lanes e1 e2 =
     record {
@@ -144,5 +142,5 @@ kept-below upper n lanes e1 e2 =
       made = λ {td} {ta} {tb} v x y z.
           let m1 = e1 .made {td = td} v (λ u. absurd (false≢true u)) y z in
           let s1 = step (start v [] tt) [] m1 in
-          finish (step s1 (0 ∷ []) (first-only (e2 .made (s1 .valid) (s1 .env .0) (source-kept (m1 .grown) x)))) tt;
+          finish (step s1 (0 ∷ []) (e2 .made (s1 .valid) (s1 .env .0) (source-kept (m1 .grown) x))) tt;
     }

@@ -61,6 +61,12 @@ module _ (old : List ℕ) (k : ℕ) (new : List ℕ) (r : Built) where
     pub made : {ta tb : Expr} → Valid old k → NodeIs old k (a .0) wa ta → (used ≡ true → NodeIs old k (b .0) wb tb)
         → Makes old k new r w (t ta tb) (a .0 ∷ listIf used (b .0))
 
+  -- over one operand, and a cut of a second where it is used: the cut may be taken from below that one
+  pub record BuildsCut (m : ℕ) (a : Node) (wa : ℕ) (used : Bool) (b : Node) (wb w : ℕ) (t : Expr → Expr → Expr) : Type 0 where
+    pub sized : Takes old k new r m
+    pub made : {ta tb : Expr} → Valid old k → NodeIs old k (a .0) wa ta → (used ≡ true → NodeIs old k (b .0) wb tb)
+        → Makes old k new r w (t ta tb) (a .0 ∷ [])
+
   -- over the sources of an instruction: the old destination, the first source and the second
   pub record Lowers (m w : ℕ) (d first second : Source) (t : Expr → Expr → Expr → Expr) (ins : List ℕ) : Type 0 where
     pub sized : Takes old k new r m

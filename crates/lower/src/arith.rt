@@ -12,8 +12,8 @@ ghost use Rattle.terms.specs.Expr.{Const};
 ghost use Rattle.pool.specs.Node.{wide as wideWords};
 ghost use Rattle.pool.specs.Growth.{Room};
 ghost use Rattle.trees.specs.Arith.{clampBetween, clampBelow, clamp as clampTree, plusIf, keepLower};
-ghost use Rattle.trees.specs.Simd.{extract};
-ghost use Rattle.lower.specs.Builds.{Builds1, BuildsIf, Below, readIf, withLower};
+ghost use Rattle.trees.specs.Simd.{extractCollapsing};
+ghost use Rattle.lower.specs.Builds.{Builds1, BuildsCut, Below, readIf, withLower};
 
 // `low` where `value` is signed less than it, else `high` where `value` is signed more than it, else `value`; of these the low
 // bits.
@@ -30,7 +30,7 @@ fn clamp_between(
     requires { ⌜ (value .0 < count) × (1 ≤ narrow) × (narrow ≤ wide) × (wide ≤ 128) ⌝ }
     requires { ⌜ (wideWords (low .lo) (low .hi) < 2 ^ wide) × (wideWords (high .lo) (high .hi) < 2 ^ wide) ⌝ }
     ensures { λ r. ⌜ Builds1 (now (pool .entry)) count (now (pool .exit)) r 7 value wide narrow
-        (λ v. extract (clampBetween v (Const (wideWords (low .lo) (low .hi)) wide) (Const (wideWords (high .lo) (high .hi)) wide)) (narrow - 1) 0)
+        (λ v. extractCollapsing (clampBetween v (Const (wideWords (low .lo) (low .hi)) wide) (Const (wideWords (high .lo) (high .hi)) wide)) (narrow - 1) 0)
         (value .0 ∷ []) ⌝ }
 {
     let most = nodes::konst(pool, count, high.lo, high.hi, wide);
@@ -54,7 +54,7 @@ fn clamp_below(
     requires { ⌜ Room (now pool) count 4 ⌝ }
     requires { ⌜ (value .0 < count) × (1 ≤ narrow) × (narrow ≤ wide) × (wide ≤ 128) × (high < 2 ^ wide) ⌝ }
     ensures { λ r. ⌜ Builds1 (now (pool .entry)) count (now (pool .exit)) r 4 value wide narrow
-        (λ v. extract (clampBelow v (Const high wide)) (narrow - 1) 0) (value .0 ∷ []) ⌝ }
+        (λ v. extractCollapsing (clampBelow v (Const high wide)) (narrow - 1) 0) (value .0 ∷ []) ⌝ }
 {
     let most = nodes::konst(pool, count, high, 0, wide);
     let above = nodes::compare(pool, most.count, CmpOp::Ult, most.node, value);
@@ -144,11 +144,11 @@ pub fn keep_lower(
 ) -> Built
     requires { ⌜ Room (now pool) count 2 ⌝ }
     requires { ⌜ (new .0 < count) × Below (readIf upper d 0) count × (1 ≤ «lane_bits» * lanes) × («lane_bits» * lanes ≤ 64) ⌝ }
-    ensures { λ r. ⌜ BuildsIf (now (pool .entry)) count (now (pool .exit)) r 2 new («lane_bits» * lanes) upper d («lane_bits» * lanes * 2)
+    ensures { λ r. ⌜ BuildsCut (now (pool .entry)) count (now (pool .exit)) r 2 new («lane_bits» * lanes) upper d («lane_bits» * lanes * 2)
         (withLower upper («lane_bits» * lanes)) (λ v x. keepLower upper v x «lane_bits» lanes) ⌝ }
 {
     if upper {
-        let lower = nodes::extract(pool, count, d, Bit(lane_bits * lanes - 1), Bit(0));
+        let lower = simd::extract_collapsing(pool, count, d, Bit(lane_bits * lanes - 1), Bit(0));
         return nodes::concat(pool, lower.count, new, lower.node);
     }
     Built { node: new, count }

@@ -1,6 +1,7 @@
 // The Rust's neon/lower/arith.rs: bitwise_unary_lanes, the functions of a lane's own bits lane by lane.
 use lower_bits_lane::bitwise_unary_lane;
 use neon::Lane;
+use pool::Bit;
 use pool::Built;
 use pool::Node;
 use trees::BitwiseUnary;
@@ -21,14 +22,16 @@ fn bitwise_at(
     lanes: u64,
     index: Lane,
 ) -> Built
-    requires { ⌜ Room (now pool) count (5 * «lane_bits» + 2) ⌝ }
+    requires { ⌜ Room (now pool) count (5 * «lane_bits» + 1) ⌝ }
     requires { ⌜ first .0 < count ⌝ }
     requires { ⌜ (2 ≤ «lane_bits») × («lane_bits» ≤ 64) × (index .0 < lanes) × («lane_bits» * lanes ≤ 128) ⌝ }
-    ensures { λ r. ⌜ Lowers (now (pool .entry)) count (now (pool .exit)) r (5 * «lane_bits» + 2) «lane_bits» unread (read first («lane_bits» * lanes))
+    ensures { λ r. ⌜ Lowers (now (pool .entry)) count (now (pool .exit)) r (5 * «lane_bits» + 1) «lane_bits» unread (read first («lane_bits» * lanes))
         unread (λ d a b. bitwiseAt kind «lane_bits» d a b (index .0)) [] ⌝ }
 {
-    let element = simd::extract_lane(pool, count, first, lane_bits, index);
-    bitwise_unary_lane(pool, element.count, kind, element.node, lane_bits)
+    // the bits are cut from below every Extract, so the lane itself gets no node
+    let lo = lane_bits * index.0;
+    let from = simd::cut_from(pool, first, Bit(lo + lane_bits - 1));
+    bitwise_unary_lane(pool, count, kind, from.node, Bit(lo + from.by), lane_bits)
 }
 
 // CNT, CLZ, CLS and RBIT, lane by lane.
@@ -40,10 +43,10 @@ pub fn bitwise_unary_lanes(
     lane_bits: u64,
     lanes: u64,
 ) -> Built
-    requires { ⌜ Room (now pool) count ((5 * «lane_bits» + 3) * lanes) ⌝ }
+    requires { ⌜ Room (now pool) count ((5 * «lane_bits» + 2) * lanes) ⌝ }
     requires { ⌜ first .0 < count ⌝ }
     requires { ⌜ (2 ≤ «lane_bits») × («lane_bits» ≤ 64) × (1 ≤ lanes) × («lane_bits» * lanes ≤ 128) ⌝ }
-    ensures { λ r. ⌜ Lowers (now (pool .entry)) count (now (pool .exit)) r ((5 * «lane_bits» + 3) * lanes) («lane_bits» * lanes) unread
+    ensures { λ r. ⌜ Lowers (now (pool .entry)) count (now (pool .exit)) r ((5 * «lane_bits» + 2) * lanes) («lane_bits» * lanes) unread
         (read first («lane_bits» * lanes)) unread (λ d a b. bitwiseUnaryLanes kind a «lane_bits» lanes) [] ⌝ }
 {
     let mut acc = bitwise_at(pool, count, kind, first, lane_bits, lanes, Lane::first());

@@ -21,19 +21,16 @@ use Rattle.pool.specs.declared.Node.{Node}
 use Rattle.pool.specs.declared.Built.{Built}
 use Rattle.pool.specs.Rules.{Valid}
 use Rattle.pool.specs.Growth.{Reach, Grown, NodeIs}
-use Rattle.pool.proofs.Laws.{grown-trans, cell-kept, is-kept, reach-kept, reach-trans}
+use Rattle.pool.proofs.Laws.{grown-trans, is-kept, reach-kept, reach-trans}
 use Rattle.lower.specs.Builds.{Builds1, Lowers, read, readIf}
 use Rattle.register_map.specs.declared.RegisterMap.{RegisterMap}
 use Rattle.register_map.specs.Map.{node, nodeOf, written}
 use Rattle.register_map.proofs.Nodes.{written-is}
 use Rattle.register_reads.specs.Reads.{LowHalf, Reads}
-use Rattle.register_reads.proofs.Reading.{read-more, read-most}
+use Rattle.register_reads.proofs.Reading.{read-more, read-most, half-kept}
 use Rattle.lower_record.specs.Step.{MapOk, MapIs, RegisterRead, StepMade, Steps}
 
 -- ---- the record
-
-half-kept : {a b : List ℕ} {k k′ : ℕ} → Grown a k b k′ → {register y : ℕ} → y ≡ register → (x : ℕ) → x < k → LowHalf a y x → LowHalf b register x
-half-kept g q x l h = rw (← q) (cell-kept g x l ∙ h)
 
 either : {ws : List ℕ} {k w x y : ℕ} {s t : Expr} (b : Bool) → NodeIs ws k x w s → NodeIs ws k y w t → NodeIs ws k (cond b x y) w (cond b s t)
 either true p q = p

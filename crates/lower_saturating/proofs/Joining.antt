@@ -14,7 +14,7 @@ use Rattle.trees.specs.declared.SaturatingKind.the-variants.{AddSub, Halving, N
 use Rattle.trees.specs.Simd.{extractLane, concatLanes}
 use Rattle.trees.specs.Arith.{narrowing, keepLower, saturatingLane, saturatingLanes, kindBits}
 use Rattle.simd.specs.Cut.{MadeLane}
-use Rattle.lower.specs.Builds.{BuildsIf, Lowers, read, readIf, unread, withLower}
+use Rattle.lower.specs.Builds.{BuildsIf, BuildsCut, Lowers, read, readIf, unread, withLower}
 use Rattle.lower.proofs.Lanes.{lane-fits, kept-below}
 use Rattle.kinds.specs.Sources.{usesSecond}
 use Rattle.lower_saturating.specs.Lanes.{saturatingAt}
@@ -93,7 +93,7 @@ module _ {w0 : List ℕ} {k : ℕ} {w1 : List ℕ} {r1 : Built} {first second d 
   pub with-lower : {w2 : List ℕ} {r2 : Built} → upper ≡ true
       → Lowers w0 k w1 r1 (19 * lanes) (n * lanes) unread (read first (kindBits kind n * lanes)) (readIf (usesSecond kind) second (kindBits kind n * lanes))
       (λ d a b. concatLanes (lanes - 1) (saturatingAt kind signed n d a b)) []
-      → BuildsIf w1 (r1 .count) w2 r2 2 (r1 .node) (n * lanes) true d (n * lanes * 2) (withLower true (n * lanes)) (λ v x. keepLower true v x n lanes)
+      → BuildsCut w1 (r1 .count) w2 r2 2 (r1 .node) (n * lanes) true d (n * lanes * 2) (withLower true (n * lanes)) (λ v x. keepLower true v x n lanes)
       → Lowers w0 k w2 r2 (19 * lanes + 2) (withLower upper (n * lanes)) (readIf upper d (n * lanes * 2)) (read first (kindBits kind n * lanes))
       (readIf (usesSecond kind) second (kindBits kind n * lanes)) (λ d a b. saturatingLanes kind signed upper a b d n lanes) []
   unfolding saturatingLanes

@@ -8,8 +8,9 @@ use trees::SaturatingKind;
 ghost use mathlib.Core.List.{[], _∷_};
 ghost use Prim.Native.Nat.{_*_, _≤_, _<_};
 ghost use Rattle.pool.specs.Growth.{Room};
-ghost use Rattle.trees.specs.Arith.{narrowed as narrowedTree, saturatingLane};
+ghost use Rattle.trees.specs.Arith.{saturatingLane};
 ghost use Rattle.lower.specs.Builds.{Builds1};
+ghost use Rattle.lower_saturating_lane.specs.Narrow.{narrowedPlain};
 
 // SHRN and RSHRN drop the bits that do not fit: with the shift bounded by the lane, each that stays is one of the source.
 fn narrowed(
@@ -23,7 +24,7 @@ fn narrowed(
     requires { ⌜ Room (now pool) count 7 ⌝ }
     requires { ⌜ (value .0 < count) × (1 ≤ «lane_bits») × («lane_bits» ≤ 64) × («lane_bits» ≤ wide) × (wide ≤ 128) ⌝ }
     ensures { λ r. ⌜ Builds1 (now (pool .entry)) count (now (pool .exit)) r 7 value wide «lane_bits»
-        (λ v. narrowedTree v wide «lane_bits» to) (value .0 ∷ []) ⌝ }
+        (λ v. narrowedPlain v wide «lane_bits» to) (value .0 ∷ []) ⌝ }
 {
     match to {
         Saturate::Never => nodes::extract(pool, count, value, Bit(lane_bits - 1), Bit(0)),

@@ -2,16 +2,32 @@
 use kinds::sources::is_register;
 use lower_shift_lane::shift_lane;
 use neon::Lane;
+use pool::Bit;
 use pool::Built;
 use pool::Node;
 use trees::ShiftKind;
 ghost use mathlib.Core.List.{[]};
-ghost use Prim.Native.Nat.{_*_, _≤_, _<_};
+ghost use Prim.Native.Nat.{_+_, _*_, _≤_, _<_};
 ghost use Rattle.pool.specs.Growth.{Room};
 ghost use Rattle.trees.specs.Arith.{shiftLanes};
 ghost use Rattle.lower.specs.Builds.{Lowers, read, readIf, unread, Below};
 ghost use Rattle.kinds.specs.Sources.{isRegister, AmountIn};
-ghost use Rattle.lower_shift.specs.Lanes.{shiftAt};
+ghost use Rattle.lower_shift.specs.Lanes.{shiftAt, MadeAmount};
+
+// The signed low byte of lane `index`, a register shift's amount, at a lane's width. The byte is cut from the source itself: the lane
+// gets no node where it is wider.
+fn signed_amount(pool: &mut [u64], count: usize, second: Node, lane_bits: u64, index: Lane) -> Built
+    requires { ⌜ Room (now pool) count 2 ⌝ }
+    requires { ⌜ (second .0 < count) × (8 ≤ «lane_bits») × («lane_bits» ≤ 64) × («lane_bits» * index .0 + «lane_bits» ≤ 128) ⌝ }
+    ensures { λ r. ⌜ MadeAmount (now (pool .entry)) count (now (pool .exit)) r second «lane_bits» (index .0) ⌝ }
+{
+    if 8 < lane_bits {
+        let lo = lane_bits * index.0;
+        let byte = simd::extract_collapsing(pool, count, second, Bit(7 + lo), Bit(lo));
+        return nodes::sign_ext(pool, byte.count, byte.node, lane_bits);
+    }
+    simd::extract_lane(pool, count, second, lane_bits, index)
+}
 
 // Lane `index` of the result.
 fn shift_at(
@@ -25,15 +41,15 @@ fn shift_at(
     lanes: u64,
     index: Lane,
 ) -> Built
-    requires { ⌜ Room (now pool) count 25 ⌝ }
+    requires { ⌜ Room (now pool) count 24 ⌝ }
     requires { ⌜ (first .0 < count) × Below (readIf (isRegister kind) second 0) count ⌝ }
     requires { ⌜ (8 ≤ «lane_bits») × («lane_bits» ≤ 64) × AmountIn kind «lane_bits» × (index .0 < lanes) × («lane_bits» * lanes ≤ 128) ⌝ }
-    ensures { λ r. ⌜ Lowers (now (pool .entry)) count (now (pool .exit)) r 25 «lane_bits» unread (read first («lane_bits» * lanes))
+    ensures { λ r. ⌜ Lowers (now (pool .entry)) count (now (pool .exit)) r 24 «lane_bits» unread (read first («lane_bits» * lanes))
         (readIf (isRegister kind) second («lane_bits» * lanes)) (λ d a b. shiftAt kind signed «lane_bits» d a b (index .0)) [] ⌝ }
 {
     let value = simd::extract_lane(pool, count, first, lane_bits, index);
     if is_register(kind) {
-        let amount = simd::extract_lane(pool, value.count, second, lane_bits, index);
+        let amount = signed_amount(pool, value.count, second, lane_bits, index);
         return shift_lane(
             pool,
             amount.count,
@@ -66,10 +82,10 @@ pub fn shift_lanes(
     lane_bits: u64,
     lanes: u64,
 ) -> Built
-    requires { ⌜ Room (now pool) count (26 * lanes) ⌝ }
+    requires { ⌜ Room (now pool) count (25 * lanes) ⌝ }
     requires { ⌜ (first .0 < count) × Below (readIf (isRegister kind) second 0) count ⌝ }
     requires { ⌜ (8 ≤ «lane_bits») × («lane_bits» ≤ 64) × AmountIn kind «lane_bits» × (1 ≤ lanes) × («lane_bits» * lanes ≤ 128) ⌝ }
-    ensures { λ r. ⌜ Lowers (now (pool .entry)) count (now (pool .exit)) r (26 * lanes) («lane_bits» * lanes) unread (read first («lane_bits» * lanes))
+    ensures { λ r. ⌜ Lowers (now (pool .entry)) count (now (pool .exit)) r (25 * lanes) («lane_bits» * lanes) unread (read first («lane_bits» * lanes))
         (readIf (isRegister kind) second («lane_bits» * lanes)) (λ d a b. shiftLanes kind signed a b «lane_bits» lanes) [] ⌝ }
 {
     let mut acc = shift_at(

@@ -6,7 +6,6 @@ use mathlib.Core.List.{List, [], _∷_}
 use mathlib.Core.Logic.{_⊎_, inl, inr}
 use native.Mathlib.Omega.{arith}
 use lib.Pow.{pow-pos, ones-lt, pow-lt}
-use borrow.Author.Tests.{lt-ltb, le-ltb}
 use Rattle.facts.proofs.Numbers.{small}
 use Rattle.terms.specs.declared.BinOp.{BinOp}
 use Rattle.terms.specs.declared.BinOp.the-variants.{Add, Sub, Shl, AShr, LShr}
@@ -23,7 +22,7 @@ use Rattle.trees.specs.declared.Saturate.the-variants.{Never, Into}
 use Rattle.trees.specs.declared.ShiftKind.{ShiftKind}
 use Rattle.trees.specs.declared.ShiftKind.the-variants.{LeftImmediate, RightImmediate, Register}
 use Rattle.trees.specs.Lower.{unsignedMax}
-use Rattle.trees.specs.Arith.{clamp, roundingBits, shiftRight, shiftBound, saturatingShiftLeft, leftImmediate, signedAmount, leftBy, registerShiftMax, shiftLane}
+use Rattle.trees.specs.Arith.{clamp, roundingBits, shiftRight, shiftBound, saturatingShiftLeft, leftImmediate, leftBy, registerShiftMax, shiftedBy}
 use Rattle.lower.specs.Builds.{Builds1, Builds2, BuildsIf, MadeExtend}
 use Rattle.kinds.specs.Sources.{isRegister}
 
@@ -185,7 +184,8 @@ pub not-third : (k : ℕ) → (k ≡ 0) ⊎ (k ≡ 1) → k ≡ 2 → ⊥
 not-third k (inl e) q = omega (arith, e, q)
 not-third k (inr e) q = omega (arith, e, q)
 
-clamps : (to : SaturateTo) → (to ≡ SignedToUnsigned → ⊥) → (v : Expr) (shift n : ℕ) (signed : Bool) → leftImmediate (Into to) v shift n signed ≡ saturatingShiftLeft v (Const shift n) n signed
+clamps : (to : SaturateTo) → (to ≡ SignedToUnsigned → ⊥) → (v : Expr) (shift n : ℕ) (signed : Bool)
+    → leftImmediate (Into to) v shift n signed ≡ saturatingShiftLeft v (Const shift n) n signed
 clamps Signed f v shift n signed = refl
 clamps Unsigned f v shift n signed = refl
 clamps SignedToUnsigned f v shift n signed = absurd (f refl)
@@ -232,28 +232,6 @@ pub left-into : {w0 w1 : List ℕ} {k : ℕ} {r : Built} {value : Node} {n : ℕ
 left-into shift signed q d = rw q d
 
 -- ---- by a register
-pub amount-cut : {w0 w1 w2 : List ℕ} {k : ℕ} {r1 r2 : Built} {raw : Node} {n : ℕ}
-    → 8 < n
-    → n ≤ 64
-    → MadeExtract w0 k w1 r1 raw 7 0
-    → MadeSignExtend w1 (r1 .count) w2 r2 (r1 .node) n
-    → Builds1 w0 k w2 r2 2 raw n n (λ a. signedAmount a n) (raw .0 ∷ [])
-amount-cut {raw = raw} {n = n} h m e1 e2 =
-    rw (lt-ltb 8 n h)
-    (record {
-      sized = omega (arith, e1 .sized, e2 .sized);
-      made = λ {ta} v x.
-          let s0 = start v (given (raw .0) n ta ∷ []) (x, tt) in
-          let s1 = step s0 (0 ∷ []) (e1 .made (s0 .valid) (omega arith) refl (s0 .env .0)) in
-          finish (step s1 (0 ∷ []) (e2 .made (s1 .valid) (omega arith) (omega arith) (omega arith) (s1 .env .0))) tt;
-    })
-
-pub amount-whole : {ws : List ℕ} {k : ℕ} {r : Built} {raw : Node} {n : ℕ} → n ≤ 8 → raw .0 < k → r .node .0 ≡ raw .0 → r .count ≡ k
-    → Builds1 ws k ws r 2 raw n n (λ a. signedAmount a n) (raw .0 ∷ [])
-amount-whole {n = n} h b e f =
-    rw (le-ltb 8 n h)
-    (record { sized = record { long = refl; more = omega arith; most = omega arith; under = omega arith }; made = λ v x. rw (e, f) (stay v x) })
-
 pub by-saturating : {w0 w1 : List ℕ} {k : ℕ} {r : Built} {value amount : Node} {n : ℕ} (signed : Bool) {saturate : Bool} → saturate ≡ true
     → Builds2 w0 k w1 r 9 value n amount n n (λ v a. saturatingShiftLeft v a n signed) (value .0 ∷ amount .0 ∷ [])
     → Builds2 w0 k w1 r 9 value n amount n n (λ v a. leftBy saturate v a n signed) (value .0 ∷ amount .0 ∷ [])
@@ -274,42 +252,38 @@ by-wrapping {value = value} {amount = amount} {n = n} signed q l m e1 =
           finish (step s0 (0 ∷ 1 ∷ []) (e1 .made (s0 .valid) l (omega arith) (s0 .env .0) (s0 .env .1 .0))) tt;
     })
 
-pub registered : {w0 w1 w2 w3 w4 w5 w6 w7 : List ℕ} {k : ℕ} {r1 r2 r3 r4 r5 r6 r7 : Built} {value raw : Node} {n : ℕ} (rounding saturate signed : Bool)
+pub registered : {w0 w1 w2 w3 w4 w5 w6 : List ℕ} {k : ℕ} {r1 r2 r3 r4 r5 r6 : Built} {value amount : Node} {n : ℕ} (rounding saturate signed : Bool)
     → 1 ≤ n
     → n ≤ 64
-    → Builds1 w0 k w1 r1 2 raw n n (λ a. signedAmount a n) (raw .0 ∷ [])
-    → Builds2 w1 (r1 .count) w2 r2 9 value n (r1 .node) n n (λ v a. leftBy saturate v a n signed) (value .0 ∷ (r1 .node) .0 ∷ [])
-    → MadeConst w2 (r2 .count) w3 r3 0 0 n
-    → MadeBv w3 (r3 .count) w4 r4 Sub (r3 .node) (r1 .node)
-    → Builds2 w4 (r4 .count) w5 r5 8 value n (r4 .node) n n (λ v a. shiftRight v a n signed rounding registerShiftMax) (value .0 ∷ (r4 .node) .0 ∷ [])
-    → MadeCompare w5 (r5 .count) w6 r6 Slt (r1 .node) (r3 .node)
-    → MadeIte w6 (r6 .count) w7 r7 (r6 .node) (r5 .node) (r2 .node)
-    → Builds2 w0 k w7 r7 23 value n raw n n (λ v a. shiftLane (Register rounding saturate) signed v a n) (value .0 ∷ raw .0 ∷ [])
-unfolding shiftLane
-registered {value = value} {raw = raw} {n = n} rounding saturate signed l m e1 e2 e3 e4 e5 e6 e7 =
+    → Builds2 w0 k w1 r1 9 value n amount n n (λ v a. leftBy saturate v a n signed) (value .0 ∷ amount .0 ∷ [])
+    → MadeConst w1 (r1 .count) w2 r2 0 0 n
+    → MadeBv w2 (r2 .count) w3 r3 Sub (r2 .node) amount
+    → Builds2 w3 (r3 .count) w4 r4 8 value n (r3 .node) n n (λ v a. shiftRight v a n signed rounding registerShiftMax) (value .0 ∷ (r3 .node) .0 ∷ [])
+    → MadeCompare w4 (r4 .count) w5 r5 Slt amount (r2 .node)
+    → MadeIte w5 (r5 .count) w6 r6 (r5 .node) (r4 .node) (r1 .node)
+    → Builds2 w0 k w6 r6 21 value n amount n n (λ v a. shiftedBy (Register rounding saturate) signed v a n) (value .0 ∷ amount .0 ∷ [])
+registered {value = value} {amount = amount} {n = n} rounding saturate signed l m e1 e2 e3 e4 e5 e6 =
     record {
-      sized = omega (arith, e1 .sized, e2 .sized, e3 .sized, e4 .sized, e5 .sized, e6 .sized, e7 .sized);
+      sized = omega (arith, e1 .sized, e2 .sized, e3 .sized, e4 .sized, e5 .sized, e6 .sized);
       made = λ {ta} {tb} v x y.
-          let s0 = start v (given (value .0) n ta ∷ given (raw .0) n tb ∷ []) (x, (y, tt)) in
-          let s1 = step s0 (1 ∷ []) (e1 .made (s0 .valid) (s0 .env .1 .0)) in
-          let s2 = step s1 (1 ∷ 0 ∷ []) (e2 .made (s1 .valid) (s1 .env .1 .0) (s1 .env .0)) in
-          let s3 = step s2 [] (e3 .made (s2 .valid) l (omega arith) refl (pow-pos n)) in
-          let s4 = step s3 (0 ∷ 2 ∷ []) (e4 .made (s3 .valid) l (omega arith) (s3 .env .0) (s3 .env .1 .1 .0)) in
-          let s5 = step s4 (4 ∷ 0 ∷ []) (e5 .made (s4 .valid) (s4 .env .1 .1 .1 .1 .0) (s4 .env .0)) in
-          let s6 = step s5 (4 ∷ 2 ∷ []) (e6 .made (s5 .valid) l (s5 .env .1 .1 .1 .1 .0) (s5 .env .1 .1 .0)) in
-          finish (step s6 (0 ∷ 1 ∷ 4 ∷ []) (e7 .made (s6 .valid) l (omega arith) (s6 .env .0) (s6 .env .1 .0) (s6 .env .1 .1 .1 .1 .0))) tt;
+          let s0 = start v (given (value .0) n ta ∷ given (amount .0) n tb ∷ []) (x, (y, tt)) in
+          let s1 = step s0 (0 ∷ 1 ∷ []) (e1 .made (s0 .valid) (s0 .env .0) (s0 .env .1 .0)) in
+          let s2 = step s1 [] (e2 .made (s1 .valid) l (omega arith) refl (pow-pos n)) in
+          let s3 = step s2 (0 ∷ 3 ∷ []) (e3 .made (s2 .valid) l (omega arith) (s2 .env .0) (s2 .env .1 .1 .1 .0)) in
+          let s4 = step s3 (3 ∷ 0 ∷ []) (e4 .made (s3 .valid) (s3 .env .1 .1 .1 .0) (s3 .env .0)) in
+          let s5 = step s4 (5 ∷ 2 ∷ []) (e5 .made (s4 .valid) l (s4 .env .1 .1 .1 .1 .1 .0) (s4 .env .1 .1 .0)) in
+          finish (step s5 (0 ∷ 1 ∷ 4 ∷ []) (e6 .made (s5 .valid) l (omega arith) (s5 .env .0) (s5 .env .1 .0) (s5 .env .1 .1 .1 .1 .0))) tt;
     }
 
 -- ---- `shift_lane`, by its kinds
 pub lane-left : {w0 w1 : List ℕ} {k : ℕ} {r : Built} {kind : ShiftKind} {value amount : Node} {n shift : ℕ} {saturate : Saturate} (signed : Bool) → kind ≡ LeftImmediate shift saturate
     → Builds1 w0 k w1 r 10 value n n (λ v. leftImmediate saturate v shift n signed) (value .0 ∷ [])
-    → BuildsIf w0 k w1 r 23 value n (isRegister kind) amount n n (λ v a. shiftLane kind signed v a n)
-unfolding shiftLane
+    → BuildsIf w0 k w1 r 21 value n (isRegister kind) amount n n (λ v a. shiftedBy kind signed v a n)
 lane-left signed q d = rw q (record { sized = omega (arith, d .sized); made = λ v x y. d .made v x })
 
 pub lane-register : {w0 w1 : List ℕ} {k : ℕ} {r : Built} {kind : ShiftKind} {value amount : Node} {n : ℕ} {rounding saturate : Bool} (signed : Bool) → kind ≡ Register rounding saturate
-    → Builds2 w0 k w1 r 23 value n amount n n (λ v a. shiftLane (Register rounding saturate) signed v a n) (value .0 ∷ amount .0 ∷ [])
-    → BuildsIf w0 k w1 r 23 value n (isRegister kind) amount n n (λ v a. shiftLane kind signed v a n)
+    → Builds2 w0 k w1 r 21 value n amount n n (λ v a. shiftedBy (Register rounding saturate) signed v a n) (value .0 ∷ amount .0 ∷ [])
+    → BuildsIf w0 k w1 r 21 value n (isRegister kind) amount n n (λ v a. shiftedBy kind signed v a n)
 lane-register signed q d = rw q (record { sized = d .sized; made = λ v x y. d .made v x (y refl) })
 
 pub lane-right : {w0 w1 w2 : List ℕ} {k : ℕ} {r1 r2 : Built} {kind : ShiftKind} {value amount : Node} {n shift : ℕ} {rounding : Bool} (signed : Bool)
@@ -319,8 +293,7 @@ pub lane-right : {w0 w1 w2 : List ℕ} {k : ℕ} {r1 r2 : Built} {kind : ShiftKi
     → n ≤ 64
     → MadeConst w0 k w1 r1 shift 0 n
     → Builds2 w1 (r1 .count) w2 r2 8 value n (r1 .node) n n (λ v a. shiftRight v a n signed rounding shift) (value .0 ∷ (r1 .node) .0 ∷ [])
-    → BuildsIf w0 k w2 r2 23 value n (isRegister kind) amount n n (λ v a. shiftLane kind signed v a n)
-unfolding shiftLane
+    → BuildsIf w0 k w2 r2 21 value n (isRegister kind) amount n n (λ v a. shiftedBy kind signed v a n)
 lane-right {value = value} {n = n} {shift = shift} signed q l h m e1 e2 =
     rw q
     (record {

@@ -1,6 +1,5 @@
 // The Rust's neon/lower/arith.rs: shift_lane, one lane of the shifts that keep a lane's width.
 use neon::Lane;
-use pool::Bit;
 use pool::Built;
 use pool::Node;
 use terms::BinOp;
@@ -9,25 +8,12 @@ use trees::ShiftKind;
 ghost use mathlib.Core.List.{[], _∷_};
 ghost use Prim.Native.Nat.{_≤_, _<_};
 ghost use Rattle.pool.specs.Growth.{Room};
-ghost use Rattle.trees.specs.Arith.{signedAmount, shiftLane};
-ghost use Rattle.lower.specs.Builds.{Builds1, Builds2, BuildsIf};
+ghost use Rattle.trees.specs.Arith.{shiftedBy};
+ghost use Rattle.lower.specs.Builds.{Builds2, BuildsIf};
 ghost use Rattle.kinds.specs.Sources.{isRegister, AmountIn};
 
 pub mod left;
 pub mod right;
-
-// The signed low byte of a register shift's amount.
-fn signed_amount(pool: &mut [u64], count: usize, raw: Node, lane_bits: u64) -> Built
-    requires { ⌜ Room (now pool) count 2 ⌝ }
-    requires { ⌜ (raw .0 < count) × (8 ≤ «lane_bits») × («lane_bits» ≤ 64) ⌝ }
-    ensures { λ r. ⌜ Builds1 (now (pool .entry)) count (now (pool .exit)) r 2 raw «lane_bits» «lane_bits» (λ a. signedAmount a «lane_bits») (raw .0 ∷ []) ⌝ }
-{
-    if 8 < lane_bits {
-        let byte = nodes::extract(pool, count, raw, Bit(7), Bit(0));
-        return nodes::sign_ext(pool, byte.count, byte.node, lane_bits);
-    }
-    Built { node: raw, count }
-}
 
 // A shift by a signed amount: to the right where it is negative.
 fn shift_register(
@@ -37,26 +23,17 @@ fn shift_register(
     saturate: bool,
     signed: bool,
     value: Node,
-    raw: Node,
+    amount: Node,
     lane_bits: u64,
 ) -> Built
-    requires { ⌜ Room (now pool) count 23 ⌝ }
-    requires { ⌜ (value .0 < count) × (raw .0 < count) × (8 ≤ «lane_bits») × («lane_bits» ≤ 64) ⌝ }
-    ensures { λ r. ⌜ Builds2 (now (pool .entry)) count (now (pool .exit)) r 23 value «lane_bits» raw «lane_bits» «lane_bits»
-        (λ v a. shiftLane (ShiftKind.Register rounding saturate) signed v a «lane_bits») (value .0 ∷ raw .0 ∷ []) ⌝ }
+    requires { ⌜ Room (now pool) count 21 ⌝ }
+    requires { ⌜ (value .0 < count) × (amount .0 < count) × (8 ≤ «lane_bits») × («lane_bits» ≤ 64) ⌝ }
+    ensures { λ r. ⌜ Builds2 (now (pool .entry)) count (now (pool .exit)) r 21 value «lane_bits» amount «lane_bits» «lane_bits»
+        (λ v a. shiftedBy (ShiftKind.Register rounding saturate) signed v a «lane_bits») (value .0 ∷ amount .0 ∷ []) ⌝ }
 {
-    let amount = signed_amount(pool, count, raw, lane_bits);
-    let left = left::left_by(
-        pool,
-        amount.count,
-        saturate,
-        value,
-        amount.node,
-        lane_bits,
-        signed,
-    );
+    let left = left::left_by(pool, count, saturate, value, amount, lane_bits, signed);
     let zero = nodes::konst(pool, left.count, 0, 0, lane_bits);
-    let negated = nodes::bv(pool, zero.count, BinOp::Sub, zero.node, amount.node);
+    let negated = nodes::bv(pool, zero.count, BinOp::Sub, zero.node, amount);
     let right = right::shift_right(
         pool,
         negated.count,
@@ -67,11 +44,11 @@ fn shift_register(
         rounding,
         Lane::REGISTER_SHIFT_MAX,
     );
-    let negative = nodes::compare(pool, right.count, CmpOp::Slt, amount.node, zero.node);
+    let negative = nodes::compare(pool, right.count, CmpOp::Slt, amount, zero.node);
     nodes::ite(pool, negative.count, negative.node, right.node, left.node)
 }
 
-// One destination lane. `amount` is read by the register forms alone.
+// One destination lane. `amount`, the signed one, is read by the register forms alone.
 pub fn shift_lane(
     pool: &mut [u64],
     count: usize,
@@ -81,10 +58,10 @@ pub fn shift_lane(
     amount: Node,
     lane_bits: u64,
 ) -> Built
-    requires { ⌜ Room (now pool) count 23 ⌝ }
+    requires { ⌜ Room (now pool) count 21 ⌝ }
     requires { ⌜ (value .0 < count) × (amount .0 < count) × (8 ≤ «lane_bits») × («lane_bits» ≤ 64) × AmountIn kind «lane_bits» ⌝ }
-    ensures { λ r. ⌜ BuildsIf (now (pool .entry)) count (now (pool .exit)) r 23 value «lane_bits» (isRegister kind) amount «lane_bits» «lane_bits»
-        (λ v a. shiftLane kind signed v a «lane_bits») ⌝ }
+    ensures { λ r. ⌜ BuildsIf (now (pool .entry)) count (now (pool .exit)) r 21 value «lane_bits» (isRegister kind) amount «lane_bits» «lane_bits»
+        (λ v a. shiftedBy kind signed v a «lane_bits») ⌝ }
 {
     match kind {
         ShiftKind::LeftImmediate { shift, saturate } => {

@@ -1,18 +1,19 @@
 -- A read of a register and the widening of a result, in each of their cases. Assumes nothing.
 use Prim.Native.Nat.{ℕ, _+_, _≤_, _<_}
-use mathlib.Core.Path.{_≡_, refl, sym, subst, _∙_}
+use mathlib.Core.Path.{_≡_, refl, sym, ap, subst, _∙_}
 use mathlib.Core.Bool.{Bool, true, false, false≢true}
 use mathlib.Core.List.{List, [], _∷_}
 use native.Mathlib.Omega.{arith}
-use native.Mathlib.Nat.{not-le-of-lt}
+use native.Mathlib.Nat.{not-le-of-lt, lt-trans}
 use Rattle.neon.specs.Op.{bitsIf}
-use Rattle.trees.specs.Block.{widenTree}
+use Rattle.terms.specs.Expr.{Expr}
+use Rattle.trees.specs.Block.{readTree, widenTree}
 use Rattle.pool.specs.declared.Node.{Node}
 use Rattle.pool.specs.declared.Built.{Built}
-use Rattle.pool.specs.Node.{kindAt, kinds}
-use Rattle.pool.specs.Growth.{Room}
-use Rattle.nodes.specs.Builders.{MadeExtract, MadeZeroExtend}
-use Rattle.pool.proofs.Laws.{grown-refl, packed, appended}
+use Rattle.nodes.specs.Builders.{MadeZeroExtend}
+use Rattle.simd.specs.Cut.{MadeCut}
+use Rattle.pool.proofs.Laws.{grown-refl, width-kept, unfold-kept}
+use Rattle.pool.specs.Growth.{Grown}
 use Rattle.pool.proofs.Steps.{stay}
 use Rattle.lower.specs.Builds.{Builds1}
 use Rattle.register_reads.specs.Reads.{LowHalf, halfRead, Reads}
@@ -65,27 +66,40 @@ module _ {ws : List ℕ} {k : ℕ} {r : Built} {used whole : Bool} {register : N
         };
       }
 
-half-cell : {old : List ℕ} {k : ℕ} {new : List ℕ} {r : Built} {register : Node} → Room old k 1 → register .0 < k → MadeExtract old k new r register 63 0
-    → (r .count ≡ k + 1) × ((x : ℕ) → k ≤ x → x < r .count → LowHalf new (register .0) x)
-unfolding kindAt kinds
-half-cell {old} {k} {new} {r} {register} m b d =
-    let a = appended m (d .words) (packed 16 64 (register .0) 0 0 63 0 (omega arith) (omega (arith, m .numbers)) (omega arith)) in (
-      omega (arith, a .next),
-      λ x l h. subst (λ (y : ℕ). LowHalf new (register .0) y) {x = k} {y = x} (omega (arith, a .next)) (a .cell-is),
-    )
-
-pub read-half : {old : List ℕ} {k : ℕ} {new : List ℕ} {r : Built} {used whole : Bool} {register : Node} → Room old k 1 → register .0 < k → used ≡ true → whole ≡ false
-    → MadeExtract old k new r register 63 0
+pub read-half : {old : List ℕ} {k : ℕ} {new : List ℕ} {r : Built} {used whole : Bool} {register : Node} → used ≡ true → whole ≡ false
+    → MadeCut old k new r register 63 0
     → Reads old k new r used whole register
-read-half m b u q d =
+read-half {old} {k} {new} {r} {register = register} u q d =
     record {
       long = d .sized .long;
-      next = rw (u, q) (half-cell m b d .0);
+      next = rw (u, q) (d .next);
       under = λ p. d .sized .under;
-      made = λ v h.
+      made = λ {t} v h.
           let x = d .made {u = 64} v (omega arith) refl h in
-          record { grown = x .grown; valid = x .valid; is = λ p. rw q (x .is); halves = half-cell m b d .1 };
+          record {
+            grown = x .grown;
+            valid = x .valid;
+            is = λ p. rw q (x .is);
+            halves = λ y l g.
+                let e : r .node .0 ≡ y = omega (arith, d .next, d .at) in
+                subst (λ (z : ℕ). LowHalf new (register .0) z) e
+                (record {
+                  after = omega (arith, d .at, h .under);
+                  wide = x .is .wide;
+                  tree = x .is .tree ∙ ap (λ (s : Expr). readTree false s) (sym (unfold-kept (x .grown) (register .0) (h .under) ∙ h .tree));
+                });
+          };
     }
+
+-- a read stays while the pool grows
+pub half-kept : {a b : List ℕ} {k k′ : ℕ} → Grown a k b k′ → {register y : ℕ} → y ≡ register → (x : ℕ) → x < k → LowHalf a y x → LowHalf b register x
+half-kept g {register} {y} q x l h =
+    rw (← q)
+    (record {
+      after = h .after;
+      wide = width-kept g x l ∙ h .wide;
+      tree = unfold-kept g x l ∙ h .tree ∙ ap (λ (s : Expr). readTree false s) (sym (unfold-kept g y (lt-trans (h .after) l)));
+    })
 
 -- ---- the widening
 

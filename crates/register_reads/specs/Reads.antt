@@ -1,5 +1,5 @@
 -- What a read of one register adds to the pool: nothing, or the cut of its low half (document 01, "Pool").
-use mathlib.Core.Bool.{Bool, true, cond, not, _&&_}
+use mathlib.Core.Bool.{Bool, true, false, cond, not, _&&_}
 use mathlib.Core.List.{List}
 use mathlib.Core.Path.{_≡_}
 use Prim.Native.Nat.{ℕ, _+_, _≤_, _<_}
@@ -9,13 +9,16 @@ use Rattle.neon.specs.Op.{bitsIf}
 use Rattle.trees.specs.Block.{readTree}
 use Rattle.pool.specs.declared.Node.{Node}
 use Rattle.pool.specs.declared.Built.{Built}
-use Rattle.pool.specs.Node.{extract, Cell, cellAt}
+use Rattle.pool.specs.Node.{widthAt}
 use Rattle.pool.specs.Rules.{Valid}
+use Rattle.pool.specs.Unfold.{unfoldAt}
 use Rattle.pool.specs.Growth.{Grown, NodeIs}
 
--- node x is Extract(register, 63, 0)
-abbrev pub LowHalf : List ℕ → (register x : ℕ) → Type 0
-LowHalf ws register x = _≡_ {A = Cell} (cellAt ws x) (record { kind = extract; width = 64; a = register; b = 0; c = 0; x = 63; y = 0 })
+-- node x is the cut of the register's low half: after the register's own node, of 64 bits, with the joined cut's term
+pub record LowHalf (ws : List ℕ) (register x : ℕ) : Type 0 where
+  pub after : register < x
+  pub wide : widthAt ws x ≡ 64
+  pub tree : unfoldAt ws x ≡ readTree false (unfoldAt ws register)
 
 -- the nodes that a read adds: one for a low half, none for a whole register or where it is not used
 abbrev pub halfRead : (used whole : Bool) → ℕ

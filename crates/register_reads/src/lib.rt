@@ -28,7 +28,7 @@ pub fn read_if(pool: &mut [u64], count: usize, used: bool, whole: bool, register
             count,
         };
     }
-    nodes::extract(pool, count, register, Bit(63), Bit(0))
+    simd::extract_collapsing(pool, count, register, Bit(63), Bit(0))
 }
 
 // A result of 64 bits is widened to a register's 128.

@@ -1,8 +1,7 @@
-// The Rust's lift/simd.rs: cuts of lanes, and their concatenation.
+// The Rust's lift/simd.rs: cuts, and lanes put together. A cut of a cut is joined, as `extractCollapsing` of `trees` says.
 use neon::Lane;
 use node_fields::first;
 use node_fields::high;
-use node_fields::low;
 use pool::Bit;
 use pool::Built;
 use pool::Node;
@@ -12,31 +11,54 @@ ghost use Prim.Native.Nat.{_+_, _*_, _≤_, _<_};
 ghost use lib.ListN.{length};
 ghost use Rattle.pool.specs.Growth.{Room};
 ghost use Rattle.nodes.specs.Builders.{MadeConcat};
-ghost use Rattle.simd.specs.Cut.{cutFrom, MadeCut, MadeLane};
+ghost use Rattle.simd.specs.Cut.{risesAt, CutFrom, MadeCut, MadeLane};
 
-// The node that a cut of `value` up to the bit hi is taken from.
-fn cut_from(pool: &[u64], value: Node, hi: Bit) -> Node
-    requires { ⌜ 4 * value .0 + 3 < length (now pool) ⌝ }
-    ensures { λ r. ⌜ (r .0 ≡ cutFrom (now (pool .entry)) (value .0) (hi .0)) × (r .0 ≤ value .0) ⌝ }
-{
-    let src = first(pool, value);
-    // of an Extract word 2 is hi, word 3 lo
-    let joins = (high(pool, value) == 0) & (hi.0 <= low(pool, value));
-    // src is below value in a valid pool; of a damaged one the test keeps the answer below the count
-    if (kind_of(pool, value) == 16) & joins & (src.0 < value.0) {
-        return src;
-    }
-    value
+// The node that a cut is taken from, and by how much its bits rise.
+pub struct Cut {
+    pub node: Node,
+    pub by: u64,
 }
 
-// The bits hi to lo of `value`, joined to the cut from bit 0 that `value` may be itself.
+// Whether a cut of `value` up to the bit hi rises: `value` is an Extract itself. In a valid pool the operand is below it and the bits stay
+// below 129; of a damaged one the tests see to that.
+fn rises(pool: &[u64], value: Node, hi: u64) -> bool
+    requires { ⌜ (4 * value .0 + 3 < length (now pool)) × (hi ≤ 128) ⌝ }
+    ensures { λ r. ⌜ r ≡ risesAt (now (pool .entry)) (value .0) hi ⌝ }
+{
+    // of an Extract word 3 is lo
+    (kind_of(pool, value) == 16)
+        & (first(pool, value).0 < value.0)
+        & (high(pool, value) <= 128 - hi)
+}
+
+// From where a cut of `value` up to the bit hi is taken: past every Extract.
+pub fn cut_from(pool: &[u64], value: Node, hi: Bit) -> Cut
+    requires { ⌜ (4 * value .0 + 3 < length (now pool)) × (hi .0 ≤ 128) ⌝ }
+    ensures { λ r. ⌜ CutFrom (now (pool .entry)) (value .0) (hi .0) (r .node .0) (r .by) ⌝ }
+{
+    let mut at = value.0;
+    let mut by = 0;
+    while rises(pool, Node(at), hi.0 + by) {
+        by += high(pool, Node(at));
+        at = first(pool, Node(at)).0;
+    }
+    Cut { node: Node(at), by }
+}
+
+// The bits hi to lo of `value`: of a lane, inside a lane or of a low half.
 pub fn extract_collapsing(pool: &mut [u64], count: usize, value: Node, hi: Bit, lo: Bit) -> Built
     requires { ⌜ Room (now pool) count 1 ⌝ }
     requires { ⌜ (value .0 < count) × (lo .0 ≤ hi .0) × (hi .0 < 129) ⌝ }
     ensures { λ r. ⌜ MadeCut (now (pool .entry)) count (now (pool .exit)) r value (hi .0) (lo .0) ⌝ }
 {
-    let src = cut_from(pool, value, hi);
-    nodes::extract(pool, count, src, hi, lo)
+    let from = cut_from(pool, value, hi);
+    nodes::extract(
+        pool,
+        count,
+        from.node,
+        Bit(hi.0 + from.by),
+        Bit(lo.0 + from.by),
+    )
 }
 
 // Lane `index` of `value`.

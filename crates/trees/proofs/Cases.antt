@@ -10,7 +10,7 @@ use Rattle.neon.specs.Form.{form, sourceBits}
 use Rattle.neon.specs.Arm.{armLane, wrap, S, clampZ, cS, cU, ones, equalRun, lanes}
 use Rattle.trees.specs.Neon.{neonOp, valueOf}
 use mathlib.Core.Path.{_≡_, refl}
-use Rattle.trees.specs.Simd.{extractCollapsing, extractLane, concatLanes}
+use Rattle.trees.specs.Simd.{extractLane, concatLanes}
 use Rattle.trees.specs.Arith.{Eq, clamp, saturatingLane, shiftRight, saturatingShiftLeft, shiftLane, leadingZeros, bitwiseUnaryLane, shiftInsertLane, mixedSignAddLane, doublingProduct, doublingLongLane, shiftLanes, shiftInsertLanes, mixedSignAddLanes, doublingLongLanes, keepLower, saturatingLanes, bitwiseUnaryLanes}
 use Rattle.trees.specs.Width.{highNarrowLane, highNarrowLanes}
 
@@ -68,33 +68,33 @@ every f [] = true
 every f (c ∷ cs) = f c && every f cs
 
 pub set-P : every gives setP ≡ true
-unfolding gives armLane wrap S clampZ cS cU ones equalRun lanes value width msb bvneg bvnot bvadd bvsub bvmul bvshl bvlshr bvashr bvslt bvsext extractCollapsing extractLane concatLanes clamp saturatingLane shiftRight saturatingShiftLeft shiftLane leadingZeros bitwiseUnaryLane shiftInsertLane mixedSignAddLane doublingProduct doublingLongLane shiftLanes shiftInsertLanes mixedSignAddLanes doublingLongLanes saturatingLanes bitwiseUnaryLanes highNarrowLane highNarrowLanes
+unfolding gives armLane wrap S clampZ cS cU ones equalRun lanes value width msb bvneg bvnot bvadd bvsub bvmul bvshl bvlshr bvashr bvslt bvsext extractLane concatLanes clamp saturatingLane shiftRight saturatingShiftLeft shiftLane leadingZeros bitwiseUnaryLane shiftInsertLane mixedSignAddLane doublingProduct doublingLongLane shiftLanes shiftInsertLanes mixedSignAddLanes doublingLongLanes saturatingLanes bitwiseUnaryLanes highNarrowLane highNarrowLanes
 set-P = refl
 
 pub no-fault : every gives faults ≡ true
-unfolding gives armLane wrap S clampZ cS cU ones equalRun lanes value width msb bvneg bvnot bvadd bvsub bvmul bvshl bvlshr bvashr bvslt bvsext extractCollapsing extractLane concatLanes clamp saturatingLane shiftRight saturatingShiftLeft shiftLane leadingZeros bitwiseUnaryLane shiftInsertLane mixedSignAddLane doublingProduct doublingLongLane shiftLanes shiftInsertLanes mixedSignAddLanes doublingLongLanes saturatingLanes bitwiseUnaryLanes highNarrowLane highNarrowLanes
+unfolding gives armLane wrap S clampZ cS cU ones equalRun lanes value width msb bvneg bvnot bvadd bvsub bvmul bvshl bvlshr bvashr bvslt bvsext extractLane concatLanes clamp saturatingLane shiftRight saturatingShiftLeft shiftLane leadingZeros bitwiseUnaryLane shiftInsertLane mixedSignAddLane doublingProduct doublingLongLane shiftLanes shiftInsertLanes mixedSignAddLanes doublingLongLanes saturatingLanes bitwiseUnaryLanes highNarrowLane highNarrowLanes
 no-fault = refl
 
--- ---- cuts: a lane cut is joined to a cut from bit 0, once, and to no other
+-- ---- cuts: a cut of a cut is joined, until its operand is no Extract
 lane-of-view : extractLane (Extract (Var 1) 63 0) 8 7 ≡ Extract (Var 1) 63 56
-unfolding extractLane extractCollapsing
+unfolding extractLane
 lane-of-view = refl
 
 -- an inner cut that does not begin at bit 0
-lane-of-high-half : extractLane (Extract (Var 1) 127 64) 8 1 ≡ Extract (Extract (Var 1) 127 64) 15 8
-unfolding extractLane extractCollapsing
+lane-of-high-half : extractLane (Extract (Var 1) 127 64) 8 1 ≡ Extract (Var 1) 79 72
+unfolding extractLane
 lane-of-high-half = refl
 
--- two inner cuts from bit 0: the outer one is joined to the nearer
-lane-of-two : extractLane (Extract (Extract (Var 1) 127 0) 63 0) 8 0 ≡ Extract (Extract (Var 1) 127 0) 7 0
-unfolding extractLane extractCollapsing
+-- two inner cuts
+lane-of-two : extractLane (Extract (Extract (Var 1) 127 64) 31 16) 8 1 ≡ Extract (Var 1) 95 88
+unfolding extractLane
 lane-of-two = refl
 
 -- bits inside a lane
-bit-of-lane : leadingZeros (extractLane (Var 1) 8 0) 8 1 ≡ Ite (Compare Eq (Extract (Extract (Var 1) 7 0) 0 0) (Const 1 1)) (Const 7 8) (Const 8 8)
-unfolding leadingZeros extractLane extractCollapsing
+bit-of-lane : leadingZeros (extractLane (Var 1) 8 1) 8 1 ≡ Ite (Compare Eq (Extract (Var 1) 8 8) (Const 1 1)) (Const 7 8) (Const 8 8)
+unfolding leadingZeros extractLane
 bit-of-lane = refl
 
 -- a low half
-half-of-view : keepLower true (Var 2) (Extract (Var 1) 127 0) 8 8 ≡ Concat (Var 2) (Extract (Extract (Var 1) 127 0) 63 0)
+half-of-view : keepLower true (Var 2) (Extract (Var 1) 127 0) 8 8 ≡ Concat (Var 2) (Extract (Var 1) 63 0)
 half-of-view = refl

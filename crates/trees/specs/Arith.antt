@@ -20,7 +20,7 @@ pub use Rattle.trees.specs.declared.BitwiseUnary.{BitwiseUnary}
 pub use Rattle.trees.specs.declared.BitwiseUnary.the-variants.{PopulationCount, LeadingZeros, LeadingSignBits, ReverseBits}
 pub use Rattle.trees.specs.declared.Combine.{Combine}
 pub use Rattle.trees.specs.declared.Combine.the-variants.{Nothing, With}
-use Rattle.trees.specs.Simd.{extract, extractLane, concatLanes}
+use Rattle.trees.specs.Simd.{extractCollapsing, extractLane, concatLanes}
 use Rattle.trees.specs.Lower.{extend, unsignedMax}
 
 abbrev pub signedMax : ℕ → ℕ
@@ -39,7 +39,7 @@ clamped value wide n SignedToUnsigned = clampBetween value (Const 0 wide) (Const
 
 -- `clamp`: value, of wide bits, brought into the range of n bits that `to` names
 unfoldable pub clamp : (value : Expr) (wide n : ℕ) → SaturateTo → Expr
-clamp value wide n to = extract (clamped value wide n to) (n - 1) 0
+clamp value wide n to = extractCollapsing (clamped value wide n to) (n - 1) 0
 
 -- the closure `shift_by`: an arithmetic or a logical shift to the right
 abbrev pub shiftBy : Bool → Expr → Expr → Expr
@@ -57,7 +57,7 @@ abbrev pub doubledBits : ℕ → ℕ
 doubledBits n = n * 2 + 1
 
 abbrev pub narrowed : (value : Expr) (wide n : ℕ) → Saturate → Expr
-narrowed value wide n Never = extract value (n - 1) 0
+narrowed value wide n Never = extractCollapsing value (n - 1) 0
 narrowed value wide n (Into to) = clamp value wide n to
 
 abbrev pub negated : Bool → Expr → ℕ → Expr
@@ -68,7 +68,7 @@ unfoldable pub saturatingLane : SaturatingKind → (a b : Expr) (n : ℕ) (signe
 saturatingLane (AddSub op to) a b n signed = clamp (Bv op (extend a (n + 1) signed) (extend b (n + 1) signed)) (n + 1) n to
 saturatingLane (Halving rounding) a b n signed =
     let sum = Bv Add (extend a (n + 1) signed) (extend b (n + 1) signed) in
-    extract (shiftBy signed (plusIf rounding sum (Const 1 (n + 1))) (Const 1 (n + 1))) (n - 1) 0
+    extractCollapsing (shiftBy signed (plusIf rounding sum (Const 1 (n + 1))) (Const 1 (n + 1))) (n - 1) 0
 saturatingLane (Narrow to) a b n signed = clamp a (n * 2) n to
 saturatingLane (ShiftNarrow shift rounding to) a b n signed =
     let wide = narrowBits n in
@@ -90,7 +90,7 @@ shiftRight value amount n signed true most =
     let wide = roundingBits n most in
     let by = ZeroExtend amount wide in
     let half = Bv Shl (Const 1 wide) (Bv Sub by (Const 1 wide)) in
-    extract (shiftBy signed (Bv Add (extend value wide signed) half) by) (n - 1) 0
+    extractCollapsing (shiftBy signed (Bv Add (extend value wide signed) half) by) (n - 1) 0
 
 -- `saturating_shift_left`
 abbrev pub shiftBound : (value : Expr) (n : ℕ) (signed : Bool) → Expr
@@ -116,25 +116,27 @@ leftImmediate (Into SignedToUnsigned) value shift n signed =
 
 -- the signed low byte of a register shift's amount
 abbrev pub signedAmount : Expr → ℕ → Expr
-signedAmount raw n = cond (ltb 8 n) (SignExtend (extract raw 7 0) n) raw
+signedAmount raw n = cond (ltb 8 n) (SignExtend (extractCollapsing raw 7 0) n) raw
 
 abbrev pub leftBy : (saturate : Bool) (value amount : Expr) (n : ℕ) (signed : Bool) → Expr
 leftBy saturate value amount n signed = cond saturate (saturatingShiftLeft value amount n signed) (Bv Shl value amount)
 
--- `shift_lane`
-unfoldable pub shiftLane : ShiftKind → (signed : Bool) (value amount : Expr) (n : ℕ) → Expr
-shiftLane (LeftImmediate shift saturate) signed value amount n = leftImmediate saturate value shift n signed
-shiftLane (RightImmediate shift rounding) signed value amount n = shiftRight value (Const shift n) n signed rounding shift
-shiftLane (Register rounding saturate) signed value amount n =
-    let by = signedAmount amount n in
+-- `shift_lane`; `by` is the signed amount of a register shift
+abbrev pub shiftedBy : ShiftKind → (signed : Bool) (value by : Expr) (n : ℕ) → Expr
+shiftedBy (LeftImmediate shift saturate) signed value by n = leftImmediate saturate value shift n signed
+shiftedBy (RightImmediate shift rounding) signed value by n = shiftRight value (Const shift n) n signed rounding shift
+shiftedBy (Register rounding saturate) signed value by n =
     Ite (Compare Slt by (Const 0 n)) (shiftRight value (Bv Sub (Const 0 n) by) n signed rounding registerShiftMax) (leftBy saturate value by n signed)
+
+unfoldable pub shiftLane : ShiftKind → (signed : Bool) (value amount : Expr) (n : ℕ) → Expr
+shiftLane kind signed value amount n = shiftedBy kind signed value (signedAmount amount n) n
 
 -- what bit j makes of t, which the bits below it made
 abbrev pub zerosAt : (n : ℕ) (v : Expr) → ℕ → Expr → Expr
-zerosAt n v j t = Ite (Compare Eq (extract v j j) (Const 1 1)) (Const (n - 1 - j) n) t
+zerosAt n v j t = Ite (Compare Eq (extractCollapsing v j j) (Const 1 1)) (Const (n - 1 - j) n) t
 
 abbrev pub countAt : (n : ℕ) (v : Expr) → ℕ → Expr → Expr
-countAt n v j t = Bv Add t (ZeroExtend (extract v j j) n)
+countAt n v j t = Bv Add t (ZeroExtend (extractCollapsing v j j) n)
 
 -- `leading_zeros`, of the bits below k: the test of bit k - 1 stands outermost
 unfoldable pub leadingZeros : Expr → ℕ → ℕ → Expr
@@ -151,8 +153,8 @@ unfoldable pub bitwiseUnaryLane : BitwiseUnary → Expr → ℕ → Expr
 bitwiseUnaryLane PopulationCount v n = populationCount v n n
 bitwiseUnaryLane LeadingZeros v n = leadingZeros v n n
 bitwiseUnaryLane LeadingSignBits v n =
-    ZeroExtend (leadingZeros (Bv Xor (extract v (n - 1) 1) (extract v (n - 1 - 1) 0)) (n - 1) (n - 1)) n
-bitwiseUnaryLane ReverseBits v n = concatLanes (n - 1) (λ j. extract v (n - 1 - j) (n - 1 - j))
+    ZeroExtend (leadingZeros (Bv Xor (extractCollapsing v (n - 1) 1) (extractCollapsing v (n - 1 - 1) 0)) (n - 1) (n - 1)) n
+bitwiseUnaryLane ReverseBits v n = concatLanes (n - 1) (λ j. extractCollapsing v (n - 1 - j) (n - 1 - j))
 
 -- `absolute_difference_lane`
 unfoldable pub absoluteDifferenceLane : Bool → Expr → Expr → Expr
@@ -222,7 +224,7 @@ kindBits kind n = cond (narrowing kind) (n * 2) n
 
 -- a narrowing "2" form keeps the lower half of d
 abbrev pub keepLower : (upper : Bool) (new d : Expr) (n k : ℕ) → Expr
-keepLower upper new d n k = cond upper (Concat new (extract d (n * k - 1) 0)) new
+keepLower upper new d n k = cond upper (Concat new (extractCollapsing d (n * k - 1) 0)) new
 
 unfoldable pub saturatingLanes : SaturatingKind → (signed upper : Bool) (first second d : Expr) (n k : ℕ) → Expr
 saturatingLanes kind signed upper first second d n k =

@@ -7,12 +7,12 @@ use Rattle.neon.specs.declared.Instruction.{Instruction}
 use Rattle.neon.specs.Op.{opAt, arrangementAt, full}
 use Rattle.neon.specs.Form.{form, firstFull, secondFull, byElement}
 use Rattle.neon.specs.Run.{update}
-use Rattle.trees.specs.Simd.{extract}
+use Rattle.trees.specs.Simd.{extractCollapsing}
 use Rattle.trees.specs.Neon.{resultTree}
 
 -- a register as it is read: whole, or its low half
 abbrev pub readTree : Bool → Expr → Expr
-readTree whole x = cond whole x (extract x 63 0)
+readTree whole x = cond whole x (extractCollapsing x 63 0)
 
 -- a result of 64 bits is widened
 abbrev pub widenTree : Bool → Expr → Expr

@@ -1,4 +1,5 @@
 pub mod Simd
+pub mod Joined
 pub mod Lower
 pub mod Arith
 pub mod Width

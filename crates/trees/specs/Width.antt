@@ -2,13 +2,13 @@
 use mathlib.Core.Bool.{Bool, cond}
 use Prim.Native.Nat.{ℕ, _-_, _*_, _^_}
 use Rattle.terms.specs.Expr.{Expr, Const, Bv}
-use Rattle.trees.specs.Simd.{extract, extractLane, concatLanes}
+use Rattle.trees.specs.Simd.{extractCollapsing, extractLane, concatLanes}
 use Rattle.trees.specs.Arith.{Add, Sub, plusIf, keepLower}
 
 -- `high_narrow_lane`
 unfoldable pub highNarrowLane : (subtract rounding : Bool) (a b : Expr) (n : ℕ) → Expr
 highNarrowLane subtract rounding a b n =
-    extract (plusIf rounding (Bv (cond subtract Sub Add) a b) (Const (2 ^ (n - 1)) (n * 2))) (n * 2 - 1) n
+    extractCollapsing (plusIf rounding (Bv (cond subtract Sub Add) a b) (Const (2 ^ (n - 1)) (n * 2))) (n * 2 - 1) n
 
 -- `high_narrow_lanes`
 unfoldable pub highNarrowLanes : (subtract rounding upper : Bool) (first second d : Expr) (n k : ℕ) → Expr

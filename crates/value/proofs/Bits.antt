@@ -11,19 +11,20 @@ use lib.Bits.{bitAnd, bitOr, bitXor}
 use lib.Pow.{pow-pos, shr-lt, shr-mod, shr-shr, shl-shr, field, mod-mod-pow, mod-pow-add, pow-lt}
 use lib.IntN.{ℤ, pos}
 use Rattle.facts.proofs.Numbers.{below}
-use Rattle.terms.specs.Expr.{Expr, Const, Bv, Compare, Ite, Extract, width}
+use Rattle.terms.specs.Expr.{Expr, Const, Bv, Compare, Ite, width}
 use Rattle.terms.specs.Value.{value, bvshl, bvlshr}
-use Rattle.terms.specs.declared.BinOp.the-variants.{Xor}
+use Rattle.terms.specs.declared.BinOp.the-variants.{Add, Sub, Xor}
 use Rattle.terms.specs.declared.CmpOp.the-variants.{Eq}
 use Rattle.neon.specs.Arm.{wrap, floor, scale, bitAt, ones, equalRun, lanes}
-use Rattle.trees.specs.Arith.{leadingZeros, populationCount, bitwiseUnaryLane, shiftInsertLane}
+use Rattle.trees.specs.Simd.{extractCollapsing}
+use Rattle.trees.specs.Arith.{plusIf, leadingZeros, populationCount, bitwiseUnaryLane, shiftInsertLane}
 use Rattle.trees.specs.Width.{highNarrowLane}
 use Rattle.trees.specs.declared.BitwiseUnary.the-variants.{LeadingSignBits, ReverseBits}
 use Rattle.neon.proofs.Lanes.{lanes-eq}
 use Rattle.value.proofs.Wrap.{wrap-lt}
 use Rattle.value.proofs.Bv.{wrap-pos}
 use Rattle.value.proofs.Is.{Is, is-eq, is-const, is-add, is-zext, is-then, is-else, says-eq}
-use Rattle.value.proofs.Lanes.{concat-width, concat-value}
+use Rattle.value.proofs.Lanes.{cut-value, cut-width, concat-width, concat-value}
 use Rattle.value.proofs.Sat.{is-plus, is-apply, applyZ, plus}
 
 pub bit-lt : (j v : ℕ) → bitAt j v < 2
@@ -36,11 +37,10 @@ module _ (r : ℕ → ℕ) where
 
   module _ (v : Expr) (x : ℕ) (hv : value r v ≡ x) where
     -- one bit
-    pub is-bit : (j : ℕ) → Is r (Extract v j j) 1 (pos (bitAt j x))
-    unfolding value width
+    pub is-bit : (j : ℕ) → Is r (extractCollapsing v j j) 1 (pos (bitAt j x))
     is-bit j =
         let one : suc (j - j) ≡ 1 = omega arith in
-        number (bit-lt j x) one (rw (one, hv))
+        number (bit-lt j x) (cut-width v j j ∙ one) (cut-value r v j j (omega arith) ∙ rw (one, hv))
 
     pub is-count : (n k : ℕ) → 0 < n → k ≤ n → Is r (populationCount v n k) n (pos (ones k x))
     unfolding populationCount ones
@@ -55,14 +55,14 @@ module _ (r : ℕ → ℕ) where
     is-leading n zero hn h = is-eq r (ap pos (omega arith)) (is-const r n n (below n))
     is-leading n (suc k) hn h = go (is-leading n k hn (omega arith)) (eqb (bitAt k x) 0) refl
       where
-        test : value r (Extract v k k) ≡ bitAt k x
+        test : value r (extractCollapsing v k k) ≡ bitAt k x
         test = is-bit k .val ∙ wrap-pos 1 (bitAt k x) (bit-lt k x)
 
         one-val : value r (Const 1 1) ≡ 1
         one-val = unfold value in refl
 
         go : Is r (leadingZeros v n k) n (pos (n - k + equalRun 0 k x)) → (t : Bool) → eqb (bitAt k x) 0 ≡ t
-            → Is r (Ite (Compare Eq (Extract v k k) (Const 1 1)) (Const (n - 1 - k) n) (leadingZeros v n k)) n (pos (n - suc k + cond t (suc (equalRun 0 k x)) 0))
+            → Is r (Ite (Compare Eq (extractCollapsing v k k) (Const 1 1)) (Const (n - 1 - k) n) (leadingZeros v n k)) n (pos (n - suc k + cond t (suc (equalRun 0 k x)) 0))
         go p true e =
             let z : bitAt k x ≡ 0 = eqb-true (bitAt k x) 0 e in
             is-eq r (ap pos (omega arith))
@@ -133,7 +133,7 @@ module _ (r : ℕ → ℕ) (v : Expr) (n x : ℕ) (hv : value r v ≡ x) where
   is-signs hn =
       is-zext r (omega arith) (record { low = omega arith; high = omega (arith, run-le (bitAt (n - 1) x) (n - 1) x, below (n - 1)) })
       (is-eq r (ap pos (rw (folded-run (n - 1) x (n - 1) (omega arith)) (omega arith)))
-      (is-leading r (Bv Xor (Extract v (n - 1) 1) (Extract v (n - 1 - 1) 0)) (folded (n - 1) x) val (n - 1) (n - 1) (omega arith) (omega arith)))
+      (is-leading r (Bv Xor (extractCollapsing v (n - 1) 1) (extractCollapsing v (n - 1 - 1) 0)) (folded (n - 1) x) val (n - 1) (n - 1) (omega arith) (omega arith)))
     where
       e : suc (n - 1 - 1) ≡ n - 1
       e = omega arith
@@ -141,19 +141,19 @@ module _ (r : ℕ → ℕ) (v : Expr) (n x : ℕ) (hv : value r v ≡ x) where
       e0 : suc (n - 1 - 1 - 0) ≡ n - 1
       e0 = omega arith
 
-      val : value r (Bv Xor (Extract v (n - 1) 1) (Extract v (n - 1 - 1) 0)) ≡ folded (n - 1) x
-      val = unfold value folded in rw (hv, e, e0, div-one x)
+      val : value r (Bv Xor (extractCollapsing v (n - 1) 1) (extractCollapsing v (n - 1 - 1) 0)) ≡ folded (n - 1) x
+      val = unfold value folded in rw (cut-value r v (n - 1) 1 (omega arith), cut-value r v (n - 1 - 1) 0 (omega arith), hv, e, e0, div-one x)
 
   -- ---- bits reversed
   pub reverse-width : 0 < n → width (bitwiseUnaryLane ReverseBits v n) ≡ n
   unfolding bitwiseUnaryLane
-  reverse-width hn = concat-width r 1 (n - 1) (λ j. Extract v (n - 1 - j) (n - 1 - j)) (λ j. unfold width in omega arith) ∙ omega arith
+  reverse-width hn = concat-width r 1 (n - 1) (λ j. extractCollapsing v (n - 1 - j) (n - 1 - j)) (λ j. cut-width v (n - 1 - j) (n - 1 - j) ∙ omega arith) ∙ omega arith
 
   pub reverse-value : 0 < n → value r (bitwiseUnaryLane ReverseBits v n) ≡ lanes 1 n (λ j. bitAt (n - 1 - j) x)
   unfolding bitwiseUnaryLane
   reverse-value hn =
-      concat-value r 1 (n - 1) (λ j. Extract v (n - 1 - j) (n - 1 - j)) (λ j. unfold width in omega arith)
-      ∙ lanes-eq 1 (suc (n - 1)) (λ j. value r (Extract v (n - 1 - j) (n - 1 - j))) (λ j. bitAt (n - 1 - j) x)
+      concat-value r 1 (n - 1) (λ j. extractCollapsing v (n - 1 - j) (n - 1 - j)) (λ j. cut-width v (n - 1 - j) (n - 1 - j) ∙ omega arith)
+      ∙ lanes-eq 1 (suc (n - 1)) (λ j. value r (extractCollapsing v (n - 1 - j) (n - 1 - j))) (λ j. bitAt (n - 1 - j) x)
       (λ j l. is-bit r v x hv (n - 1 - j) .val ∙ wrap-pos 1 (bitAt (n - 1 - j) x) (bit-lt (n - 1 - j) x))
       ∙ ap (λ (k : ℕ). lanes 1 k (λ j. bitAt (n - 1 - j) x)) (omega arith)
 
@@ -194,14 +194,15 @@ module _ (r : ℕ → ℕ) (d a : Expr) (n i y x : ℕ) (wa : width a ≡ n) (vd
 -- ---- the high half
 module _ (r : ℕ → ℕ) (a b : Expr) (n : ℕ) (x y : ℤ) (hn : 0 < n) (p : Is r a (n * 2) x) (q : Is r b (n * 2) y) where
   pub high-width : (subtract : Bool) (rounding : Bool) → width (highNarrowLane subtract rounding a b n) ≡ n
-  unfolding highNarrowLane width
-  high-width subtract rounding = omega arith
+  unfolding highNarrowLane
+  high-width subtract rounding = cut-width (plusIf rounding (Bv (cond subtract Sub Add) a b) (Const (2 ^ (n - 1)) (n * 2))) (n * 2 - 1) n ∙ omega arith
 
   pub high-value : (subtract : Bool) (rounding : Bool)
       → value r (highNarrowLane subtract rounding a b n) ≡ wrap (n * 2) (plus rounding (applyZ subtract x y) (2 ^ (n - 1))) / 2 ^ n
-  unfolding highNarrowLane value
+  unfolding highNarrowLane
   high-value subtract rounding =
-      rw (is-plus r rounding (2 ^ (n - 1)) small (is-apply r subtract p q) .val, size)
+      cut-value r (plusIf rounding (Bv (cond subtract Sub Add) a b) (Const (2 ^ (n - 1)) (n * 2))) (n * 2 - 1) n (omega arith)
+      ∙ rw (is-plus r rounding (2 ^ (n - 1)) small (is-apply r subtract p q) .val, size)
       (shr-mod n n (subst (λ (t : ℕ). wrap (n * 2) (plus rounding (applyZ subtract x y) (2 ^ (n - 1))) < 2 ^ t) twice (wrap-lt (n * 2) (plus rounding (applyZ subtract x y) (2 ^ (n - 1))))))
     where
       size : suc (n * 2 - 1 - n) ≡ n

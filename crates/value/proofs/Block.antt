@@ -4,6 +4,7 @@ use mathlib.Core.Bool.{Bool, true, false, cond}
 use mathlib.Core.List.{List, [], _∷_}
 use Prim.Native.Nat.{ℕ, _%_, _^_}
 use native.Mathlib.Nat.{div-one}
+use native.Mathlib.Omega.{arith}
 use lib.Dec.{eqb}
 use Rattle.terms.specs.Expr.{Expr, Var}
 use Rattle.terms.specs.Value.{value}
@@ -14,13 +15,13 @@ use Rattle.neon.specs.Run.{update, readBits, armStep, armRun}
 use Rattle.neon.specs.Refusal.{Legal, AllLegal}
 use Rattle.neon.proofs.Legal.{accepted}
 use Rattle.trees.specs.Block.{readTree, widenTree, recordTree, treeStep, treeRun}
+use Rattle.value.proofs.Lanes.{cut-value}
 use Rattle.value.proofs.Whole.{result-is}
 
 module _ (start : ℕ → ℕ) where
   pub read-is : (t : Bool) (e : Expr) → value start (readTree t e) ≡ readBits t (value start e)
-  unfolding value
   read-is true e = refl
-  read-is false e = ap (λ (x : ℕ). x % 2 ^ 64) (div-one (value start e))
+  read-is false e = cut-value start e 63 0 (omega arith) ∙ ap (λ (x : ℕ). x % 2 ^ 64) (div-one (value start e))
 
   widen-is : (t : Bool) (e : Expr) → value start (widenTree t e) ≡ value start e
   unfolding value

@@ -4,8 +4,8 @@ use mathlib.Core.Bool.{Bool, true, false, cond, not}
 use Prim.Native.Nat.{ℕ, zero, suc, _+_, _-_, _*_, _/_, _^_, _≤_, _<_, max}
 use native.Mathlib.Omega.{arith}
 use native.Mathlib.Nat.{le-max-left, mul-suc}
-use borrow.Author.Tests.{leb-true}
-use lib.Dec.{leb, ltb, eqb}
+use borrow.Author.Tests.{le-leb}
+use lib.Dec.{ltb}
 use lib.Pow.{pow-pos, pow-mono, pow-lt}
 use Rattle.facts.proofs.Numbers.{below}
 use Rattle.terms.specs.Expr.{Expr, Var, Const, Bv, Compare, Ite, Extract, Concat, ZeroExtend, SignExtend, width}
@@ -15,7 +15,7 @@ use Rattle.terms.specs.declared.BinOp.{BinOp}
 use Rattle.terms.specs.declared.CmpOp.{CmpOp}
 use Rattle.terms.specs.Rules.{Good}
 use Rattle.neon.specs.Form.{most}
-use Rattle.trees.specs.Simd.{extractCollapsing, extractLane, concatLanes, joins}
+use Rattle.trees.specs.Simd.{extractCollapsing, extractLane, concatLanes}
 use Rattle.trees.specs.Lower.{extend}
 use Rattle.trees.specs.Arith.{clamp, shiftBy, plusIf, narrowed, negated, saturatingLane, shiftRight, shiftBound, saturatingShiftLeft, registerShiftMax, leftImmediate, signedAmount, leftBy, shiftLane, leadingZeros, populationCount, bitwiseUnaryLane, absoluteDifferenceLane, shiftInsertLane, mixedSignAddLane, doublingProduct, doublingLongLane}
 use Rattle.trees.specs.Width.{highNarrowLane}
@@ -27,7 +27,6 @@ use Rattle.trees.specs.declared.ShiftKind.the-variants.{Register}
 use Rattle.trees.specs.declared.SaturatingKind.the-variants.{AddSub, Halving, Narrow, ShiftNarrow, DoublingMultiplyHigh, Unary}
 use Rattle.trees.specs.declared.BitwiseUnary.the-variants.{LeadingSignBits, ReverseBits}
 use Rattle.trees.specs.declared.Combine.the-variants.{With}
-use Rattle.facts.proofs.Tests.{and-both}
 use Rattle.value.proofs.Wrap.{half}
 
 pub record Fit (t : Expr) (w : ℕ) : Type 0 where
@@ -66,11 +65,33 @@ unfolding width Good
 fit-ite t p q =
     record { wide = p .wide; some = p .some; ok = (t .ok, p .ok, q .ok, t .wide, p .wide ∙ sym (q .wide), rw (p .wide) (p .some)) }
 
-pub fit-extract : {a : Expr} {w : ℕ} (hi lo : ℕ) → lo ≤ hi → hi < w → Fit a w → Fit (Extract a hi lo) (suc (hi - lo))
+fit-plain : {a : Expr} {w : ℕ} (hi lo : ℕ) → lo ≤ hi → hi < w → Fit a w → Fit (Extract a hi lo) (suc (hi - lo))
 unfolding width Good
-fit-extract hi lo l h p = record { wide = refl; some = omega arith; ok = (p .ok, l, rw (p .wide) h) }
+fit-plain hi lo l h p = record { wide = refl; some = omega arith; ok = (p .ok, l, rw (p .wide) h) }
 
-pub fit-cut : {a : Expr} {w : ℕ} (n : ℕ) → 0 < n → n ≤ w → Fit a w → Fit (Extract a (n - 1) 0) n
+-- of a term that keeps the rules
+pub inner : {x : Expr} {w top low : ℕ} → Fit (Extract x top low) w → Fit x (width x) × (top < width x) × (w ≡ suc (top - low)) × (low ≤ top)
+unfolding width Good
+inner p = (record { wide = refl; some = omega (arith, p .ok .2); ok = p .ok .0 }, p .ok .2, sym (p .wide), p .ok .1)
+
+pub fit-joined : (e : Expr) {w : ℕ} (hi lo : ℕ) → lo ≤ hi → hi < w → Fit e w → Fit (extractCollapsing e hi lo) (suc (hi - lo))
+fit-joined (Extract x top low) {w} hi lo l h p =
+    let q = inner p in
+    let fits : hi + low ≤ top = omega (arith, q .2, q .3) in
+    rw (le-leb (hi + low) top fits) (fit-as (omega arith) (fit-joined x (hi + low) (lo + low) (omega arith) (omega (arith, fits, q .1)) (q .0)))
+fit-joined (Var r) hi lo l h p = fit-plain hi lo l h p
+fit-joined (Const v w′) hi lo l h p = fit-plain hi lo l h p
+fit-joined (Bv o a b) hi lo l h p = fit-plain hi lo l h p
+fit-joined (Compare o a b) hi lo l h p = fit-plain hi lo l h p
+fit-joined (Ite c a b) hi lo l h p = fit-plain hi lo l h p
+fit-joined (Concat a b) hi lo l h p = fit-plain hi lo l h p
+fit-joined (ZeroExtend a v) hi lo l h p = fit-plain hi lo l h p
+fit-joined (SignExtend a v) hi lo l h p = fit-plain hi lo l h p
+
+pub fit-extract : {a : Expr} {w : ℕ} (hi lo : ℕ) → lo ≤ hi → hi < w → Fit a w → Fit (extractCollapsing a hi lo) (suc (hi - lo))
+fit-extract {a = a} hi lo l h p = fit-joined a hi lo l h p
+
+pub fit-cut : {a : Expr} {w : ℕ} (n : ℕ) → 0 < n → n ≤ w → Fit a w → Fit (extractCollapsing a (n - 1) 0) n
 fit-cut n h l p = fit-as (omega arith) (fit-extract (n - 1) 0 (omega arith) (omega arith) p)
 
 pub fit-concat : {a b : Expr} {m n : ℕ} → m + n ≤ 129 → Fit a m → Fit b n → Fit (Concat a b) (m + n)
@@ -204,7 +225,7 @@ module _ (n : ℕ) (h8 : 8 ≤ n) (h64 : n ≤ 64) where
   fit-amount : {raw : Expr} → Fit raw n → Fit (signedAmount raw n) n
   fit-amount {raw = raw} p = go (ltb 8 n)
     where
-      go : (t : Bool) → Fit (cond t (SignExtend (Extract raw 7 0) n) raw) n
+      go : (t : Bool) → Fit (cond t (SignExtend (extractCollapsing raw 7 0) n) raw) n
       go true = fit-sext n h8 (omega arith) (fit-cut 8 (omega arith) h8 p)
       go false = p
 
@@ -227,7 +248,7 @@ module _ (n : ℕ) (h8 : 8 ≤ n) (h64 : n ≤ 64) where
       (fit-bv Shl (fit-sext (n + i + 1) (omega arith) (omega arith) p) (fit-const i (n + i + 1) (omega arith) (omega arith) (small i (n + i + 1) (omega arith) (omega arith))))
 
   -- bits
-  fit-bit : {v : Expr} {w : ℕ} (k : ℕ) → k < w → Fit v w → Fit (Extract v k k) 1
+  fit-bit : {v : Expr} {w : ℕ} (k : ℕ) → k < w → Fit v w → Fit (extractCollapsing v k k) 1
   fit-bit k h p = fit-as (omega arith) (fit-extract k k (omega arith) h p)
 
   pub fit-leading : {v : Expr} {w : ℕ} (k : ℕ) → w ≤ 64 → k ≤ w → Fit v w → Fit (leadingZeros v w k) w
@@ -295,27 +316,9 @@ pub fit-reverse : (n : ℕ) {v : Expr} → 0 < n → n ≤ 129 → Fit v n → F
 unfolding bitwiseUnaryLane
 fit-reverse n {v = v} hn h p =
     fit-as (omega arith)
-    (fit-concat-lanes 1 (n - 1) (λ j. Extract v (n - 1 - j) (n - 1 - j)) (omega arith)
+    (fit-concat-lanes 1 (n - 1) (λ j. extractCollapsing v (n - 1 - j) (n - 1 - j)) (omega arith)
     (λ j l. fit-as (omega arith) (fit-extract (n - 1 - j) (n - 1 - j) (omega arith) (omega arith) p)))
-
-pub fit-collapse : (e : Expr) (w hi lo : ℕ) → lo ≤ hi → hi < w → Fit e w → Fit (extractCollapsing e hi lo) (suc (hi - lo))
-unfolding extractCollapsing
-fit-collapse (Extract x top low) w hi lo l h p = go (joins hi top low) refl
-  where
-    go : (t : Bool) → joins hi top low ≡ t → Fit (cond t (Extract x hi lo) (Extract (Extract x top low) hi lo)) (suc (hi - lo))
-    go true e =
-        unfold Good width in
-        record { wide = refl; some = omega arith; ok = (p .ok .0, l, omega (arith, leb-true hi top (and-both (eqb low 0) (leb hi top) e .1), p .ok .2)) }
-    go false e = fit-extract hi lo l h p
-fit-collapse (Var r) w hi lo l h p = fit-extract hi lo l h p
-fit-collapse (Const v w′) w hi lo l h p = fit-extract hi lo l h p
-fit-collapse (Bv o a b) w hi lo l h p = fit-extract hi lo l h p
-fit-collapse (Compare o a b) w hi lo l h p = fit-extract hi lo l h p
-fit-collapse (Ite c a b) w hi lo l h p = fit-extract hi lo l h p
-fit-collapse (Concat a b) w hi lo l h p = fit-extract hi lo l h p
-fit-collapse (ZeroExtend a v) w hi lo l h p = fit-extract hi lo l h p
-fit-collapse (SignExtend a v) w hi lo l h p = fit-extract hi lo l h p
 
 pub fit-lane-of : (e : Expr) (w n j : ℕ) → 0 < n → n * j + n ≤ w → Fit e w → Fit (extractLane e n j) n
 unfolding extractLane
-fit-lane-of e w n j hn h p = fit-as (omega arith) (fit-collapse e w (n * j + n - 1) (n * j) (omega arith) (omega arith) p)
+fit-lane-of e w n j hn h p = fit-as (omega arith) (fit-joined e (n * j + n - 1) (n * j) (omega arith) (omega arith) p)

@@ -15,3 +15,4 @@ pub mod Fit
 pub mod FitForm
 pub mod Range
 pub mod Lanewise
+pub mod Joined

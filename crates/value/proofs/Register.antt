@@ -9,10 +9,11 @@ use lib.Dec.{ltb}
 use lib.Pow.{pow-pos, pow-mono, pow-add}
 use lib.IntN.{ℤ, pos, negsuc, _+ℤ_}
 use Rattle.facts.proofs.Numbers.{below}
-use Rattle.terms.specs.Expr.{Expr, Const, Bv, Compare, Ite, Extract, SignExtend, width}
+use Rattle.terms.specs.Expr.{Expr, Const, Bv, Compare, Ite, SignExtend, width}
 use Rattle.terms.specs.declared.BinOp.the-variants.{Sub}
 use Rattle.terms.specs.declared.CmpOp.the-variants.{Slt}
 use Rattle.neon.specs.Arm.{wrap, S, cU, floor, round, scale, byte, shiftZ, roundZ}
+use Rattle.trees.specs.Simd.{extractCollapsing}
 use Rattle.trees.specs.Arith.{shiftBy, shiftRight, saturatingShiftLeft, registerShiftMax, leftImmediate, signedAmount, leftBy, shiftLane}
 use Rattle.trees.specs.declared.SaturateTo.the-variants.{SignedToUnsigned}
 use Rattle.trees.specs.declared.Saturate.the-variants.{Never, Into}
@@ -20,14 +21,15 @@ use Rattle.trees.specs.declared.ShiftKind.the-variants.{Register}
 use Rattle.value.proofs.Z.{up, dn, sum, Floor, floored, ge-is}
 use Rattle.value.proofs.Wrap.{half}
 use Rattle.value.proofs.Bv.{FitsS, Fits}
-use Rattle.value.proofs.Is.{Is, Says, By, by-const, by-is, is-eq, is-const, is-sub, is-shl, is-shift, is-cut, is-sext, is-then, is-else, says-slt}
+use Rattle.value.proofs.Is.{Is, Says, By, by-const, by-is, is-eq, is-const, is-sub, is-shl, is-shift, is-sext, is-then, is-else, says-slt}
+use Rattle.value.proofs.Lanes.{is-low}
 use Rattle.value.proofs.Clamp.{S-fits, is-reading, clampTo, clamp-in, floor-fits, is-clampSU}
 use Rattle.value.proofs.Shift.{is-round, is-saturating, product}
 
 -- a term of n bits that is y, cut to a shorter width: y's low bits
-is-low : (r : ℕ → ℕ) {t : Expr} {n y : ℕ} → Is r t n (pos y) → Is r t n (pos (y % 2 ^ n))
+is-mod : (r : ℕ → ℕ) {t : Expr} {n y : ℕ} → Is r t n (pos y) → Is r t n (pos (y % 2 ^ n))
 unfolding wrap
-is-low r {n = n} {y = y} p = record { wide = p .wide; val = p .val ∙ sym (mod-eq-of-lt (mod-lt y (pow-pos n))) }
+is-mod r {n = n} {y = y} p = record { wide = p .wide; val = p .val ∙ sym (mod-eq-of-lt (mod-lt y (pow-pos n))) }
 
 -- ---- the amount
 pub byte-fits : (b : ℕ) → FitsS 8 (byte b)
@@ -42,10 +44,10 @@ wider n w z h f = record { low = omega (arith, m); high = omega (arith, m) }
 pub is-amount : (r : ℕ → ℕ) (raw : Expr) (n y : ℕ) → 8 ≤ n → y < 2 ^ n → Is r raw n (pos y) → Is r (signedAmount raw n) n (byte y)
 is-amount r raw n y h l p = go (ltb 8 n) refl
   where
-    go : (t : Bool) → ltb 8 n ≡ t → Is r (cond t (SignExtend (Extract raw 7 0) n) raw) n (byte y)
+    go : (t : Bool) → ltb 8 n ≡ t → Is r (cond t (SignExtend (extractCollapsing raw 7 0) n) raw) n (byte y)
     go true e =
         is-sext r (omega arith) h (byte-fits y)
-        (is-reading r true (mod-lt y (pow-pos 8)) (is-low r (is-cut r {n = 8} (omega arith) h p)))
+        (is-reading r true (mod-lt y (pow-pos 8)) (is-mod r (is-low r {n = 8} (omega arith) h p)))
     go false e =
         let same : 8 ≡ n = omega (arith, ltb-false 8 n e) in
         let small : y < 2 ^ 8 = subst (λ (m : ℕ). y < 2 ^ m) (sym same) l in

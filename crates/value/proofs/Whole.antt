@@ -11,12 +11,12 @@ use Rattle.neon.specs.Form.{Lanes, Same, Narrow, Long, form, least, most, sourc
 use Rattle.neon.specs.Arm.{lane, lanes, armAt, placeBits, armResult}
 use Rattle.neon.proofs.Lanes.{lanes-eq}
 use Rattle.neon.proofs.Geometry.{sized, source-some, filled, by-half}
-use Rattle.trees.specs.Simd.{extract, extractLane, concatLanes}
+use Rattle.trees.specs.Simd.{extractCollapsing, extractLane, concatLanes}
 use Rattle.trees.specs.Arith.{shiftLanes, shiftInsertLanes, mixedSignAddLanes, doublingLongLanes, saturatingLanes, bitwiseUnaryLanes, absoluteDifferenceLanes, keepLower}
 use Rattle.trees.specs.Width.{highNarrowLanes}
 use Rattle.trees.specs.Neon.{neonOp, resultTree}
 use Rattle.value.proofs.Is.{Has, has-number}
-use Rattle.value.proofs.Lanes.{is-lane, lane-lt, concat-width, concat-value}
+use Rattle.value.proofs.Lanes.{cut-value, cut-width, is-lane, lane-lt, concat-width, concat-value}
 use Rattle.value.proofs.Lane.{laneTree, lane-is, sources}
 
 -- ---- the families' loops, as one: lane j is made of lanes of the sources, and a narrowing 2 form goes above d's lower half
@@ -29,7 +29,7 @@ treeAt o v i d a b j =
 
 abbrev pub placeTree : Lanes → Bool → Expr → Expr → Expr
 placeTree Same v new d = new
-placeTree Narrow true new d = Concat new (extract d 63 0)
+placeTree Narrow true new d = Concat new (extractCollapsing d 63 0)
 placeTree Narrow false new d = new
 placeTree (Long u) v new d = new
 
@@ -38,7 +38,7 @@ kept-half : (v : Arrangement) → laneBits v * (64 / laneBits v) - 1 ≡ 63
 kept-half v = ap (λ (t : ℕ). t - 1) (by-half v .fill)
 
 keeps : (v : Arrangement) (t : Bool) (new d : Expr) → keepLower t new d (laneBits v) (64 / laneBits v) ≡ placeTree Narrow t new d
-keeps v true new d = ap (λ (hi : ℕ). Concat new (extract d hi 0)) (kept-half v)
+keeps v true new d = ap (λ (hi : ℕ). Concat new (extractCollapsing d hi 0)) (kept-half v)
 keeps v false new d = refl
 
 pub as-lanes : (o : Op) (v : Arrangement) (i : ℕ) (d a b : Expr)
@@ -145,7 +145,7 @@ module _ (r : ℕ → ℕ) (o : Op) (v : Arrangement) (i : ℕ) (d a b : Expr) (
   placed Same t new k p = p
   placed (Long u) t new k p = p
   placed Narrow false new k p = p
-  placed Narrow true new k p = record { wide = rw (p .wide); val = rw (p .val, div-one (value r d)) }
+  placed Narrow true new k p = record { wide = rw (p .wide, cut-width d 63 0); val = rw (p .val, cut-width d 63 0, cut-value r d 63 0 (omega arith), div-one (value r d)) }
 
   -- the value of the term is the Arm result
   pub result-is : Has r (resultTree o v i d a b) (view v) (armResult o v i (value r d) (value r a) (value r b))

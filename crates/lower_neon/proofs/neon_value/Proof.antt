@@ -19,7 +19,7 @@ room : (s : tie.Start) {m : ℕ} → m ≤ mostNodes → Room (s .args .pool .no
 room s h = omega (arith, s .pre .0, h)
 
 -- the functions of bits have more nodes a lane, by the lane's bits
-most : (s : tie.Start) → let a = s .args .shape in (5 * a .«lane_bits» + 3) * a .lanes ≤ mostNodes
+most : (s : tie.Start) → let a = s .args .shape in (5 * a .«lane_bits» + 2) * a .lanes ≤ mostNodes
 most s = omega (arith, nodes-most (s .args .shape .«lane_bits») (s .args .shape .lanes) (s .pre .1 .1 .0) (s .pre .1 .1 .3))
 
 -- the sources that it reads and what it asks of its lanes, once the operation is known to be op

@@ -1,47 +1,69 @@
+-- shift_at: a lane of the first source, shifted by an immediate or by the amount that a lane of the second holds
 use native.Mathlib.Omega.{arith}
-use Rattle.lower_shift.proofs.Lanes.{at-register}
-use Rattle.lower_shift.proofs.Lanes.{at-immediate}
-use mathlib.Core.Path.{sym, _∙_}
+use Prim.Native.Nat.{_+_, _*_, _≤_}
+use mathlib.Core.Path.{_≡_, sym, _∙_}
+use mathlib.Core.Bool.{true}
+use Rattle.kinds.specs.Sources.{isRegister}
 use Rattle.lower.proofs.Lanes.{lane-fits}
+use Rattle.lower_shift.proofs.Lanes.{at-register, at-immediate}
 use borrow.Author.Needs.{needs}
 use Rattle.lower_shift.proofs.shift_at.Statement.{statement}
 use Rattle.lower_shift.proofs.shift_at.Tie as tie
 
+-- ---- from each call back to the call before it that matters
+
+abbrev entry : tie.After-extract-lane → tie.Start
+entry c = c .before .before .before
+
+abbrev value : tie.After-is-register → tie.After-extract-lane
+value c = c .before .before .before
+
+abbrev asked : tie.After-signed-amount → tie.Then1
+asked c = c .before .before
+
+-- ---- the calls
+
+lane-in : (s : tie.Start) → s .args .lane-bits * s .args .index .0 + s .args .lane-bits ≤ 128
+lane-in s = lane-fits (s .args .lane-bits) (s .args .index .0) (s .args .lanes) (s .pre .1 .1 .3) (s .pre .1 .1 .4)
+
+-- the kind is a register shift
+by-register : (c : tie.Then1) → isRegister (entry (value (c .before)) .args .kind) ≡ true
+by-register c = sym (c .before .is-register .ensures) ∙ c .if1 .taken
+
 extract-lane-requires : tie.Need-extract-lane-requires
-extract-lane-requires c κs =
-    let st = c .before .before in
-    omega (arith, st .pre, lane-fits (st .args .lane-bits) (st .args .index .0) (st .args .lanes) (st .pre .1 .1 .3) (st .pre .1 .1 .4))
+extract-lane-requires c κs = let s = c .before .before in omega (arith, s .pre, lane-in s)
 
 is-register-requires : tie.Need-is-register-requires
 is-register-requires c κs = search needs
 
-extract-lane-requires-2 : tie.Need-extract-lane-requires-2
-extract-lane-requires-2 c κs =
-    let l-if1 = c .before in
-    let l-is-register = l-if1 .before in
-    let l-extract-lane = l-is-register .before .before .before in
-    let st = l-extract-lane .before .before .before in
-    omega (arith, st .pre, l-extract-lane .extract-lane .ensures .sized, st .pre .1 .0 .1 (sym (l-is-register .is-register .ensures) ∙ l-if1 .if1 .taken), lane-fits (st .args .lane-bits) (st .args .index .0) (st .args .lanes) (st .pre .1 .1 .3) (st .pre .1 .1 .4))
+signed-amount-requires : tie.Need-signed-amount-requires
+signed-amount-requires c κs =
+    let i = c .before in
+    let v = value (i .before) in
+    let s = entry v in
+    omega (arith, s .pre, v .extract-lane .ensures .sized, s .pre .1 .0 .1 (by-register i), lane-in s)
 
 shift-lane-requires : tie.Need-shift-lane-requires
 shift-lane-requires c κs =
-    let l-extract-lane2 = c .before .before .before in
-    let l-extract-lane = l-extract-lane2 .before .before .before .before .before .before in
-    let st = l-extract-lane .before .before .before in
-    (omega (arith, st .pre, l-extract-lane .extract-lane .ensures .sized, l-extract-lane2 .extract-lane2 .ensures .sized), (omega (arith, l-extract-lane .extract-lane .ensures .sized, l-extract-lane2 .extract-lane2 .ensures .sized), omega (arith, l-extract-lane2 .extract-lane2 .ensures .sized), st .pre .1 .1 .0, st .pre .1 .1 .1, st .pre .1 .1 .2))
+    let a = c .before .before .before in
+    let v = value (asked a .before) in
+    let s = entry v in
+    let lane = v .extract-lane .ensures .sized in
+    let amount = a .signed-amount .ensures .sized in
+    (omega (arith, s .pre, lane, amount), (omega (arith, lane, amount), omega (arith, amount), s .pre .1 .1 .0, s .pre .1 .1 .1, s .pre .1 .1 .2))
 
 same-length : tie.Need-same-length
 same-length c = search needs
 
 returns : tie.Need-returns
 returns c =
-    let l-shift-lane = c .before .before in
-    let l-extract-lane2 = l-shift-lane .before .before .before .before in
-    let l-if1 = l-extract-lane2 .before .before in
-    let l-is-register = l-if1 .before in
-    let l-extract-lane = l-is-register .before .before .before in
-    let st = l-extract-lane .before .before .before in
-    at-register (st .args .kind) (st .args .signed) (st .pre .1 .1 .3) (st .pre .1 .1 .4) (sym (l-is-register .is-register .ensures) ∙ l-if1 .if1 .taken) (l-extract-lane .extract-lane .ensures) (l-extract-lane2 .extract-lane2 .ensures) (l-shift-lane .shift-lane .ensures)
+    let l = c .before .before in
+    let a = l .before .before .before .before in
+    let i = asked a in
+    let v = value (i .before) in
+    let s = entry v in
+    at-register (s .args .kind) (s .args .signed) (s .pre .1 .1 .3) (s .pre .1 .1 .4) (by-register i)
+    (v .extract-lane .ensures) (a .signed-amount .ensures) (l .shift-lane .ensures)
 
 shift-lane-requires-2 : tie.Need-shift-lane-requires-2
 shift-lane-requires-2 c κs = search needs
@@ -51,12 +73,12 @@ same-length-2 c = search needs
 
 returns-2 : tie.Need-returns-2
 returns-2 c =
-    let l-shift-lane2 = c .before .before in
-    let l-if1 = l-shift-lane2 .before .before in
-    let l-is-register = l-if1 .before in
-    let l-extract-lane = l-is-register .before .before .before in
-    let st = l-extract-lane .before .before .before in
-    at-immediate (st .args .kind) (st .args .signed) (st .pre .1 .1 .3) (st .pre .1 .1 .4) (sym (l-is-register .is-register .ensures) ∙ l-if1 .if1 .left) (l-extract-lane .extract-lane .ensures) (l-shift-lane2 .shift-lane2 .ensures)
+    let l = c .before .before in
+    let i = l .before .before in
+    let v = value (i .before) in
+    let s = entry v in
+    at-immediate (s .args .kind) (s .args .signed) (s .pre .1 .1 .3) (s .pre .1 .1 .4) (sym (i .before .is-register .ensures) ∙ i .if1 .left)
+    (v .extract-lane .ensures) (l .shift-lane2 .ensures)
 
 pub shift-at-spec : {M : Type 1} → statement M
 shift-at-spec =
@@ -64,7 +86,7 @@ shift-at-spec =
     (tie.spec
     extract-lane-requires
     is-register-requires
-    extract-lane-requires-2
+    signed-amount-requires
     shift-lane-requires
     same-length
     returns

@@ -4,9 +4,6 @@ use borrow.Author.Needs.{needs}
 use Rattle.lower_shift_lane.proofs.shift_register.Statement.{statement}
 use Rattle.lower_shift_lane.proofs.shift_register.Tie as tie
 
-signed-amount-requires : tie.Need-signed-amount-requires
-signed-amount-requires c κs = search needs
-
 left-by-requires : tie.Need-left-by-requires
 left-by-requires c κs = search needs
 
@@ -21,9 +18,8 @@ shift-right-requires c κs =
     let l-bv = c .before .before .before in
     let l-konst = l-bv .before .before .before .before in
     let l-left-by = l-konst .before .before .before .before in
-    let l-signed-amount = l-left-by .before .before .before .before in
-    let st = l-signed-amount .before .before .before in
-    omega (arith, st .pre, l-signed-amount .signed-amount .ensures .sized, l-left-by .left-by .ensures .sized, l-konst .konst .ensures .sized, l-bv .bv .ensures .sized)
+    let st = l-left-by .before .before .before in
+    omega (arith, st .pre, l-left-by .left-by .ensures .sized, l-konst .konst .ensures .sized, l-bv .bv .ensures .sized)
 
 compare-requires : tie.Need-compare-requires
 compare-requires c κs =
@@ -31,9 +27,8 @@ compare-requires c κs =
     let l-bv = l-shift-right .before .before .before .before in
     let l-konst = l-bv .before .before .before .before in
     let l-left-by = l-konst .before .before .before .before in
-    let l-signed-amount = l-left-by .before .before .before .before in
-    let st = l-signed-amount .before .before .before in
-    omega (arith, st .pre, l-signed-amount .signed-amount .ensures .sized, l-left-by .left-by .ensures .sized, l-konst .konst .ensures .sized, l-bv .bv .ensures .sized, l-shift-right .shift-right .ensures .sized)
+    let st = l-left-by .before .before .before in
+    omega (arith, st .pre, l-left-by .left-by .ensures .sized, l-konst .konst .ensures .sized, l-bv .bv .ensures .sized, l-shift-right .shift-right .ensures .sized)
 
 ite-requires : tie.Need-ite-requires
 ite-requires c κs =
@@ -42,9 +37,8 @@ ite-requires c κs =
     let l-bv = l-shift-right .before .before .before .before in
     let l-konst = l-bv .before .before .before .before in
     let l-left-by = l-konst .before .before .before .before in
-    let l-signed-amount = l-left-by .before .before .before .before in
-    let st = l-signed-amount .before .before .before in
-    omega (arith, st .pre, l-signed-amount .signed-amount .ensures .sized, l-left-by .left-by .ensures .sized, l-konst .konst .ensures .sized, l-bv .bv .ensures .sized, l-shift-right .shift-right .ensures .sized, l-compare .compare .ensures .sized)
+    let st = l-left-by .before .before .before in
+    omega (arith, st .pre, l-left-by .left-by .ensures .sized, l-konst .konst .ensures .sized, l-bv .bv .ensures .sized, l-shift-right .shift-right .ensures .sized, l-compare .compare .ensures .sized)
 
 same-length : tie.Need-same-length
 same-length c =
@@ -54,9 +48,17 @@ same-length c =
     let l-bv = l-shift-right .before .before .before .before in
     let l-konst = l-bv .before .before .before .before in
     let l-left-by = l-konst .before .before .before .before in
-    let l-signed-amount = l-left-by .before .before .before .before in
-    let st = l-signed-amount .before .before .before in
-    omega (arith, st .pre, l-signed-amount .signed-amount .ensures .sized, l-left-by .left-by .ensures .sized, l-konst .konst .ensures .sized, l-bv .bv .ensures .sized, l-shift-right .shift-right .ensures .sized, l-compare .compare .ensures .sized, l-ite .ite .ensures .sized)
+    let st = l-left-by .before .before .before in
+    omega (
+      arith,
+      st .pre,
+      l-left-by .left-by .ensures .sized,
+      l-konst .konst .ensures .sized,
+      l-bv .bv .ensures .sized,
+      l-shift-right .shift-right .ensures .sized,
+      l-compare .compare .ensures .sized,
+      l-ite .ite .ensures .sized,
+    )
 
 returns : tie.Need-returns
 returns c =
@@ -66,15 +68,14 @@ returns c =
     let l-bv = l-shift-right .before .before .before .before in
     let l-konst = l-bv .before .before .before .before in
     let l-left-by = l-konst .before .before .before .before in
-    let l-signed-amount = l-left-by .before .before .before .before in
-    let st = l-signed-amount .before .before .before in
-    registered (st .args .rounding) (st .args .saturate) (st .args .signed) (omega (arith, st .pre)) (st .pre .1 .3) (l-signed-amount .signed-amount .ensures) (l-left-by .left-by .ensures) (l-konst .konst .ensures) (l-bv .bv .ensures) (l-shift-right .shift-right .ensures) (l-compare .compare .ensures) (l-ite .ite .ensures)
+    let st = l-left-by .before .before .before in
+    registered (st .args .rounding) (st .args .saturate) (st .args .signed) (omega (arith, st .pre)) (st .pre .1 .3)
+    (l-left-by .left-by .ensures) (l-konst .konst .ensures) (l-bv .bv .ensures) (l-shift-right .shift-right .ensures) (l-compare .compare .ensures) (l-ite .ite .ensures)
 
 pub shift-register-spec : {M : Type 1} → statement M
 shift-register-spec =
     tie.close
     (tie.spec
-    signed-amount-requires
     left-by-requires
     konst-requires
     bv-requires

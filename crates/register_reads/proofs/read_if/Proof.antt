@@ -21,24 +21,24 @@ returns-2 c =
     let st = l-if2 .before .before .before in
     read-whole refl (l-if2 .if2 .taken) refl (st .pre .1)
 
-extract-requires : tie.Need-extract-requires
-extract-requires c κs =
+extract-collapsing-requires : tie.Need-extract-collapsing-requires
+extract-collapsing-requires c κs =
     let st = c .before .before .before .before in
     (st .pre .0, (st .pre .1, omega arith, omega arith))
 
 same-length : tie.Need-same-length
 same-length c =
-    let l-extract = c .before .before in
-    omega (arith, l-extract .extract .ensures .sized)
+    let cut = c .before .before in
+    omega (arith, cut .extract-collapsing .ensures .sized)
 
 returns-3 : tie.Need-returns-3
 returns-3 c =
-    let l-extract = c .before .before in
-    let l-if2 = l-extract .before .before in
+    let cut = c .before .before in
+    let l-if2 = cut .before .before in
     let l-if1 = l-if2 .before in
     let st = l-if1 .before .before in
-    read-half (st .pre .0) (st .pre .1) (not-false (st .args .used) (l-if1 .if1 .left)) (l-if2 .if2 .left) (l-extract .extract .ensures)
+    read-half (not-false (st .args .used) (l-if1 .if1 .left)) (l-if2 .if2 .left) (cut .extract-collapsing .ensures)
 
 pub read-if-spec : {M : Type 1} → statement M
 read-if-spec =
-    tie.close (tie.spec none-requires returns returns-2 extract-requires same-length returns-3)
+    tie.close (tie.spec none-requires returns returns-2 extract-collapsing-requires same-length returns-3)

@@ -1,54 +1,72 @@
-use native.Mathlib.Nat.{le-refl}
+-- cut_from goes down from Extract to Extract: the node number falls, and what the cut has risen by is kept
 use native.Mathlib.Omega.{arith}
-use mathlib.Core.Path.{_≡_}
-use mathlib.Core.Bool.{false}
-use borrow.Author.Tests.{eqb-true, leb-true, ltb-true}
-use Rattle.facts.proofs.Tests.{and-both}
-use Rattle.pool.specs.Node.{wordAt}
-use Rattle.simd.specs.Cut.{joinsAt}
-use Rattle.simd.proofs.Cutting.{joined-by, joined-below}
-use borrow.Author.Needs.{needs}
+use Prim.Native.Nat.{_+_}
+use mathlib.Core.Path.{_≡_, sym, _∙_}
+use Rattle.simd.proofs.Cutting.{Kept, kept-none, Rises, rising, kept-more, from-kept}
 use Rattle.simd.proofs.cut_from.Statement.{statement}
 use Rattle.simd.proofs.cut_from.Tie as tie
 
-first-requires : tie.Need-first-requires
-first-requires c κs = search needs
+abbrev Inv-loop : tie.InvT-loop
+Inv-loop pool hi at₀ by₀ at by = Kept pool at₀ (hi .0) at by
 
-high-requires : tie.Need-high-requires
-high-requires c κs = search needs
+abbrev μ-loop : tie.MeasureT-loop
+μ-loop pool hi at₀ by₀ at by = at
 
-low-requires : tie.Need-low-requires
-low-requires c κs = search needs
+loop-holds : tie.Need-loop-holds Inv-loop μ-loop
+loop-holds c = kept-none _ _ _ (c .before .pre .1)
 
-kind-of-requires : tie.Need-kind-of-requires
-kind-of-requires c κs = search needs
+add-rises : tie.Need-add-rises Inv-loop μ-loop
+add-rises c = omega (arith, c .before .loop .inv .small)
 
-returns : tie.Need-returns
+rises-requires : tie.Need-rises-requires Inv-loop μ-loop
+rises-requires c κs =
+    let l = c .before in
+    let p = l .before .before .pre in
+    (omega (arith, l .loop .inv .below, p .0), l .loop .inv .small)
+
+high-requires : tie.Need-high-requires Inv-loop μ-loop
+high-requires c κs =
+    let l = c .before .before .before in
+    omega (arith, l .loop .inv .below, l .before .before .pre .0)
+
+-- the node that is left is an Extract
+risen : (c : tie.Then1 Inv-loop μ-loop) → let l = c .before .before .before in
+    Rises (l .before .before .args .pool .now) (l .loop .at) (l .before .before .args .hi .0 + l .loop .by)
+risen c = rising _ _ _ (sym (c .before .rises .ensures) ∙ c .if1 .taken)
+
+add-by : tie.Need-add-by Inv-loop μ-loop
+add-by c = omega (arith, c .high .ensures, risen (c .before) .room, c .before .before .before .before .loop .inv .small)
+
+first-requires : tie.Need-first-requires Inv-loop μ-loop
+first-requires c κs =
+    let l = c .before .before .before .before in
+    omega (arith, l .loop .inv .below, l .before .before .pre .0)
+
+loop-less : tie.Need-loop-less Inv-loop μ-loop
+loop-less c = omega (arith, c .first .ensures, risen (c .before .before) .down)
+
+loop-again : tie.Need-loop-again Inv-loop μ-loop
+loop-again c =
+    let l = c .before .before .before .before .before in
+    rw (c .first .ensures, c .before .high .ensures) (kept-more (l .loop .inv) (risen (c .before .before)))
+
+returns : tie.Need-returns Inv-loop μ-loop
 returns c =
-    let k = c .before .before .before in
-    let l = k .before .before in
-    let h = l .before in
-    let f = h .before in
-    let a = f .before .before .args in
-    let tests = and-both _ _ (rw (k .kind-of .ensures, l .low .ensures, h .high .ensures, f .first .ensures) at (c .if1 .taken)) in
-    let cut = and-both _ _ (tests .0) in
-    let joins = and-both _ _ (cut .1) in
-    let joined =
-    joined-by (a .pool .now) (a .value .0) (a .hi .0) (eqb-true _ _ (cut .0)) (eqb-true (wordAt (a .pool .now) (a .value .0) 3) 0 (joins .0)) (omega (arith, leb-true, ltb-true, joins .1))
-    (ltb-true _ _ (tests .1)) in
-    rw joined (f .first .ensures, rw (f .first .ensures) (joined-below (a .pool .now) (a .value .0) (a .hi .0) joined))
-
-returns-2 : tie.Need-returns-2
-returns-2 c =
-    let k = c .before .before .before in
-    let l = k .before .before in
-    let h = l .before in
-    let f = h .before in
-    let a = f .before .before .args in
-    let other : joinsAt (a .pool .now) (a .value .0) (a .hi .0) ≡ false = rw (k .kind-of .ensures, l .low .ensures, h .high .ensures, f .first .ensures) at (c .if1 .left) in
-    (rw other, le-refl _)
+    let r = c .before in
+    from-kept (r .before .before .loop .inv) (sym (r .rises .ensures) ∙ c .if1 .left)
 
 pub cut-from-spec : {M : Type 1} → statement M
 cut-from-spec =
     tie.close
-    (tie.spec first-requires high-requires low-requires kind-of-requires returns returns-2)
+    (tie.spec
+    Inv-loop
+    μ-loop
+    loop-holds
+    add-rises
+    rises-requires
+    high-requires
+    add-by
+    first-requires
+    loop-less
+    loop-again
+    returns)

@@ -20,9 +20,9 @@ same-length c = search needs
 
 returns : tie.Need-returns
 returns c =
-    let l-extract-collapsing = c .before .before in
-    let st = l-extract-collapsing .before .before .before .before in
-    lane-built (st .pre .1 .1) (l-extract-collapsing .extract-collapsing .ensures)
+    let cut = c .before .before in
+    let st = cut .before .before .before .before in
+    lane-built (st .pre .1 .1) (cut .extract-collapsing .ensures)
 
 pub extract-lane-spec : {M : Type 1} → statement M
 extract-lane-spec =

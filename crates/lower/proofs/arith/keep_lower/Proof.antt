@@ -11,8 +11,8 @@ mul-t12 c = search needs
 sub-t13 : tie.Need-sub-t13
 sub-t13 c = search needs
 
-extract-requires : tie.Need-extract-requires
-extract-requires c κs =
+extract-collapsing-requires : tie.Need-extract-collapsing-requires
+extract-collapsing-requires c κs =
     let l-if1 = c .before in
     let st = l-if1 .before .before in
     omega (arith, st .pre, st .pre .1 .1 (l-if1 .if1 .taken))
@@ -26,10 +26,10 @@ same-length c = search needs
 returns : tie.Need-returns
 returns c =
     let l-concat = c .before .before in
-    let l-extract = l-concat .before .before .before .before in
-    let l-if1 = l-extract .before .before in
+    let cut = l-concat .before .before .before .before in
+    let l-if1 = cut .before .before in
     let st = l-if1 .before .before in
-    keep-yes (st .args .lane-bits) (st .args .lanes) (st .pre .1 .2) (st .pre .1 .3) (l-if1 .if1 .taken) (l-extract .extract .ensures) (l-concat .concat .ensures)
+    keep-yes (st .args .lane-bits) (st .args .lanes) (st .pre .1 .2) (st .pre .1 .3) (l-if1 .if1 .taken) (cut .extract-collapsing .ensures) (l-concat .concat .ensures)
 
 returns-2 : tie.Need-returns-2
 returns-2 c =
@@ -40,4 +40,4 @@ returns-2 c =
 pub keep-lower-spec : {M : Type 1} → statement M
 keep-lower-spec =
     tie.close
-    (tie.spec mul-t12 sub-t13 extract-requires concat-requires same-length returns returns-2)
+    (tie.spec mul-t12 sub-t13 extract-collapsing-requires concat-requires same-length returns returns-2)

@@ -7,35 +7,65 @@ use Rattle.lower_bits_lane.proofs.counts.leading_sign_bits.Tie as tie
 sub-width : tie.Need-sub-width
 sub-width c = search needs
 
-sub-t12 : tie.Need-sub-t12
-sub-t12 c = search needs
+add-t13 : tie.Need-add-t13
+add-t13 c = search needs
+
+add-t15 : tie.Need-add-t15
+add-t15 c = search needs
 
 extract-requires : tie.Need-extract-requires
 extract-requires c κs = search needs
 
-sub-t12-2 : tie.Need-sub-t12-2
-sub-t12-2 c = search needs
+sub-t13 : tie.Need-sub-t13
+sub-t13 c = search needs
+
+add-t15-2 : tie.Need-add-t15-2
+add-t15-2 c = search needs
 
 extract-requires-2 : tie.Need-extract-requires-2
 extract-requires-2 c κs = search needs
 
 bv-requires : tie.Need-bv-requires
-bv-requires c κs = search needs
+bv-requires c κs =
+    let l-extract2 = c .before .before .before in
+    let l-extract = l-extract2 .before .before .before .before .before in
+    let st = l-extract .before .before .before .before .before in
+    omega (arith, st .pre, l-extract .extract .ensures .sized, l-extract2 .extract2 .ensures .sized)
 
 leading-zeros-requires : tie.Need-leading-zeros-requires
-leading-zeros-requires c κs = search needs
+leading-zeros-requires c κs =
+    let l-bv = c .before .before .before in
+    let l-extract2 = l-bv .before .before .before .before in
+    let l-extract = l-extract2 .before .before .before .before .before in
+    let st = l-extract .before .before .before .before .before in
+    omega (arith, st .pre, l-extract .extract .ensures .sized, l-extract2 .extract2 .ensures .sized, l-bv .bv .ensures .sized)
 
 zero-ext-requires : tie.Need-zero-ext-requires
 zero-ext-requires c κs =
     let l-leading-zeros = c .before .before .before in
     let l-bv = l-leading-zeros .before .before .before .before in
     let l-extract2 = l-bv .before .before .before .before in
-    let l-extract = l-extract2 .before .before .before .before in
-    let st = l-extract .before .before .before in
+    let l-extract = l-extract2 .before .before .before .before .before in
+    let st = l-extract .before .before .before .before .before in
     omega (arith, st .pre, l-extract .extract .ensures .sized, l-extract2 .extract2 .ensures .sized, l-bv .bv .ensures .sized, l-leading-zeros .leading-zeros .ensures .sized)
 
 same-length : tie.Need-same-length
-same-length c = search needs
+same-length c =
+    let l-zero-ext = c .before .before in
+    let l-leading-zeros = l-zero-ext .before .before .before .before in
+    let l-bv = l-leading-zeros .before .before .before .before in
+    let l-extract2 = l-bv .before .before .before .before in
+    let l-extract = l-extract2 .before .before .before .before .before in
+    let st = l-extract .before .before .before .before .before in
+    omega (
+      arith,
+      st .pre,
+      l-extract .extract .ensures .sized,
+      l-extract2 .extract2 .ensures .sized,
+      l-bv .bv .ensures .sized,
+      l-leading-zeros .leading-zeros .ensures .sized,
+      l-zero-ext .zero-ext .ensures .sized,
+    )
 
 returns : tie.Need-returns
 returns c =
@@ -43,18 +73,21 @@ returns c =
     let l-leading-zeros = l-zero-ext .before .before .before .before in
     let l-bv = l-leading-zeros .before .before .before .before in
     let l-extract2 = l-bv .before .before .before .before in
-    let l-extract = l-extract2 .before .before .before .before in
-    let st = l-extract .before .before .before in
-    sign-bits (st .pre .1 .1) (st .pre .1 .2) (l-extract .extract .ensures) (l-extract2 .extract2 .ensures) (l-bv .bv .ensures) (l-leading-zeros .leading-zeros .ensures) (l-zero-ext .zero-ext .ensures)
+    let l-extract = l-extract2 .before .before .before .before .before in
+    let st = l-extract .before .before .before .before .before in
+    sign-bits (st .pre .1 .1) (st .pre .1 .2) (l-extract .extract .ensures) (l-extract2 .extract2 .ensures) (l-bv .bv .ensures)
+    (l-leading-zeros .leading-zeros .ensures) (l-zero-ext .zero-ext .ensures)
 
 pub leading-sign-bits-spec : {M : Type 1} → statement M
 leading-sign-bits-spec =
     tie.close
     (tie.spec
     sub-width
-    sub-t12
+    add-t13
+    add-t15
     extract-requires
-    sub-t12-2
+    sub-t13
+    add-t15-2
     extract-requires-2
     bv-requires
     leading-zeros-requires

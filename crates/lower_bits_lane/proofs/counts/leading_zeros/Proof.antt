@@ -7,17 +7,17 @@ use Rattle.lower_bits_lane.proofs.counts.leading_zeros.Statement.{state
 use Rattle.lower_bits_lane.proofs.counts.leading_zeros.Tie as tie
 
 abbrev Inv-loop : tie.InvT-loop
-Inv-loop pool₀ count value bits acc₀ i₀ pool acc i = (i ≤ bits) × BitsKept count 5 bits value (zerosTo bits) pool₀ acc₀ pool acc i
+Inv-loop pool₀ count value base bits acc₀ i₀ pool acc i = (i ≤ bits) × BitsKept count 5 (base .0) bits value (zerosTo bits) pool₀ acc₀ pool acc i
 
 abbrev μ-loop : tie.MeasureT-loop
-μ-loop pool₀ count value bits acc₀ i₀ pool acc i = bits - i
+μ-loop pool₀ count value base bits acc₀ i₀ pool acc i = bits - i
 
 abbrev entry : tie.At-loop Inv-loop μ-loop → tie.Start Inv-loop μ-loop
 entry c = c .before .before .before .before .before .before
 
 -- the bits so far, over the pool at entry
 so-far : (c : tie.At-loop Inv-loop μ-loop) → let a = entry c .args in
-    BitsTo (a .pool .now) (a .count) (c .loop .pool) (c .loop .acc) 5 (a .bits) (a .value) (zerosTo (a .bits)) (c .loop .i)
+    BitsTo (a .pool .now) (a .count) (c .loop .pool) (c .loop .acc) 5 (a .base .0) (a .bits) (a .value) (zerosTo (a .bits)) (c .loop .i)
 so-far c =
     let s = entry c in
     c .loop .inv .1 _ (bits-none 5 (zerosTo (s .args .bits)) (s .args .bits) (s .pre .1 .1) (s .pre .1 .2) (le-refl _) (zeros-none (s .args .bits)) (c .before .before .before .konst .ensures))

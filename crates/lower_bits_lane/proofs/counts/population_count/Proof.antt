@@ -6,17 +6,17 @@ use Rattle.lower_bits_lane.proofs.counts.population_count.Statement.{st
 use Rattle.lower_bits_lane.proofs.counts.population_count.Tie as tie
 
 abbrev Inv-loop : tie.InvT-loop
-Inv-loop pool₀ count value lane-bits acc₀ i₀ pool acc i = (i ≤ lane-bits) × BitsKept count 3 lane-bits value (countTo lane-bits) pool₀ acc₀ pool acc i
+Inv-loop pool₀ count value base lane-bits acc₀ i₀ pool acc i = (i ≤ lane-bits) × BitsKept count 3 (base .0) lane-bits value (countTo lane-bits) pool₀ acc₀ pool acc i
 
 abbrev μ-loop : tie.MeasureT-loop
-μ-loop pool₀ count value lane-bits acc₀ i₀ pool acc i = lane-bits - i
+μ-loop pool₀ count value base lane-bits acc₀ i₀ pool acc i = lane-bits - i
 
 abbrev entry : tie.At-loop Inv-loop μ-loop → tie.Start Inv-loop μ-loop
 entry c = c .before .before .before .before .before .before
 
 -- the bits so far, over the pool at entry
 so-far : (c : tie.At-loop Inv-loop μ-loop) → let a = entry c .args in
-    BitsTo (a .pool .now) (a .count) (c .loop .pool) (c .loop .acc) 3 (a .lane-bits) (a .value) (countTo (a .lane-bits)) (c .loop .i)
+    BitsTo (a .pool .now) (a .count) (c .loop .pool) (c .loop .acc) 3 (a .base .0) (a .lane-bits) (a .value) (countTo (a .lane-bits)) (c .loop .i)
 so-far c =
     let s = entry c in
     c .loop .inv .1 _ (bits-none 3 (countTo (s .args .lane-bits)) 0 (s .pre .1 .1) (s .pre .1 .2) (omega arith) (count-none (s .args .lane-bits)) (c .before .before .before .konst .ensures))

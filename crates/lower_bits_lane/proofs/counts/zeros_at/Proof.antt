@@ -4,6 +4,9 @@ use borrow.Author.Needs.{needs}
 use Rattle.lower_bits_lane.proofs.counts.zeros_at.Statement.{statement}
 use Rattle.lower_bits_lane.proofs.counts.zeros_at.Tie as tie
 
+add-at : tie.Need-add-at
+add-at c = search needs
+
 extract-requires : tie.Need-extract-requires
 extract-requires c κs = search needs
 
@@ -14,13 +17,28 @@ compare-requires : tie.Need-compare-requires
 compare-requires c κs = search needs
 
 sub-konst : tie.Need-sub-konst
-sub-konst c = search needs
+sub-konst c =
+    let l-compare = c .before .before .before in
+    let l-konst = l-compare .before .before .before .before in
+    let l-extract = l-konst .before .before .before .before in
+    let st = l-extract .before .before .before .before .before in
+    omega (arith, st .pre, l-extract .extract .ensures .sized, l-konst .konst .ensures .sized, l-compare .compare .ensures .sized)
 
 sub-konst-2 : tie.Need-sub-konst-2
-sub-konst-2 c = search needs
+sub-konst-2 c =
+    let l-compare = c .before .before .before .before in
+    let l-konst = l-compare .before .before .before .before in
+    let l-extract = l-konst .before .before .before .before in
+    let st = l-extract .before .before .before .before .before in
+    omega (arith, st .pre, l-extract .extract .ensures .sized, l-konst .konst .ensures .sized, l-compare .compare .ensures .sized)
 
 konst-requires-2 : tie.Need-konst-requires-2
-konst-requires-2 c κs = search needs
+konst-requires-2 c κs =
+    let l-compare = c .before .before .before .before in
+    let l-konst = l-compare .before .before .before .before in
+    let l-extract = l-konst .before .before .before .before in
+    let st = l-extract .before .before .before .before .before in
+    omega (arith, st .pre, l-extract .extract .ensures .sized, l-konst .konst .ensures .sized, l-compare .compare .ensures .sized)
 
 ite-requires : tie.Need-ite-requires
 ite-requires c κs =
@@ -28,7 +46,7 @@ ite-requires c κs =
     let l-compare = l-konst2 .before .before .before .before .before in
     let l-konst = l-compare .before .before .before .before in
     let l-extract = l-konst .before .before .before .before in
-    let st = l-extract .before .before .before in
+    let st = l-extract .before .before .before .before .before in
     omega (arith, st .pre, l-extract .extract .ensures .sized, l-konst .konst .ensures .sized, l-compare .compare .ensures .sized, l-konst2 .konst2 .ensures .sized)
 
 same-length : tie.Need-same-length
@@ -38,7 +56,7 @@ same-length c =
     let l-compare = l-konst2 .before .before .before .before .before in
     let l-konst = l-compare .before .before .before .before in
     let l-extract = l-konst .before .before .before .before in
-    let st = l-extract .before .before .before in
+    let st = l-extract .before .before .before .before .before in
     omega (arith, st .pre, l-extract .extract .ensures .sized, l-konst .konst .ensures .sized, l-compare .compare .ensures .sized, l-konst2 .konst2 .ensures .sized, l-ite .ite .ensures .sized)
 
 returns : tie.Need-returns
@@ -48,13 +66,14 @@ returns c =
     let l-compare = l-konst2 .before .before .before .before .before in
     let l-konst = l-compare .before .before .before .before in
     let l-extract = l-konst .before .before .before .before in
-    let st = l-extract .before .before .before in
+    let st = l-extract .before .before .before .before .before in
     zeros-at (st .pre .1 .2) (st .pre .1 .3) (l-extract .extract .ensures) (l-konst .konst .ensures) (l-compare .compare .ensures) (l-konst2 .konst2 .ensures) (l-ite .ite .ensures)
 
 pub zeros-at-spec : {M : Type 1} → statement M
 zeros-at-spec =
     tie.close
     (tie.spec
+    add-at
     extract-requires
     konst-requires
     compare-requires
