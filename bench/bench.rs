@@ -14,7 +14,7 @@ use std::process::{Command, Stdio};
 use std::time::Instant;
 
 use native::{bytes, lower_block, lower_instruction, pool_check, words, write_text};
-use pools::{Node, Rng, grow};
+use pools::{Node, Rng, grow, pool_words};
 
 type Record = [u64; 6];
 
@@ -45,7 +45,7 @@ fn forms(oracle: &str) -> (Vec<u8>, Vec<Record>) {
 fn sources() -> Vec<u64> {
     let mut nodes: Vec<Node> = (0..32).map(|r| Node { kind: 1, width: 128, operands: [0; 3], data: [r, 0] }).collect();
     nodes.extend((0..3).map(|r| Node { kind: 16, width: 64, operands: [r, 0, 0], data: [63, 0] }));
-    let mut pool: Vec<u64> = nodes.iter().flat_map(Node::words).collect();
+    let mut pool = pool_words(&nodes);
     pool.resize(4 * (35 + RESERVE), 0);
     pool
 }
@@ -115,7 +115,7 @@ fn random() -> Vec<u64> {
         }
         nodes.push(node);
     }
-    nodes.iter().flat_map(Node::words).collect()
+    pool_words(&nodes)
 }
 
 /// The terms of forms in a mixed order, one after the other in one pool, and registers after them.
@@ -179,7 +179,7 @@ fn nested(rounds: u64) {
         while r.len() <= k {
             r.push(Node { kind: 16, width: 128, operands: [r.len() - 1, 0, 0], data: [127, 0] });
         }
-        let mut all: Vec<u64> = r.iter().flat_map(Node::words).collect();
+        let mut all = pool_words(&r);
         all.resize(4 * (r.len() + RESERVE), 0);
         let mut pool = words(&all);
         let count = r.len();

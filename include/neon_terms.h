@@ -12,11 +12,13 @@
  * other functions take a few kilobytes.
  *
  * Pool. Four words a node; places = words / 4, or 65,535 if that is less; nodes 0 to count - 1 are in use.
- *   word 0   kind + 65,536 * width; the width is 1 to 129 bits, or 0 for a condition
+ *   word 0   kind + 65,536 * width + 2^32 * set; the width is 1 to 129 bits, or 0 for a condition; bit r of the set is up
+ *            where Var r stands at the node or beneath it
  *   word 1   A + 2^16 * B + 2^32 * C: the numbers of the operands, smaller than the node's own
  *   word 2   Var: the register; Const: the low word; Extract: hi
  *   word 3   Const: the high word; Extract: lo
- * Parts that a kind does not use are 0. A pool whose nodes keep these rules and those of the kinds passes neon_pool_check.
+ * Parts that a kind does not use are 0. A pool whose nodes keep these rules and those of the kinds passes neon_pool_check. A pool that an
+ * earlier version wrote has no sets: every such pool with a Var fails the check, and has to be lowered again.
  */
 #ifndef NEON_TERMS_H
 #define NEON_TERMS_H
@@ -116,6 +118,10 @@ uint64_t neon_write_text(const uint64_t *pool, size_t words, size_t count, size_
 /* *length is that of the text of a node, or ceiling + 1 where the text is longer; 0 where it is refused. Its time grows with the
  * ceiling. */
 uint64_t neon_text_length(const uint64_t *pool, size_t words, size_t count, size_t node, uint32_t ceiling, size_t *length);
+
+/* The registers that a node's term reads: *set has bit r for register r, 0 where it is refused by 1 or 5. Two starts that agree on these
+ * registers give the term the same value. */
+uint64_t neon_registers_of(const uint64_t *pool, size_t words, size_t count, size_t node, uint64_t *set);
 
 #ifdef __cplusplus
 }

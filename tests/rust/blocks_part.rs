@@ -66,6 +66,16 @@ pub fn refused(pool: &Words, old: &[u64], results: &Words, entries: usize, posit
 
 const TAIL: u64 = 0xdead_beef;
 
+/// The registers of one of the Rust's terms.
+fn beneath(dag: &Dag, root: u32) -> u64 {
+    let mut sets: Vec<u64> = vec![];
+    for node in &dag.nodes[..=root as usize] {
+        let own = if node.kind == 1 { 1 << node.data[0] } else { 0 };
+        sets.push(node.used().iter().fold(own, |set, &m| set | sets[m as usize]));
+    }
+    sets[root as usize]
+}
+
 fn accepted(r: &mut Rng, pool: &Words, old: &[u64], results: &Words, records: &[Record], seen: &mut Seen) {
     let block: Vec<forms::Record> = records.iter().map(oracle_record).collect();
     assert_eq!(forms::check_block(&block), (0, 0));
@@ -86,6 +96,7 @@ fn accepted(r: &mut Rng, pool: &Words, old: &[u64], results: &Words, records: &[
     }
     let register = r.below(32) as usize;
     let (node, root) = (entries[register] as usize, map[register]);
+    assert_eq!(native::registers_of(new, count, node), (0, beneath(&dag, root)), "register {register} of {records:?}");
     let length = dag.lengths[root as usize];
     let ceiling = 1 << 17;
     assert_eq!(native::text_length(new, count, node, ceiling), (0, length.min(u64::from(ceiling) + 1) as usize));
@@ -169,7 +180,7 @@ pub fn main(count: u64) {
     }
     assert!(seen.refused > 0 && seen.texts > 0, "blocks: {} refused, {} texts", seen.refused, seen.texts);
     println!(
-        "blocks: {count} blocks, one of each element of each register and some at the limits of room and length, {} refused; {} records, {} nodes: {} terms of registers equal the Rust's by hash, their values the table's at one start each; {} texts equal",
+        "blocks: {count} blocks, one of each element of each register and some at the limits of room and length, {} refused; {} records, {} nodes: {} terms of registers equal the Rust's by hash, their values the table's at one start each; the registers of one term of each block, and {} texts equal",
         seen.refused, seen.records, seen.nodes, seen.terms, seen.texts
     );
 }

@@ -5,7 +5,7 @@ use crate::blocks_part::{record, refused, spoil};
 use crate::expr::Expr;
 use crate::judge::{self, NONE, RESERVE, Record, block_number, grown, instruction_number, lengths, text_number, view, wanted};
 use crate::native::{self, OLD, Words, bytes, words};
-use crate::pools::{Node, Rng, grow, valid};
+use crate::pools::{Node, Rng, grow, pool_words, valid};
 use crate::texts_part::tree;
 
 /// A good pool and what its damage starts from.
@@ -21,7 +21,7 @@ fn base(r: &mut Rng) -> Base {
     while nodes.len() < count {
         nodes.extend(grow(r, &nodes));
     }
-    let mut words: Vec<u64> = nodes.iter().flat_map(Node::words).collect();
+    let mut words = pool_words(&nodes);
     // as many free places as one instruction needs, or a block of one or two; one less; or few
     let free = r.one_of(&[RESERVE, RESERVE - 1, RESERVE + 32, 2 * RESERVE + 32, 0, 1, 2, 5]);
     let some = r.next();
@@ -29,8 +29,8 @@ fn base(r: &mut Rng) -> Base {
     Base { words, count }
 }
 
-const KINDS: usize = 7;
-const DAMAGE: [&str; KINDS] = ["none", "bits", "words", "counts", "lengths", "operands", "widths"];
+const KINDS: usize = 8;
+const DAMAGE: [&str; KINDS] = ["none", "bits", "words", "counts", "lengths", "operands", "widths", "sets"];
 
 /// One way of damage; returns which.
 fn damage(r: &mut Rng, words: &mut Vec<u64>, count: &mut usize) -> usize {
@@ -81,10 +81,18 @@ fn damage(r: &mut Rng, words: &mut Vec<u64>, count: &mut usize) -> usize {
             let w1 = &mut words[4 * node + 1];
             *w1 = *w1 & !(0xffff << shift) | (operand & 0xffff) << shift;
         }
-        _ => {
+        6 => {
             let w0 = &mut words[4 * node];
             let width = r.one_of(&[0, 1, 64, 127, 128, 129, 130, 65535, 65536 + 64, *w0 >> 16 ^ 1]);
-            *w0 = *w0 & 0xffff | width << 16;
+            *w0 = *w0 & 0xffff_ffff_0000_ffff | width << 16;
+        }
+        _ => {
+            // a bit flipped, none, all, the set of a node before it, or the next register's alone
+            let set = words[4 * node] >> 32;
+            let other = words[4 * r.below(node as u64 + 1) as usize] >> 32;
+            let flipped = set ^ 1 << r.below(32);
+            let set = r.one_of(&[flipped, flipped, 0, 0xffff_ffff, other, set << 1 & 0xffff_ffff]);
+            words[4 * node] = words[4 * node] & 0xffff_ffff | set << 32;
         }
     }
     way
@@ -100,7 +108,7 @@ fn arguments(r: &mut Rng, pool: &[u64], count: usize) -> ([u64; 3], [usize; 3]) 
     let widths = if judge::form_number(operation, arrangement, i) == 0 { wanted(operation, arrangement) } else { [Some(64), Some(128), None] };
     let shown = count.min(pool.len() / 4);
     let nodes = widths.map(|width| {
-        let list: Vec<usize> = (0..shown).filter(|&n| Some(pool[4 * n] >> 16) == width).collect();
+        let list: Vec<usize> = (0..shown).filter(|&n| Some(pool[4 * n] >> 16 & 0xffff) == width).collect();
         if r.below(20) == 0 {
             r.one_of(&[0, count, count.wrapping_add(1), NONE, NONE + 1, usize::MAX])
         } else if width.is_none() || list.is_empty() {
@@ -119,6 +127,7 @@ struct Seen {
     instruction: [u64; 14],
     text: [u64; 14],
     block: [u64; 14],
+    registers: [u64; 14],
 }
 
 fn try_instruction(r: &mut Rng, lent: &mut Words, old: &[u64], count: usize, seen: &mut Seen) {
@@ -184,6 +193,42 @@ fn try_text(r: &mut Rng, pool: &[u64], count: usize, ok: bool, seen: &mut Seen) 
     seen.text[number as usize] += 1;
 }
 
+/// The set of a node against a walk over all that stands beneath it, which looks at no set.
+fn try_registers(r: &mut Rng, pool: &[u64], count: usize, ok: bool, seen: &mut Seen) {
+    let node = match r.below(8) {
+        0 => r.one_of(&[count, count.wrapping_add(1), NONE, usize::MAX]),
+        _ if count == 0 => 0,
+        _ => r.below(count as u64) as usize,
+    };
+    let want = text_number(ok, count, node, 0, 0);
+    let set = if want == 0 { beneath(pool, node) } else { 0 };
+    assert_eq!(native::registers_of(pool, count, node), (want, set), "{node} {count} {pool:?}");
+    seen.registers[want as usize] += 1;
+}
+
+fn beneath(pool: &[u64], node: usize) -> u64 {
+    let mut reached = vec![false; node + 1];
+    reached[node] = true;
+    let mut set = 0;
+    for n in (0..=node).rev() {
+        if reached[n] {
+            let at = Node::at(pool, n);
+            at.used().iter().for_each(|&m| reached[m] = true);
+            set |= if at.kind == 1 { 1 << at.data[0] } else { 0 };
+        }
+    }
+    set
+}
+
+/// A pool of an earlier version, with no sets: refused by 1 where it has a Var.
+fn try_earlier(pool: &[u64], count: usize) {
+    let mut earlier = pool.to_vec();
+    (0..count).for_each(|n| earlier[4 * n] &= 0xffff_ffff);
+    let registers = (0..count).any(|n| Node::at(pool, n).kind == 1);
+    assert_eq!(native::pool_check(&earlier, count), !registers);
+    assert_eq!(native::registers_of(&earlier, count, 0).0, u64::from(registers));
+}
+
 fn try_block(r: &mut Rng, lent: &mut Words, old: &[u64], seen: &mut Seen) {
     let long = r.one_of(&[0, 0, 1, 1, 2, 85, 86, 95]);
     let mut records: Vec<Record> = (0..long).map(|_| record(r, 32)).collect();
@@ -225,6 +270,7 @@ pub fn main(count: u64) {
     for turn in 0..count {
         if turn % 50 == 0 {
             good = base(&mut r);
+            try_earlier(&good.words, good.count);
         }
         let (mut pool, mut many) = (good.words.clone(), good.count);
         let way = damage(&mut r, &mut pool, &mut many);
@@ -238,6 +284,7 @@ pub fn main(count: u64) {
         seen.bad += u64::from(!ok);
         try_instruction(&mut r, &mut lent, &pool, many, &mut seen);
         try_text(&mut r, &pool, many, ok, &mut seen);
+        try_registers(&mut r, &pool, many, ok, &mut seen);
         if turn % 4 == 0 {
             try_block(&mut r, &mut lent, &pool, &mut seen);
         }
@@ -245,6 +292,7 @@ pub fn main(count: u64) {
     let ways: Vec<String> = DAMAGE.iter().zip(seen.ways).map(|(name, n)| format!("{name} {n}")).collect();
     println!("damage: {count} pools ({}), {} of them bad: yes or no as the judge says", ways.join(", "), seen.bad);
     println!("damage: answers by number, all as the judge's: one instruction {:?}, text {:?}, block {:?}", seen.instruction, seen.text, seen.block);
+    println!("damage: registers beneath a node {:?}, the sets all as a walk finds them; earlier pools with a register get 1", seen.registers);
     assert!(seen.ways.iter().all(|&n| n > 0) && seen.bad > 0, "a way of damage did not come up");
     given("one instruction", &seen.instruction, &[0, 1, 2, 3, 4, 5, 6]);
     given("text", &seen.text, &[0, 1, 5, 9]);
@@ -263,8 +311,10 @@ pub fn stored(count: u64) -> Sample {
         let head: Vec<String> = case.iter().copied().chain(nodes.map(|n| n as u64)).map(|x| x.to_string()).collect();
         let body: Vec<String> = words.iter().map(|w| format!("{w:x}")).collect();
         input += &format!("{} {count} {} {}\n", words.len(), head.join(" "), body.join(" "));
-        let number = instruction_number(&words, count, case, nodes);
-        answers += &format!("{} {number}\n", u8::from(valid(&words, count)));
+        let (ok, number) = (valid(&words, count), instruction_number(&words, count, case, nodes));
+        let asked = text_number(ok, count, nodes[1], 0, 0);
+        let set = if asked == 0 { beneath(&words, nodes[1]) } else { 0 };
+        answers += &format!("{} {number} {asked} {set:x}\n", u8::from(ok));
         seen[number as usize] += 1;
     }
     // these pools have few free places

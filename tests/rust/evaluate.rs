@@ -90,7 +90,7 @@ pub fn values(pool: &[u64], count: usize, start: &[u128; 32]) -> Vec<Value> {
     for n in 0..count {
         let node = Node::at(pool, n);
         let operand = |k: usize| all[node.operands[k]];
-        let width = |k: usize| pool[4 * node.operands[k]] >> 16;
+        let width = |k: usize| pool[4 * node.operands[k]] >> 16 & 0xffff;
         let (w, [x, y]) = (node.width, node.data);
         let truth = |b: bool| of(u128::from(b));
         let flip = |v: Value| both(v, left(of(1), width(0) - 1), |p, q| p ^ q);

@@ -5,7 +5,7 @@ use crate::forms::{self, Record};
 use crate::judge::{NONE, RESERVE, grown, wanted};
 use crate::lift::aarch64::neon::lower::drive;
 use crate::native::{self, Words, bytes};
-use crate::pools::{Node, Rng};
+use crate::pools::{Node, Rng, pool_words};
 use crate::run;
 use crate::texts_part::tree;
 
@@ -122,7 +122,7 @@ impl Sources {
 
     /// The pool's words, with room for an instruction, and the structural hash of each node.
     fn pool(&self, r: &mut Rng) -> (Vec<u64>, Vec<u64>) {
-        let mut base: Vec<u64> = self.nodes.iter().flat_map(Node::words).collect();
+        let mut base = pool_words(&self.nodes);
         base.extend((0..4 * RESERVE).map(|_| r.next()));
         let mut hashes = vec![];
         for node in &self.nodes {

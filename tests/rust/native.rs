@@ -10,6 +10,7 @@ unsafe extern "C" {
     fn neon_lower_block(pool: *mut u64, words: usize, records: *const u64, numbers: usize, results: *mut u64) -> u64;
     fn neon_write_text(pool: *const u64, words: usize, count: usize, node: usize, buffer: *mut u8, bytes: usize, length: *mut usize) -> u64;
     fn neon_text_length(pool: *const u64, words: usize, count: usize, node: usize, ceiling: u32, length: *mut usize) -> u64;
+    fn neon_registers_of(pool: *const u64, words: usize, count: usize, node: usize, set: *mut u64) -> u64;
 }
 
 const GUARDS: usize = 8;
@@ -104,4 +105,11 @@ pub fn text_length(pool: &[u64], count: usize, node: usize, ceiling: u32) -> (u6
     let mut length = 77;
     let number = unsafe { neon_text_length(pool.as_ptr(), pool.len(), count, node, ceiling, &mut length) };
     (number, length)
+}
+
+/// Number and set.
+pub fn registers_of(pool: &[u64], count: usize, node: usize) -> (u64, u64) {
+    let mut set = 77;
+    let number = unsafe { neon_registers_of(pool.as_ptr(), pool.len(), count, node, &mut set) };
+    (number, set)
 }

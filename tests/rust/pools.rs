@@ -32,7 +32,24 @@ pub struct Node {
     pub data: [u64; 2],
 }
 
+/// The words of a pool, with the sets of registers.
+pub fn pool_words(nodes: &[Node]) -> Vec<u64> {
+    let mut sets: Vec<u64> = vec![];
+    let mut words = vec![];
+    for node in nodes {
+        let set = match node.kind {
+            1 => 1 << node.data[0],
+            _ => node.used().iter().fold(0, |all, &m| all | sets[m]),
+        };
+        sets.push(set);
+        let [w0, w1, x, y] = node.words();
+        words.extend([w0 | set << 32, w1, x, y]);
+    }
+    words
+}
+
 impl Node {
+    /// But for the set of registers.
     pub fn words(&self) -> [u64; 4] {
         let [a, b, c] = self.operands.map(|m| m as u64);
         [self.kind | self.width << 16, a | b << 16 | c << 32, self.data[0], self.data[1]]
@@ -41,7 +58,7 @@ impl Node {
     /// Node n of a pool.
     pub fn at(pool: &[u64], n: usize) -> Self {
         let [w0, w1, x, y] = [0, 1, 2, 3].map(|j| pool[4 * n + j]);
-        Self { kind: w0 & 0xffff, width: w0 >> 16, operands: [0, 16, 32].map(|s| (w1 >> s & 0xffff) as usize), data: [x, y] }
+        Self { kind: w0 & 0xffff, width: w0 >> 16 & 0xffff, operands: [0, 16, 32].map(|s| (w1 >> s & 0xffff) as usize), data: [x, y] }
     }
 
     /// The operands that its kind has.
@@ -99,13 +116,21 @@ pub fn grow(r: &mut Rng, nodes: &[Node]) -> Option<Node> {
 // Document 01's rules, section Pool.
 fn keeps_rules(pool: &[u64], n: usize) -> bool {
     let [w0, w1, x, y] = [0, 1, 2, 3].map(|j| pool[4 * n + j]);
-    let (kind, width) = (w0 & 0xffff, w0 >> 16);
+    let (kind, width, set) = (w0 & 0xffff, w0 >> 16 & 0xffff, w0 >> 32);
     let [a, b, c] = [w1 & 0xffff, w1 >> 16 & 0xffff, w1 >> 32];
-    let of = |m: u64| if m < n as u64 { Some(pool[4 * m as usize] >> 16) } else { None };
+    let of = |m: u64| if m < n as u64 { Some(pool[4 * m as usize] >> 16 & 0xffff) } else { None };
+    let below = |m: u64| if m < n as u64 { pool[4 * m as usize] >> 32 } else { 0 };
     let term = |m: u64| of(m).is_some_and(|w| w != 0);
     let wide = (1..=129).contains(&width);
     let plain = x == 0 && y == 0;
-    match kind {
+    let named = match kind {
+        1 if x < 32 => 1 << x,
+        3..=14 | 17 => below(a) | below(b),
+        15 => below(a) | below(b) | below(c),
+        16 | 18 | 19 => below(a),
+        _ => 0,
+    };
+    set == named && match kind {
         1 => width == 128 && w1 == 0 && x < 32 && y == 0,
         2 => wide && w1 == 0 && (width >= 128 || ((y as u128) << 64 | x as u128) >> width == 0),
         3..=11 => wide && plain && c == 0 && of(a) == Some(width) && of(b) == Some(width),

@@ -29,7 +29,7 @@ fn term(pool: &[u64], n: usize) -> String {
         16 => format!("((_ extract {x} {y}) n{a})"),
         17 => format!("(concat n{a} n{b})"),
         kind => {
-            let more = node.width - (pool[4 * a] >> 16);
+            let more = node.width - (pool[4 * a] >> 16 & 0xffff);
             format!("((_ {} {more}) n{a})", if kind == 18 { "zero_extend" } else { "sign_extend" })
         }
     }

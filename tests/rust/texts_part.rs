@@ -1,7 +1,7 @@
 //! Random pools: the text of every node against `Display` of the Rust's own expr.rs, and texts of great depth and length.
 use crate::expr::Expr;
 use crate::native::{OLD, bytes, pool_check, text_length, write_text};
-use crate::pools::{Node, Rng, grow};
+use crate::pools::{Node, Rng, grow, pool_words};
 
 /// The Rust's expression of a node, over those of the nodes before it.
 pub fn tree(e: &[Expr], n: &Node) -> Expr {
@@ -59,7 +59,7 @@ fn example() {
         cell(10, 64, [4, 2, 0], [0; 2]),
         cell(17, 128, [3, 5, 0], [0; 2]),
     ];
-    let pool: Vec<u64> = nodes.iter().flat_map(|n| n.words()).collect();
+    let pool = pool_words(&nodes);
     assert_eq!(want.len(), 54);
     written(&pool, 7, 6, 54, want);
     refused(&pool, 7, 6, 53, 9);
@@ -68,11 +68,11 @@ fn example() {
 // Chains of cuts of five characters each, the deepest that a buffer of 140,000 bytes takes, on a thread of 2 MB; and how
 // long it takes to refuse a term of 2^65,534 characters and more.
 fn two_megabytes() {
-    let mut cuts: Vec<u64> = vec![1 | 128 << 16, 0, 0, 0];
+    let mut cuts: Vec<u64> = vec![1 | 128 << 16 | 1 << 32, 0, 0, 0];
     let mut sums = cuts.clone();
     for n in 0..65534 {
-        cuts.extend([16 | 1 << 16, n, 0, 0]);
-        sums.extend([3 | 128 << 16, n | n << 16, 0, 0]);
+        cuts.extend([16 | 1 << 16 | 1 << 32, n, 0, 0]);
+        sums.extend([3 | 128 << 16 | 1 << 32, n | n << 16, 0, 0]);
     }
     written(&cuts, 65535, 27999, 140_000, &("v0".to_string() + &"[0:0]".repeat(27999)));
     refused(&cuts, 65535, 65534, 140_000, 9);
@@ -100,7 +100,7 @@ pub fn main(pools: u64) {
                 e.push(t);
             }
         }
-        let mut pool: Vec<u64> = nodes.iter().flat_map(|n| n.words()).collect();
+        let mut pool = pool_words(&nodes);
         // words past the count, which no one reads
         pool.extend((0..r.below(9)).map(|_| r.next()).collect::<Vec<_>>());
         assert!(pool_check(&pool, count));
@@ -124,7 +124,7 @@ pub fn main(pools: u64) {
         refused(&pool, usize::MAX, usize::MAX, 40, 1);
     }
     // more than 65,535 places: node 65,535 has none
-    let many: Vec<u64> = (0..65540).flat_map(|_| [1 | 128 << 16, 0, 5, 0]).collect();
+    let many: Vec<u64> = (0..65540).flat_map(|_| [1 | 128 << 16 | 1 << 37, 0, 5, 0]).collect();
     assert!(pool_check(&many, 65535) && !pool_check(&many, 65536) && !pool_check(&many[..7], 2) && pool_check(&many[..7], 1));
     println!("texts: {texts} texts of the nodes of {pools} random pools equal the Rust's, the longest of {longest} bytes");
 }

@@ -19,7 +19,7 @@ mod raw;
 mod words;
 
 pub use operation::{Arrangement, Operation};
-pub use words::{Kind, Node, Nodes, View};
+pub use words::{Kind, Node, Nodes, RegisterSet, View};
 
 use std::fmt;
 
@@ -208,9 +208,12 @@ impl Pool {
     ///
     /// ```
     /// use neon_terms::Pool;
-    /// assert!(Pool::from_words(vec![1 + 65536 * 128, 0, 5, 0], 1).is_some());
+    /// // v5, of which bit 5 of the set is up
+    /// assert!(Pool::from_words(vec![1 + (128 << 16) + (1 << (32 + 5)), 0, 5, 0], 1).is_some());
+    /// // without it, as an earlier version had it
+    /// assert!(Pool::from_words(vec![1 + (128 << 16), 0, 5, 0], 1).is_none());
     /// // no register 32
-    /// assert!(Pool::from_words(vec![1 + 65536 * 128, 0, 32, 0], 1).is_none());
+    /// assert!(Pool::from_words(vec![1 + (128 << 16), 0, 32, 0], 1).is_none());
     /// ```
     pub fn from_words(words: Vec<u64>, count: usize) -> Option<Self> {
         raw::pool_check(&words, count).then_some(Self { words, count })
@@ -277,6 +280,24 @@ impl Pool {
         answer(number)?;
         self.count = after;
         Ok(Node(node))
+    }
+
+    /// The registers that a node's term reads. Two starts that agree on them give the term the same value.
+    ///
+    /// ```
+    /// use neon_terms::{Arrangement, Node, Number, Pool, Record};
+    /// // ushl v0.2d, v1.2d, v2.2d
+    /// let (pool, registers) = Pool::from_block(&[Record { operation: 10, arrangement: Arrangement::D2 as u64, i: 0, d: 0, n: 1, m: 2 }])?;
+    /// let read = pool.registers_of(registers[0])?;
+    /// assert!(read.contains(2) && !read.contains(7));
+    /// assert_eq!(read.collect::<Vec<_>>(), [1, 2]);
+    /// assert_eq!(pool.registers_of(Node(pool.len())).unwrap_err().number, Number::Source);
+    /// # Ok::<(), neon_terms::Refusal>(())
+    /// ```
+    pub fn registers_of(&self, node: Node) -> Result<RegisterSet, Refusal> {
+        let (number, set) = raw::registers_of(&self.words, self.count, node.0);
+        answer(number)?;
+        Ok(RegisterSet { set })
     }
 
     /// The text of a node.

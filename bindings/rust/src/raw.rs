@@ -36,6 +36,7 @@ unsafe extern "C" {
     fn neon_lower_block(pool: *mut u64, words: usize, records: *const u64, numbers: usize, results: *mut [u64; RESULTS]) -> u64;
     fn neon_write_text(pool: *const u64, words: usize, count: usize, node: usize, buffer: *mut u8, bytes: usize, length: *mut usize) -> u64;
     fn neon_text_length(pool: *const u64, words: usize, count: usize, node: usize, ceiling: u32, length: *mut usize) -> u64;
+    fn neon_registers_of(pool: *const u64, words: usize, count: usize, node: usize, set: *mut u64) -> u64;
 }
 
 pub fn form_code(operation: u64, arrangement: u64) -> u64 {
@@ -75,4 +76,11 @@ pub fn text_length(pool: &[u64], count: usize, node: usize, ceiling: u32) -> (u6
         let number = unsafe { neon_text_length(pool.as_ptr(), pool.len(), count, node, ceiling, &mut length) };
         (number, length)
     })
+}
+
+/// Number and set.
+pub fn registers_of(pool: &[u64], count: usize, node: usize) -> (u64, u64) {
+    let mut set = 0;
+    let number = unsafe { neon_registers_of(pool.as_ptr(), pool.len(), count, node, &mut set) };
+    (number, set)
 }

@@ -1,9 +1,59 @@
 //! The nodes of a pool, taken apart.
-use crate::Pool;
+use crate::{Pool, Refusal};
 
 /// The number of a node.
 #[derive(Debug, Clone, Copy, PartialEq, Eq, PartialOrd, Ord, Hash)]
 pub struct Node(pub usize);
+
+impl Node {
+    /// The registers beneath the node, as [`Pool::registers_of`] gives them.
+    ///
+    /// ```
+    /// use neon_terms::{Node, Pool};
+    /// assert_eq!(Node(5).registers(&Pool::registers())?.collect::<Vec<_>>(), [5]);
+    /// # Ok::<(), neon_terms::Refusal>(())
+    /// ```
+    pub fn registers(self, pool: &Pool) -> Result<RegisterSet, Refusal> {
+        pool.registers_of(self)
+    }
+}
+
+/// A set of registers, which gives their numbers from the lowest on.
+#[derive(Debug, Clone, Copy, PartialEq, Eq, Hash)]
+pub struct RegisterSet {
+    pub(crate) set: u64,
+}
+
+impl RegisterSet {
+    /// Bit r for register r.
+    pub fn set(self) -> u32 {
+        self.set as u32
+    }
+
+    pub fn contains(self, register: u8) -> bool {
+        register < 32 && self.set >> register & 1 == 1
+    }
+}
+
+impl Iterator for RegisterSet {
+    type Item = u8;
+
+    fn next(&mut self) -> Option<u8> {
+        if self.set == 0 {
+            return None;
+        }
+        let register = self.set.trailing_zeros();
+        self.set &= self.set - 1;
+        Some(register as u8)
+    }
+
+    fn size_hint(&self) -> (usize, Option<usize>) {
+        let left = self.set.count_ones() as usize;
+        (left, Some(left))
+    }
+}
+
+impl ExactSizeIterator for RegisterSet {}
 
 /// What a node is, over its operands.
 #[derive(Debug, Clone, Copy, PartialEq, Eq)]

@@ -4,9 +4,9 @@ use neon_terms::{Node, Number, Pool};
 
 /// v0, then each node the sum of the one before and v0.
 fn chain(second: impl Fn(u64) -> u64) -> Pool {
-    let mut words = vec![1 + 65536 * 128, 0, 0, 0];
+    let mut words = vec![1 + 65536 * 128 + (1 << 32), 0, 0, 0];
     for last in 0..65534 {
-        words.extend([3 + 65536 * 128, last + 65536 * second(last), 0, 0]);
+        words.extend([3 + 65536 * 128 + (1 << 32), last + 65536 * second(last), 0, 0]);
     }
     Pool::from_words(words, 65535).expect("the chain keeps the rules")
 }

@@ -1,5 +1,5 @@
 -- Records in order: one more at the end of a run, the start of the pool, and the answer of the whole. Assumes nothing.
-use Prim.Native.Nat.{ℕ, zero, suc, _+_, _*_, _/_, _≤_, _<_}
+use Prim.Native.Nat.{ℕ, zero, suc, _+_, _*_, _/_, _≤_, _<_, _^_}
 use mathlib.Core.Path.{_≡_, refl, sym, ap, subst, _∙_}
 use mathlib.Core.List.{List, [], _∷_, _++_}
 use mathlib.Core.Logic.{⊎-elim, inl, inr}
@@ -25,7 +25,7 @@ use Rattle.register_map.specs.Map.{nodesFrom, firstMap, written}
 use Rattle.register_map.proofs.Nodes.{first-is}
 use Rattle.record_check.specs.Record.{recordAt}
 use Rattle.block_check.specs.Records.{recordsFrom, recordsOf}
-use Rattle.block_check.proofs.Refusals.{from-length, block-legal, legal-at}
+use Rattle.block_check.proofs.Refusals.{from-length, block-legal, from-more}
 use Rattle.lower_record.specs.Step.{MapOk, MapIs, RegisterRead, Added, Steps}
 use Rattle.block.specs.Block.{VarAt, Lowered, Accepted, Started, Runs}
 
@@ -36,13 +36,6 @@ tree-more : (cs : List Instruction) (c : Instruction) (t : ℕ → Expr) → tre
 unfolding treeRun
 tree-more [] c t = refl
 tree-more (x ∷ cs) c t = tree-more cs c (treeStep x t)
-
-pub from-more : (flat : List ℕ) (j k : ℕ) → recordsFrom flat j (suc k) ≡ recordsFrom flat j k ++ recordAt flat (j + k) ∷ []
-unfolding recordsFrom
-from-more flat j zero = rw (add-zero j)
-from-more flat j (suc k) =
-    ap (λ (l : List Instruction). recordAt flat j ∷ l)
-    (from-more flat (suc j) k ∙ ap (λ (i : ℕ). recordsFrom flat (suc j) k ++ recordAt flat i ∷ []) {x = suc j + k} {y = j + suc k} (omega arith))
 
 -- a run adds nodes
 lowered-more : (ws : List ℕ) (m : RegisterMap) (t : ℕ → Expr) (cs : List Instruction) (m′ : RegisterMap) → Lowered ws m t cs m′ → m .count ≤ m′ .count
@@ -117,9 +110,6 @@ runs-more {w2 = w2} {m0} {m1} {m2} {cs} {c} r s =
 
 -- ---- the flat records
 
-pub legal-here : (flat : List ℕ) (j : ℕ) → AllLegal (recordsOf flat) → j < length flat / 6 → Legal (recordAt flat j)
-legal-here flat j l h = rw zero-add at (legal-at flat 0 (length flat / 6) j l h)
-
 pub runs-next : {w0 w1 w2 : List ℕ} {m0 m1 m2 : RegisterMap} (flat : List ℕ) (j : ℕ) → Runs w0 m0 w1 m1 (recordsFrom flat 0 j) → Steps w1 m1 w2 m2 (recordAt flat j)
     → Runs w0 m0 w2 m2 (recordsFrom flat 0 (j + 1))
 runs-next flat j r s = rw (add-one j, from-more flat 0 j, zero-add j) (runs-more r s)
@@ -136,7 +126,7 @@ start-none ws = record { grown = grown-refl ws 0; valid = refl; vars = λ r h. a
 pub start-more : {w0 w1 w2 : List ℕ} {k : ℕ} {b : Built} → k < 32 → Room w1 k 1 → Started w0 w1 k → MadeVar w1 k w2 b k → Started w0 w2 (k + 1)
 unfolding kindAt kinds
 start-more {w0} {w1} {w2} {k} {b} l m s d =
-    let a = appended m (d .words) (packed 1 128 0 0 0 k 0 (omega arith) (omega arith) (omega arith)) in
+    let a = appended m (d .words) (packed 1 128 (2 ^ k) 0 0 0 k 0 (omega arith) (omega arith) (omega arith) (omega arith)) refl in
     let x = d .made (s .valid) l in
     record {
       grown = grown-trans (s .grown) (a .grown);

@@ -1,10 +1,10 @@
 -- The refusals of records in order and of a block. Assumes nothing.
-use mathlib.Core.Path.{_≡_, refl, ap, subst}
+use mathlib.Core.Path.{_≡_, refl, ap, subst, _∙_}
 use mathlib.Core.Bool.{Bool, true, false, cond}
-use mathlib.Core.List.{List, [], _∷_}
+use mathlib.Core.List.{List, [], _∷_, _++_}
 use Prim.Native.Nat.{ℕ, zero, suc, _+_, _-_, _*_, _/_, _≤_, _<_}
 use native.Mathlib.Omega.{arith}
-use native.Mathlib.Nat.{add-zero, le-of-suc-le-suc, not-suc-le-zero, min-le-left, le-min}
+use native.Mathlib.Nat.{add-zero, zero-add, le-of-suc-le-suc, not-suc-le-zero, min-le-left, le-min}
 use native.Mathlib.Numerals.{add-one}
 use lib.Dec.{leb, eqb}
 use lib.ListN.{length}
@@ -112,3 +112,14 @@ legal-at flat j zero n l h = absurd (not-suc-le-zero h)
 legal-at flat j (suc k) zero l h = rw (add-zero j) (l .0)
 legal-at flat j (suc k) (suc n) l h =
     subst (λ (i : ℕ). Legal (recordAt flat i)) {x = suc j + n} {y = j + suc n} (omega arith) (legal-at flat (suc j) k n (l .1) (le-of-suc-le-suc h))
+
+pub legal-here : (flat : List ℕ) (j : ℕ) → AllLegal (recordsOf flat) → j < length flat / 6 → Legal (recordAt flat j)
+legal-here flat j l h = rw zero-add at (legal-at flat 0 (length flat / 6) j l h)
+
+-- one record more
+pub from-more : (flat : List ℕ) (j k : ℕ) → recordsFrom flat j (suc k) ≡ recordsFrom flat j k ++ recordAt flat (j + k) ∷ []
+unfolding recordsFrom
+from-more flat j zero = rw (add-zero j)
+from-more flat j (suc k) =
+    ap (λ (l : List Instruction). recordAt flat j ∷ l)
+    (from-more flat (suc j) k ∙ ap (λ (i : ℕ). recordsFrom flat (suc j) k ++ recordAt flat i ∷ []) {x = suc j + k} {y = j + suc k} (omega arith))

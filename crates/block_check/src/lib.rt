@@ -17,7 +17,7 @@ pub struct Refused {
 }
 
 // The first record that is refused.
-fn records_refusal(records: &[u64]) -> Refused
+pub fn records_refusal(records: &[u64]) -> Refused
     ensures { λ r. ⌜ Refuses r (recordsRefusal 0 (recordsOf (now (records .entry)))) ⌝ }
 {
     let count = records.len() / 6;

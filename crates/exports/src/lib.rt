@@ -6,6 +6,7 @@ ghost use Rattle.neon.specs.Form.{formCodeAt};
 ghost use Rattle.pool.specs.Rules.{poolOk};
 ghost use Rattle.text.specs.Answer.{Answered as TextAnswered};
 ghost use Rattle.text_length.specs.Answer.{Measured};
+ghost use Rattle.register_set.specs.Answer.{Named};
 ghost use Rattle.instruction.specs.Lowering.{Answers};
 ghost use Rattle.block_check.specs.Records.{recordsOf};
 ghost use Rattle.exports.specs.Results.{BlockGiven};
@@ -90,5 +91,15 @@ pub extern "C" fn neon_text_length(
 {
     let w = text_length::text_length(pool, count, node, ceiling);
     *length = w.length;
+    w.number
+}
+
+// Returns the number; the registers beneath the node go to `set`, bit r for register r.
+#[no_mangle]
+pub extern "C" fn neon_registers_of(pool: &[u64], count: usize, node: usize, set: &mut u64) -> u64
+    ensures { λ r. ⌜ Named (now (pool .entry)) count node r (now (set .exit)) ⌝ }
+{
+    let w = register_set::registers_of(pool, count, node);
+    *set = w.set;
     w.number
 }

@@ -28,7 +28,8 @@ fn put_node(pool: &mut [u64; 262140], n: usize, kind: u64, width: u64, word: u64
     requires { ⌜ (n < 65535) × (kind < 10000) × (width < 10000) ⌝ }
 {
     let at = 4 * n;
-    pool[at] = kind + 65536 * width;
+    // every node of a chain stands over v0
+    pool[at] = kind + 65536 * width + 4294967296;
     pool[at + 1] = word;
     pool[at + 2] = 0;
     pool[at + 3] = 0;

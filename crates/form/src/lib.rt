@@ -74,14 +74,14 @@ pub fn by_element(code: u64) -> bool
 }
 
 // The least immediate.
-fn least_immediate(code: u64) -> u64
+pub fn least_immediate(code: u64) -> u64
     ensures { λ r. ⌜ OfCode code (λ o v. r ≡ least o) ⌝ }
 {
     if code % 8 == 3 { 1 } else { 0 }
 }
 
 // The largest, at lanes of so many bits.
-fn most_immediate(code: u64, bits: u64) -> u64
+pub fn most_immediate(code: u64, bits: u64) -> u64
     requires { ⌜ (8 ≤ bits) × (bits ≤ 64) ⌝ }
     ensures { λ r. ⌜ OfCode code (λ o v. r ≡ most o bits) ⌝ }
 {

@@ -8,7 +8,9 @@ use lib.ListN.{getD, drop, List·getD-eq-default}
 use lib.Seq.{getD-drop}
 use Rattle.terms.specs.declared.BinOp.{BinOp}
 use Rattle.terms.specs.declared.CmpOp.{CmpOp}
+use lib.Bits.{bitOr}
 use Rattle.pool.specs.Node.{Kind, kinds, kindAt}
+use Rattle.pool.specs.Rules.{setOver}
 use Rattle.node_rules.specs.declared.Fields.{Fields}
 use Rattle.node_rules.specs.Rule.{rule}
 
@@ -58,3 +60,16 @@ from-three k l a b = omega arith
 
 pub from-eighteen : (k : ℕ) → 15 ≤ k → (k ≡ 15 → ⊥) → (k ≡ 16 → ⊥) → (k ≡ 17 → ⊥) → 18 ≤ k
 from-eighteen k l a b c = omega arith
+
+-- ---- the sets of the kinds that stand together
+
+module _ (x A B C : ℕ) where
+  pub set-pair : (k : ℕ) → 3 ≤ k → k < 15 → bitOr A B ≡ setOver (kindAt k) x A B C
+  unfolding kinds
+  set-pair k l h =
+      within (λ κ. bitOr A B ≡ setOver κ x A B C) 3 12
+      (refl, (refl, (refl, (refl, (refl, (refl, (refl, (refl, (refl, (refl, (refl, (refl, tt)))))))))))) k l h
+
+  pub set-ext : (k : ℕ) → 18 ≤ k → k < 20 → A ≡ setOver (kindAt k) x A B C
+  unfolding kinds
+  set-ext k l h = within (λ κ. A ≡ setOver κ x A B C) 18 2 (refl, (refl, tt)) k l h

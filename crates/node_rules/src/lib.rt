@@ -6,6 +6,7 @@ ghost use lib.Dec.{ltb};
 ghost use Rattle.terms.specs.declared.BinOp.{BinOp};
 ghost use Rattle.terms.specs.declared.CmpOp.{CmpOp};
 ghost use Rattle.pool.specs.Node.{Kind, kindAt};
+ghost use Rattle.pool.specs.Rules.{setOver};
 ghost use Rattle.node_rules.specs.Rule.{rule};
 
 // The parts of a node's four words.
@@ -108,7 +109,7 @@ fn extract_ok(f: Fields, n: u64, wa: u64, wb: u64, wc: u64) -> bool
 }
 
 fn concat_ok(f: Fields, n: u64, wa: u64, wb: u64, wc: u64) -> bool
-    requires { ⌜ (wa < 2 ^ 48) × (wb < 2 ^ 48) ⌝ }
+    requires { ⌜ (wa < 65536) × (wb < 65536) ⌝ }
     ensures { λ r. ⌜ r ≡ rule Kind.concat n f wa wb wc ⌝ }
 {
     (1 <= f.width)
@@ -138,7 +139,7 @@ fn ext_ok(f: Fields, n: u64, wa: u64, wb: u64, wc: u64) -> bool
 }
 
 pub fn kind_ok(f: Fields, n: u64, wa: u64, wb: u64, wc: u64) -> bool
-    requires { ⌜ (wa < 2 ^ 48) × (wb < 2 ^ 48) ⌝ }
+    requires { ⌜ (wa < 65536) × (wb < 65536) ⌝ }
     ensures { λ r. ⌜ r ≡ rule (kindAt (f .kind)) n f wa wb wc ⌝ }
 {
     let kind = f.kind;
@@ -153,4 +154,36 @@ pub fn kind_ok(f: Fields, n: u64, wa: u64, wb: u64, wc: u64) -> bool
         18 | 19 => ext_ok(f, n, wa, wb, wc),
         _ => false,
     }
+}
+
+// The registers beneath a node of this kind, over the sets of its operands. x is a Var's register.
+pub fn set_over(kind: u64, x: u64, a: u64, b: u64, c: u64) -> u64
+    requires { ⌜ (kind ≡ 1 → x < 32) ⌝ }
+    ensures { λ r. ⌜ r ≡ setOver (kindAt kind) x a b c ⌝ }
+{
+    if kind == 1 {
+        return 1u64 << x;
+    }
+    if kind == 2 {
+        return 0;
+    }
+    if kind == 0 {
+        return 0;
+    }
+    if kind < 15 {
+        return a | b;
+    }
+    if kind == 15 {
+        return a | b | c;
+    }
+    if kind == 16 {
+        return a;
+    }
+    if kind == 17 {
+        return a | b;
+    }
+    if kind < 20 {
+        return a;
+    }
+    0
 }

@@ -10,21 +10,8 @@ use lib.ListN.{List·getD-map, List·getD-eq-default}
 use borrow.Author.Tests.{lt-ltb, ltb-true, ltb-false, leb-true, eqb-true}
 use Rattle.facts.proofs.Tests.{and-both}
 use Rattle.facts.proofs.Table.{tabulate, entry}
-use Rattle.pool.specs.Node.{Kind, bad, var, const, bv, compare, ite, extract, concat, zext, sext, kinds, kindAt, bvCode, compareCode, Cell, widthAt}
-use Rattle.pool.specs.Rules.{widthBefore, okKind, okNode, okPool, Valid}
-
--- a kind's number
-abbrev pub codeOf : Kind → ℕ
-codeOf bad = 0
-codeOf var = 1
-codeOf const = 2
-codeOf (bv o) = bvCode o
-codeOf (compare o) = compareCode o
-codeOf ite = 15
-codeOf extract = 16
-codeOf concat = 17
-codeOf zext = 18
-codeOf sext = 19
+use Rattle.pool.specs.Node.{Kind, bad, var, const, bv, compare, ite, extract, concat, zext, sext, kinds, kindAt, bvCode, compareCode, codeOf, Cell, cellAt, widthAt, setAt}
+use Rattle.pool.specs.Rules.{widthBefore, setRule, okKind, okCell, okNode, okPool, Valid}
 
 -- the twenty numbers are those of their kinds, as antt computes; any other is bad
 code-below : (n : ℕ) → n < 20 → codeOf (kindAt n) ≡ n
@@ -39,12 +26,20 @@ kind-code n = go (ltb n 20) refl
     go false e = inl (unfold kindAt kinds in List·getD-eq-default kinds bad (ltb-false n 20 e))
 
 -- each node of a valid pool keeps the rules
-pub valid-node : (ws : List ℕ) (k n : ℕ) → Valid ws k → n < k → okNode ws n ≡ true
+both-rules : (ws : List ℕ) (k n : ℕ) → Valid ws k → n < k → okNode ws n ≡ true
 unfolding okPool
-valid-node ws zero n v l = absurd (not-suc-le-zero l)
-valid-node ws (suc k) n v l =
+both-rules ws zero n v l = absurd (not-suc-le-zero l)
+both-rules ws (suc k) n v l =
     let p = and-both (okPool ws k) (okNode ws k) v in
-    ⊎-elim (λ e. subst (λ (m : ℕ). okNode ws m ≡ true) (sym e) (p .1)) (λ h. valid-node ws k n (p .0) h) (eq-or-lt-of-le (le-of-suc-le-suc l))
+    ⊎-elim (λ e. subst (λ (m : ℕ). okNode ws m ≡ true) (sym e) (p .1)) (λ h. both-rules ws k n (p .0) h) (eq-or-lt-of-le (le-of-suc-le-suc l))
+
+-- that of its kind
+pub valid-node : (ws : List ℕ) (k n : ℕ) → Valid ws k → n < k → okCell ws n (cellAt ws n) ≡ true
+valid-node ws k n v l = and-both (okCell ws n (cellAt ws n)) _ (both-rules ws k n v l) .0
+
+-- and that of its set
+pub valid-set : (ws : List ℕ) (k n : ℕ) → Valid ws k → n < k → setAt ws n ≡ setRule ws n (cellAt ws n)
+valid-set ws k n v l = eqb-true _ _ (and-both (okCell ws n (cellAt ws n)) _ (both-rules ws k n v l) .1)
 
 -- what the rules say of an Extract
 pub record ExtractRule (ws : List ℕ) (n : ℕ) (c : Cell) : Type 0 where

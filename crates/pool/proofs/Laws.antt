@@ -10,10 +10,10 @@ use native.Mathlib.Numerals.{add-one}
 use lib.ListN.{length, getD, set, length-set}
 use lib.Seq.{getD-set-same, getD-set-other}
 use lib.Dec.{ltb}
-use borrow.Author.Tests.{ltb-true}
+use borrow.Author.Tests.{ltb-true, eq-eqb}
 use Rattle.terms.specs.Expr.{Expr}
-use Rattle.pool.specs.Node.{Cell, kindAt, kindWord, operandWord, decode, cellAt, widthAt, writeNode}
-use Rattle.pool.specs.Rules.{ifEarlier, widthBefore, okCell, okPool, Valid}
+use Rattle.pool.specs.Node.{Cell, kindAt, kindWord, operandWord, decode, cellAt, widthAt, setOf, setAt, writeNode}
+use Rattle.pool.specs.Rules.{ifEarlier, widthBefore, setBefore, setRule, okCell, okPool, Valid}
 use Rattle.pool.specs.Unfold.{shape, earlier, unfoldTo, unfoldAt}
 use Rattle.pool.specs.Growth.{operands, Reach, AllReached, Grown, NodeIs, Pushed, Room, Sized, Made}
 
@@ -93,6 +93,9 @@ module _ {a b : List ℕ} {k k′ : ℕ} (g : Grown a k b k′) where
   pub width-kept : (n : ℕ) → n < k → widthAt b n ≡ widthAt a n
   width-kept n l = rw (g .below (4 * n) (omega arith))
 
+  pub set-kept : (n : ℕ) → n < k → setAt b n ≡ setAt a n
+  set-kept n l = rw (g .below (4 * n) (omega arith))
+
   to-kept : (f n : ℕ) → n < k → unfoldTo f b n ≡ unfoldTo f a n
   unfolding unfoldTo
   to-kept zero n l = refl
@@ -124,25 +127,38 @@ module _ {a b : List ℕ} {k k′ : ℕ} (g : Grown a k b k′) where
   cell-ok-kept : (n : ℕ) (c : Cell) → n ≤ k → okCell b n c ≡ okCell a n c
   cell-ok-kept n c l = rw (before-kept n (c .a) l, before-kept n (c .b) l, before-kept n (c .c) l)
 
+  -- and the sets
+  sets-kept : (n m : ℕ) → n ≤ k → setBefore b n m ≡ setBefore a n m
+  sets-kept n m l = ifEarlier-same m n _ _ (λ h. set-kept m (lt-of-lt-of-le h l))
+
+  rule-kept : (n : ℕ) (c : Cell) → n ≤ k → setRule b n c ≡ setRule a n c
+  rule-kept n c l = rw (sets-kept n (c .a) l, sets-kept n (c .b) l, sets-kept n (c .c) l)
+
   ok-kept : (n : ℕ) → n ≤ k → okPool b n ≡ okPool a n
   unfolding okPool
   ok-kept zero l = refl
-  ok-kept (suc n) l = rw (ok-kept n (le-of-lt l), cell-kept n l, cell-ok-kept n (cellAt a n) (le-of-lt l))
+  ok-kept (suc n) l =
+      rw (ok-kept n (le-of-lt l), cell-kept n l, cell-ok-kept n (cellAt a n) (le-of-lt l), set-kept n l, rule-kept n (cellAt a n) (le-of-lt l))
 
 -- ---- four words written
 
 -- the cell that packed words decode to
-pub packed : (code w i j l x y : ℕ) → code < 65536 → i < 65536 → j < 65536
-    → decode (kindWord code w) (operandWord i j l) x y ≡ record { kind = kindAt code; width = w; a = i; b = j; c = l; x = x; y = y }
+pub packed : (code w s i j l x y : ℕ) → code < 65536 → w < 65536 → i < 65536 → j < 65536
+    → decode (kindWord code w s) (operandWord i j l) x y ≡ record { kind = kindAt code; width = w; a = i; b = j; c = l; x = x; y = y }
 unfolding decode
-packed code w i j l x y p q r =
-    let e0 : (code + 65536 * w) % 65536 ≡ code = omega arith in
-    let e1 : (code + 65536 * w) / 65536 ≡ w = omega arith in
+packed code w s i j l x y p t q r =
+    let e0 : (code + 65536 * w + 4294967296 * s) % 65536 ≡ code = omega arith in
+    let q1 : (code + 65536 * w + 4294967296 * s) / 65536 ≡ w + 65536 * s = omega arith in
+    let e1 : (w + 65536 * s) % 65536 ≡ w = omega arith in
     let e2 : (i + 65536 * j + 4294967296 * l) % 65536 ≡ i = omega arith in
     let q3 : (i + 65536 * j + 4294967296 * l) / 65536 ≡ j + 65536 * l = omega arith in
     let e3 : (j + 65536 * l) % 65536 ≡ j = omega arith in
     let e4 : (i + 65536 * j + 4294967296 * l) / 4294967296 ≡ l = omega arith in
-    rw (e0, e1, e2, q3, e3, e4)
+    rw (e0, q1, e1, e2, q3, e3, e4)
+
+-- and the set
+pub packed-set : (code w s : ℕ) → code < 65536 → w < 65536 → setOf (kindWord code w s) ≡ s
+packed-set code w s p t = omega arith
 
 write-other : (ws : List ℕ) (k w0 w1 x y i : ℕ) → (i < 4 * k) ⊎ (4 * (k + 1) ≤ i) → getD (writeNode ws k w0 w1 x y) i 0 ≡ getD ws i 0
 write-other ws k w0 w1 x y i h =
@@ -175,6 +191,15 @@ module _ (ws : List ℕ) (k w0 w1 x y : ℕ) (room : 4 * (k + 1) ≤ length ws) 
       ∙ getD-set-same ws (4 * k) w0 0 (omega arith) in
       λ i. decode (f0 i) (f1 i) (f2 i) (f3 i)
 
+  write-set : setAt (writeNode ws k w0 w1 x y) k ≡ setOf w0
+  write-set =
+      let l1 = set ws (4 * k) w0 in
+      let l2 = set l1 (4 * k + 1) w1 in
+      let l3 = set l2 (4 * k + 2) x in
+      ap setOf
+      (getD-set-other l3 (4 * k + 3) (4 * k) y 0 (omega arith) ∙ getD-set-other l2 (4 * k + 2) (4 * k) x 0 (omega arith)
+      ∙ getD-set-other l1 (4 * k + 1) (4 * k) w1 0 (omega arith) ∙ getD-set-same ws (4 * k) w0 0 (omega arith))
+
   write-grown : Grown ws k (writeNode ws k w0 w1 x y) (k + 1)
   write-grown =
       record {
@@ -184,21 +209,24 @@ module _ (ws : List ℕ) (k w0 w1 x y : ℕ) (room : 4 * (k + 1) ≤ length ws) 
         above = λ i l. write-other ws k w0 w1 x y i (inr l);
       }
 
--- one node more, of which the cell is told
-pub record Appended (old : List ℕ) (k : ℕ) (new : List ℕ) (r k′ : ℕ) (cell : Cell) : Type 0 where
+-- one node more, of which the cell and the set are told
+pub record Appended (old : List ℕ) (k : ℕ) (new : List ℕ) (r k′ : ℕ) (cell : Cell) (s : ℕ) : Type 0 where
   pub at : r ≡ k
   pub next : k′ ≡ k + 1
   pub grown : Grown old k new (k + 1)
   pub cell-is : cellAt new k ≡ cell
+  pub set-is : setAt new k ≡ s
 
-pub appended : {old : List ℕ} {k : ℕ} {new : List ℕ} {r k′ w0 w1 w2 w3 : ℕ} {cell : Cell} → Room old k 1 → Pushed old k new r k′ w0 w1 w2 w3 → decode w0 w1 w2 w3 ≡ cell
-    → Appended old k new r k′ cell
-appended {old} {k} {w0 = w0} {w1} {w2} {w3} m p e =
+pub appended : {old : List ℕ} {k : ℕ} {new : List ℕ} {r k′ w0 w1 w2 w3 s : ℕ} {cell : Cell} → Room old k 1 → Pushed old k new r k′ w0 w1 w2 w3 → decode w0 w1 w2 w3 ≡ cell
+    → setOf w0 ≡ s
+    → Appended old k new r k′ cell s
+appended {old} {k} {w0 = w0} {w1} {w2} {w3} m p e f =
     record {
       at = p .at;
       next = p .next;
       grown = rw (p .words) (write-grown old k w0 w1 w2 w3 (m .words));
       cell-is = rw (p .words) (write-cell old k w0 w1 w2 w3 (m .words) ∙ e);
+      set-is = rw (p .words) (write-set old k w0 w1 w2 w3 (m .words) ∙ f);
     }
 
 -- ---- what one node more makes
@@ -215,33 +243,35 @@ all-reached : (ws : List ℕ) (k : ℕ) (ms : List ℕ) → AllBelow k ms → ((
 all-reached ws k [] h f = tt
 all-reached ws k (m ∷ ms) h f = (Reach.down Reach.here (h .0) (f m (List·Memᴰ·head refl)), all-reached ws k ms (h .1) (λ n o. f n (List·Memᴰ·tail o)))
 
-module _ {old new : List ℕ} {k : ℕ} (cell : Cell) (g : Grown old k new (k + 1)) (e : cellAt new k ≡ cell) where
+module _ {old new : List ℕ} {k s : ℕ} (cell : Cell) (g : Grown old k new (k + 1)) (e : cellAt new k ≡ cell) (f : setAt new k ≡ s) where
   term-kept : termOf new k cell ≡ termOf old k cell
   term-kept =
       shape-same cell (earlier-same _ k _ _ (λ l. unfold-kept g (cell .a) l)) (earlier-same _ k _ _ (λ l. unfold-kept g (cell .b) l))
       (earlier-same _ k _ _ (λ l. unfold-kept g (cell .c) l))
 
-  valid-more : Valid old k → okCell old k cell ≡ true → Valid new (k + 1)
+  valid-more : Valid old k → okCell old k cell ≡ true → s ≡ setRule old k cell → Valid new (k + 1)
   unfolding okPool
-  valid-more v o = rw (add-one k, ok-kept g k (le-refl k), v, e, cell-ok-kept g k cell (le-refl k)) o
+  valid-more v o q =
+      rw (add-one k, ok-kept g k (le-refl k), v, e, cell-ok-kept g k cell (le-refl k), o, f, rule-kept g k cell (le-refl k), q) (eq-eqb (setRule old k cell) (setRule old k cell) refl)
 
   wide-is : widthAt new k ≡ cell .width
   unfolding decode
   wide-is = ap (λ (c : Cell). c .width) e
 
-  made-at : Valid old k → okCell old k cell ≡ true → AllBelow k (operands cell) → Made old k new k (k + 1) (cell .width) (termOf old k cell) (operands cell)
-  made-at v o b =
+  made-at : Valid old k → okCell old k cell ≡ true → s ≡ setRule old k cell → AllBelow k (operands cell) → Made old k new k (k + 1) (cell .width) (termOf old k cell) (operands cell)
+  made-at v o q b =
       record {
         grown = g;
-        valid = valid-more v o;
+        valid = valid-more v o q;
         is = record { under = omega arith; wide = wide-is; tree = unfold-step new k cell e ∙ term-kept };
         all = λ m l h. subst (λ (n : ℕ). Reach new k n) (omega arith) Reach.here;
         ins-reached = all-reached new k (operands cell) b (λ m h. subst (λ (c : Cell). List·Memᴰ m (operands c)) (sym e) h);
       }
 
-pub made-of : {old new : List ℕ} {k r k′ : ℕ} {cell : Cell} → Appended old k new r k′ cell → Valid old k → okCell old k cell ≡ true → AllBelow k (operands cell)
+pub made-of : {old new : List ℕ} {k r k′ s : ℕ} {cell : Cell} → Appended old k new r k′ cell s → Valid old k → okCell old k cell ≡ true → s ≡ setRule old k cell
+    → AllBelow k (operands cell)
     → Made old k new r k′ (cell .width) (termOf old k cell) (operands cell)
-made-of {old} {new} {k} {r} {k′} {cell} p v o b = rw (p .at, p .next) (made-at cell (p .grown) (p .cell-is) v o b)
+made-of {old} {new} {k} {r} {k′} {s} {cell} p v o q b = rw (p .at, p .next) (made-at cell (p .grown) (p .cell-is) (p .set-is) v o q b)
 
-pub sized-of : {old new : List ℕ} {k r k′ : ℕ} {cell : Cell} → Appended old k new r k′ cell → Sized old k new r k′ 1
+pub sized-of : {old new : List ℕ} {k r k′ s : ℕ} {cell : Cell} → Appended old k new r k′ cell s → Sized old k new r k′ 1
 sized-of p = record { long = p .grown .long; more = omega (arith, p .next); most = omega (arith, p .next); under = omega (arith, p .at, p .next) }

@@ -40,15 +40,31 @@ compareCode Eq = 12
 compareCode Ult = 13
 compareCode Slt = 14
 
--- word 0: kind + 65,536 × width
-abbrev pub kindWord : ℕ → ℕ → ℕ
-kindWord k w = k + 65536 * w
+-- a kind's number
+abbrev pub codeOf : Kind → ℕ
+codeOf bad = 0
+codeOf var = 1
+codeOf const = 2
+codeOf (bv o) = bvCode o
+codeOf (compare o) = compareCode o
+codeOf ite = 15
+codeOf extract = 16
+codeOf concat = 17
+codeOf zext = 18
+codeOf sext = 19
+
+-- word 0: kind + 65,536 × width + 2^32 × set; bit r of the set is for register r
+abbrev pub kindWord : ℕ → ℕ → ℕ → ℕ
+kindWord k w s = k + 65536 * w + 4294967296 * s
 
 abbrev pub kindOf : ℕ → ℕ
 kindOf w0 = w0 % 65536
 
 abbrev pub widthOf : ℕ → ℕ
-widthOf w0 = w0 / 65536
+widthOf w0 = w0 / 65536 % 65536
+
+abbrev pub setOf : ℕ → ℕ
+setOf w0 = w0 / 4294967296
 
 -- word 1: A + 2^16 × B + 2^32 × C. C takes all from bit 32 on, so that no bit goes unread.
 abbrev pub operandWord : ℕ → ℕ → ℕ → ℕ
@@ -92,6 +108,10 @@ kindNumber ws n = kindOf (getD ws (4 * n) 0)
 
 abbrev pub widthAt : List ℕ → ℕ → ℕ
 widthAt ws n = widthOf (getD ws (4 * n) 0)
+
+-- the set of the registers beneath node n
+abbrev pub setAt : List ℕ → ℕ → ℕ
+setAt ws n = setOf (getD ws (4 * n) 0)
 
 -- the words with those of node n written
 abbrev pub writeNode : List ℕ → ℕ → (w0 w1 w2 w3 : ℕ) → List ℕ

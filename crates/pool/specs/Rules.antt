@@ -4,7 +4,8 @@ use mathlib.Core.List.{List}
 use mathlib.Core.Path.{_≡_}
 use Prim.Native.Nat.{ℕ, zero, suc, _+_, _-_, _^_}
 use lib.Dec.{ltb, leb, eqb}
-use Rattle.pool.specs.Node.{Kind, bad, var, const, bv, compare, ite, extract, concat, zext, sext, Cell, cellAt, widthAt, wide, places}
+use lib.Bits.{bitOr}
+use Rattle.pool.specs.Node.{Kind, bad, var, const, bv, compare, ite, extract, concat, zext, sext, Cell, cellAt, widthAt, setAt, wide, places}
 
 -- 1 to 129, the widths of a vector term
 abbrev pub wideOk : ℕ → Bool
@@ -37,8 +38,28 @@ okKind sext n k A B C = wideOk (k .width) && ltb (k .a) n && eqb (k .b) 0 && eqb
 abbrev pub okCell : List ℕ → ℕ → Cell → Bool
 okCell ws n k = okKind (k .kind) n k (widthBefore ws n (k .a)) (widthBefore ws n (k .b)) (widthBefore ws n (k .c))
 
+-- the registers beneath a node, over the sets of its operands
+abbrev pub setOver : Kind → (x A B C : ℕ) → ℕ
+setOver bad x A B C = 0
+setOver var x A B C = 2 ^ x
+setOver const x A B C = 0
+setOver (bv o) x A B C = bitOr A B
+setOver (compare o) x A B C = bitOr A B
+setOver ite x A B C = bitOr (bitOr A B) C
+setOver extract x A B C = A
+setOver concat x A B C = bitOr A B
+setOver zext x A B C = A
+setOver sext x A B C = A
+
+-- the set of the operand m of node n, as its width
+abbrev pub setBefore : List ℕ → ℕ → ℕ → ℕ
+setBefore ws n m = ifEarlier (ltb m n) (setAt ws m)
+
+abbrev pub setRule : List ℕ → ℕ → Cell → ℕ
+setRule ws n k = setOver (k .kind) (k .x) (setBefore ws n (k .a)) (setBefore ws n (k .b)) (setBefore ws n (k .c))
+
 abbrev pub okNode : List ℕ → ℕ → Bool
-okNode ws n = okCell ws n (cellAt ws n)
+okNode ws n = okCell ws n (cellAt ws n) && eqb (setAt ws n) (setRule ws n (cellAt ws n))
 
 -- every node below count keeps the rules
 unfoldable pub okPool : List ℕ → ℕ → Bool

@@ -12,14 +12,14 @@ use Rattle.facts.proofs.Tests.{and-both}
 use Rattle.terms.specs.Expr.{Expr, Extract}
 use Rattle.pool.specs.declared.Node.{Node}
 use Rattle.pool.specs.declared.Built.{Built}
-use Rattle.pool.specs.Node.{Kind, bad, var, const, bv, compare, ite, extract, concat, zext, sext, kinds, kindAt, Cell, decode, cellAt, wordAt, kindNumber, widthAt}
+use Rattle.pool.specs.Node.{Kind, bad, var, const, bv, compare, ite, extract, concat, zext, sext, kinds, kindAt, codeOf, Cell, decode, cellAt, wordAt, kindNumber, widthAt}
 use Rattle.node_fields.specs.Fields.{opA}
 use Rattle.pool.specs.Rules.{Valid, widthBefore}
 use Rattle.pool.specs.Unfold.{shapeOf, unfoldAt}
 use Rattle.pool.specs.Growth.{NodeIs}
 use Rattle.nodes.specs.Builders.{MadeExtract}
 use Rattle.pool.proofs.Laws.{unfold-step}
-use Rattle.pool.proofs.Facts.{codeOf, kind-code, valid-node, ExtractRule, extract-rule}
+use Rattle.pool.proofs.Facts.{kind-code, valid-node, ExtractRule, extract-rule}
 use Rattle.pool.proofs.Steps.{forget}
 use Rattle.node_rules.proofs.Kept.{Ok, most-bad, most-var, most-const, most-bv, most-compare, most-ite, most-extract, most-concat, most-zext}
 use Rattle.trees.specs.Simd.{extractCollapsing as cut, extractLane}

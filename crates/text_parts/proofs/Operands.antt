@@ -123,7 +123,7 @@ width-most : (ws : List ℕ) (n : ℕ) → Ready ws n → widthAt ws n ≤ 129
 width-most ws n r = most ws (suc n) n (omega arith) r
 
 -- a node with no width is a comparison
-condition-kind : (ws : List ℕ) (n : ℕ) → Ready ws n → widthAt ws n ≡ 0 → (12 ≤ kindNumber ws n) × (kindNumber ws n < 15)
+pub condition-kind : (ws : List ℕ) (n : ℕ) → Ready ws n → widthAt ws n ≡ 0 → (12 ≤ kindNumber ws n) × (kindNumber ws n < 15)
 unfolding decode
 condition-kind ws n r z = (go (ltb (kindNumber ws n) 12) refl, up (ltb (kindNumber ws n) 15) refl)
   where

@@ -35,7 +35,7 @@ module _ (start : ℕ → ℕ) where
       go true = refl
       go false = refl
 
-  step-is : (c : Instruction) → Legal c → (t : ℕ → Expr) (x : ℕ) → value start (treeStep c t x) ≡ armStep c (λ y. value start (t y)) x
+  pub step-is : (c : Instruction) → Legal c → (t : ℕ → Expr) (x : ℕ) → value start (treeStep c t x) ≡ armStep c (λ y. value start (t y)) x
   unfolding treeStep recordTree armStep
   step-is c k t x =
       let o = opAt (c .operation) in

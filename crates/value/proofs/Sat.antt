@@ -32,7 +32,7 @@ pub record Next (n : ℕ) : Type 0 where
 pub next : (n : ℕ) → 0 < n → Next n
 next n h = record { top = ap (λ (k : ℕ). 2 ^ k) (omega arith); all = pow-add 2 n 1 ∙ omega arith; bits = half n h; some = pow-pos (n - 1) }
 
-zero-fits : (w : ℕ) → FitsS w (pos 0)
+pub zero-fits : (w : ℕ) → FitsS w (pos 0)
 zero-fits w = record { low = omega arith; high = omega (arith, pow-pos (w - 1)) }
 
 -- a value with a constant added, or not
@@ -73,7 +73,7 @@ plus-fits true false n c x hn h f = record { low = omega (arith, next n hn); hig
 plus-fits false false n c x hn h f = record { low = omega (arith, next n hn); high = omega (arith, next n hn) }
 
 -- a product of two signed numbers of n bits is at most 2 ^ (n - 1) squared
-product-bound : (h : ℕ) (x y : ℤ) → dn x ≤ up x + h → up x < dn x + h → dn y ≤ up y + h → up y < dn y + h
+pub product-bound : (h : ℕ) (x y : ℤ) → dn x ≤ up x + h → up x < dn x + h → dn y ≤ up y + h → up y < dn y + h
     → (up (x *ℤ y) ≤ dn (x *ℤ y) + h * h) × (dn (x *ℤ y) ≤ up (x *ℤ y) + h * h)
 product-bound h (pos a) (pos b) l u m v =
     (omega (arith, mul-le-mul {n₁ = a} {m₁ = b} {n₂ = h} {m₂ = h} (omega arith) (omega arith)), omega arith)
@@ -109,7 +109,7 @@ module _ (r : ℕ → ℕ) where
   is-apply false p q = is-add r p q
   is-apply true p q = is-sub r p q
 
-  apply-fits : (subtract : Bool) {n : ℕ} {x y : ℤ} → 0 < n → FitsS n x → FitsS n y → FitsS (n + 1) (applyZ subtract x y)
+  pub apply-fits : (subtract : Bool) {n : ℕ} {x y : ℤ} → 0 < n → FitsS n x → FitsS n y → FitsS (n + 1) (applyZ subtract x y)
   apply-fits false hn f g = sumS hn f g
   apply-fits true hn f g = lessS hn f g
 
@@ -121,7 +121,7 @@ module _ (r : ℕ → ℕ) where
         is-clampS r hn (omega arith) (apply-fits subtract hn f g) (is-apply subtract (is-extend r true hn (omega arith) f p) (is-extend r true hn (omega arith) g q))
 
     -- the doubled product at any width above it
-    doubled-fits : (w : ℕ) → 2 ^ (w - 1) ≡ 4 * (2 ^ (n - 1) * 2 ^ (n - 1)) → FitsS w (x *ℤ y *ℤ pos 2)
+    pub doubled-fits : (w : ℕ) → 2 ^ (w - 1) ≡ 4 * (2 ^ (n - 1) * 2 ^ (n - 1)) → FitsS w (x *ℤ y *ℤ pos 2)
     doubled-fits w e =
         let k = product-bound (2 ^ (n - 1)) x y (f .low) (f .high) (g .low) (g .high) in
         let t = times (x *ℤ y) (pos 2) in
@@ -131,15 +131,15 @@ module _ (r : ℕ → ℕ) where
         mul-pos : 0 < 2 ^ (n - 1) * 2 ^ (n - 1)
         mul-pos = omega (arith, mul-le-mul {n₁ = 1} {m₁ = 1} (pow-pos (n - 1)) (pow-pos (n - 1)))
 
-    is-doubled : (w : ℕ) → n ≤ w → Is r (Bv Shl (Bv Mul (extend a w true) (extend b w true)) (Const 1 w)) w (x *ℤ y *ℤ pos 2)
+    pub is-doubled : (w : ℕ) → n ≤ w → Is r (Bv Shl (Bv Mul (extend a w true) (extend b w true)) (Const 1 w)) w (x *ℤ y *ℤ pos 2)
     is-doubled w h = is-shl r (is-mul r (is-extend r true hn h f p) (is-extend r true hn h g q)) (by-const r 1 w)
 
     -- at n * 2 + 1 bits the doubled product has room for half a unit
-    high-power : 2 ^ (n * 2 + 1 - 1) ≡ 4 * (2 ^ (n - 1) * 2 ^ (n - 1))
+    pub high-power : 2 ^ (n * 2 + 1 - 1) ≡ 4 * (2 ^ (n - 1) * 2 ^ (n - 1))
     high-power =
         ap (λ (k : ℕ). 2 ^ k) (omega arith) ∙ pow-add 2 n n ∙ ap₂ _*_ (half n hn) (half n hn) ∙ omega arith
 
-    high-fits : (rounding : Bool) → FitsS (n * 2 + 1) (plus rounding (x *ℤ y *ℤ pos 2) (2 ^ (n - 1)))
+    pub high-fits : (rounding : Bool) → FitsS (n * 2 + 1) (plus rounding (x *ℤ y *ℤ pos 2) (2 ^ (n - 1)))
     high-fits false = doubled-fits (n * 2 + 1) high-power
     high-fits true =
         let k = product-bound (2 ^ (n - 1)) x y (f .low) (f .high) (g .low) (g .high) in
@@ -171,23 +171,23 @@ module _ (r : ℕ → ℕ) where
 
   -- ---- one signed lane: the negative and the absolute value
   module _ (a b : Expr) (n : ℕ) (x : ℤ) (hn : 0 < n) (f : FitsS n x) (p : Is r a n x) where
-    wide-x : Is r (extend a (n + 1) true) (n + 1) x
+    pub wide-x : Is r (extend a (n + 1) true) (n + 1) x
     wide-x = is-extend r true hn (omega arith) f p
 
-    minus : Is r (Bv Sub (Const 0 (n + 1)) (extend a (n + 1) true)) (n + 1) (negℤ x)
+    pub minus : Is r (Bv Sub (Const 0 (n + 1)) (extend a (n + 1) true)) (n + 1) (negℤ x)
     minus = is-eq r (+ℤ-idl (negℤ x)) (is-sub r (is-const r 0 (n + 1) (pow-pos (n + 1))) wide-x)
 
-    minus-fits : FitsS (n + 1) (negℤ x)
+    pub minus-fits : FitsS (n + 1) (negℤ x)
     minus-fits = record { low = omega (arith, neg-up x, neg-dn x, next n hn); high = omega (arith, neg-up x, neg-dn x, next n hn) }
 
-    x-fits : FitsS (n + 1) x
+    pub x-fits : FitsS (n + 1) x
     x-fits = record { low = omega (arith, next n hn); high = omega (arith, next n hn) }
 
-    abs-is : (x : ℤ) → cond (ltZ x (pos 0)) (negℤ x) x ≡ pos (natAbs x)
+    pub abs-is : (x : ℤ) → cond (ltZ x (pos 0)) (negℤ x) x ≡ pos (natAbs x)
     abs-is (pos m) = rw (ge-is (pos m) (pos 0) (omega arith))
     abs-is (negsuc m) = refl
 
-    abs-fits : (x : ℤ) → FitsS (n + 1) x → FitsS (n + 1) (negℤ x) → FitsS (n + 1) (pos (natAbs x))
+    pub abs-fits : (x : ℤ) → FitsS (n + 1) x → FitsS (n + 1) (negℤ x) → FitsS (n + 1) (pos (natAbs x))
     abs-fits (pos m) f g = f
     abs-fits (negsuc m) f g = g
 
@@ -223,10 +223,10 @@ module _ (r : ℕ → ℕ) where
       sum-fits : Fits s (n * 2 + 1) (plus rounding x (2 ^ (i - 1)))
       sum-fits = plus-fits s rounding (n * 2) (2 ^ (i - 1)) x (omega arith) unit-small f
 
-      narrow-fits : Fits s (n * 2 + 1) (floor (plus rounding x (2 ^ (i - 1))) i)
+      pub narrow-fits : Fits s (n * 2 + 1) (floor (plus rounding x (2 ^ (i - 1))) i)
       narrow-fits = floor-fits s (n * 2 + 1) (plus rounding x (2 ^ (i - 1))) (2 ^ i) (pow-pos i) sum-fits
 
-      shifted : Is r (shiftBy s (plusIf rounding (extend a (n * 2 + 1) s) (Const (2 ^ (i - 1)) (n * 2 + 1))) (Const i (n * 2 + 1))) (n * 2 + 1)
+      pub shifted : Is r (shiftBy s (plusIf rounding (extend a (n * 2 + 1) s) (Const (2 ^ (i - 1)) (n * 2 + 1))) (Const i (n * 2 + 1))) (n * 2 + 1)
           (floor (plus rounding x (2 ^ (i - 1))) i)
       shifted =
           is-shift r s (omega arith) sum-fits
@@ -255,7 +255,7 @@ module _ (r : ℕ → ℕ) where
 
   -- ---- doubling, long: the source lanes have h bits, the result h * 2
   module _ (a b : Expr) (h : ℕ) (x y : ℤ) (hh : 0 < h) (f : FitsS h x) (g : FitsS h y) (p : Is r a h x) (q : Is r b h y) where
-    long-power : 2 ^ (h * 2 + 1 - 1) ≡ 4 * (2 ^ (h - 1) * 2 ^ (h - 1))
+    pub long-power : 2 ^ (h * 2 + 1 - 1) ≡ 4 * (2 ^ (h - 1) * 2 ^ (h - 1))
     long-power = high-power a b h x y hh f g p q
 
     pub is-dmull : Is r (doublingProduct a b (h * 2)) (h * 2) (cS (h * 2) (x *ℤ y *ℤ pos 2))
@@ -274,7 +274,7 @@ module _ (r : ℕ → ℕ) where
 
   -- ---- the mixed signs, at n + 2 bits
   module _ (d a : Expr) (n : ℕ) (z x : ℤ) (hn : 0 < n) (o : Is r d n z) (p : Is r a n x) where
-    two-power : 2 ^ (n + 2 - 1) ≡ 4 * 2 ^ (n - 1)
+    pub two-power : 2 ^ (n + 2 - 1) ≡ 4 * 2 ^ (n - 1)
     two-power = ap (λ (k : ℕ). 2 ^ k) (omega arith) ∙ pow-add 2 n 1 ∙ omega (arith, half n hn)
 
     pub is-suqadd : FitsS n z → FitsU n x → Is r (mixedSignAddLane true d a n) n (cS n (z +ℤ x))

@@ -7,7 +7,8 @@ use Rattle.pool.specs.Growth.{Room}
 use Rattle.block_check.specs.Records.{recordsFrom}
 use Rattle.block_check.proofs.Refusals.{from-length}
 use Rattle.block.specs.Block.{Runs}
-use Rattle.block.proofs.Running.{runs-none, legal-here, runs-next, runs-all}
+use Rattle.block.proofs.Running.{runs-none, runs-next, runs-all}
+use Rattle.block_check.proofs.Refusals.{legal-here}
 use Rattle.block.proofs.run_records.Statement.{statement}
 use Rattle.block.proofs.run_records.Tie as tie
 

@@ -9,6 +9,9 @@ bv-code-requires c κs = search needs
 width-requires : tie.Need-width-requires
 width-requires c κs = search needs
 
+union-requires : tie.Need-union-requires
+union-requires c κs = search needs
+
 kind-word-requires : tie.Need-kind-word-requires
 kind-word-requires c κs = search needs
 
@@ -26,10 +29,12 @@ returns c =
     let l-push = c .before .before in
     let l-operand-word = l-push .before in
     let l-kind-word = l-operand-word .before .before in
-    let l-width = l-kind-word .before in
+    let l-union = l-kind-word .before in
+    let l-width = l-union .before .before in
     let l-bv-code = l-width .before .before in
     let st = l-bv-code .before .before in
-    bv-built (st .pre .0) (st .pre .1 .0) (st .pre .1 .1) (l-bv-code .bv-code .ensures .0) (l-width .width .ensures .0) (l-kind-word .kind-word .ensures) (l-operand-word .operand-word .ensures) (l-push .push .ensures)
+    bv-built (st .pre .0) (st .pre .1 .0) (st .pre .1 .1) (l-bv-code .bv-code .ensures .0) (l-width .width .ensures .0) (l-union .union .ensures .0) (l-kind-word .kind-word .ensures)
+    (l-operand-word .operand-word .ensures) (l-push .push .ensures)
 
 pub bv-spec : {M : Type 1} → statement M
 bv-spec =
@@ -37,6 +42,7 @@ bv-spec =
     (tie.spec
     bv-code-requires
     width-requires
+    union-requires
     kind-word-requires
     operand-word-requires
     push-requires

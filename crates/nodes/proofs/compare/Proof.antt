@@ -6,6 +6,9 @@ use Rattle.nodes.proofs.compare.Tie as tie
 compare-code-requires : tie.Need-compare-code-requires
 compare-code-requires c κs = search needs
 
+union-requires : tie.Need-union-requires
+union-requires c κs = search needs
+
 kind-word-requires : tie.Need-kind-word-requires
 kind-word-requires c κs = search needs
 
@@ -23,15 +26,18 @@ returns c =
     let l-push = c .before .before in
     let l-operand-word = l-push .before in
     let l-kind-word = l-operand-word .before .before in
-    let l-compare-code = l-kind-word .before in
+    let l-union = l-kind-word .before in
+    let l-compare-code = l-union .before .before in
     let st = l-compare-code .before .before in
-    compare-built (st .pre .0) (st .pre .1 .0) (st .pre .1 .1) (l-compare-code .compare-code .ensures .0) (l-kind-word .kind-word .ensures) (l-operand-word .operand-word .ensures) (l-push .push .ensures)
+    compare-built (st .pre .0) (st .pre .1 .0) (st .pre .1 .1) (l-compare-code .compare-code .ensures .0) (l-union .union .ensures .0) (l-kind-word .kind-word .ensures)
+    (l-operand-word .operand-word .ensures) (l-push .push .ensures)
 
 pub compare-spec : {M : Type 1} → statement M
 compare-spec =
     tie.close
     (tie.spec
     compare-code-requires
+    union-requires
     kind-word-requires
     operand-word-requires
     push-requires

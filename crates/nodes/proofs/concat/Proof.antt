@@ -9,8 +9,11 @@ width-requires c κs = search needs
 width-requires-2 : tie.Need-width-requires-2
 width-requires-2 c κs = search needs
 
-add-kind-word : tie.Need-add-kind-word
-add-kind-word c = search needs
+add-bits : tie.Need-add-bits
+add-bits c = search needs
+
+union-requires : tie.Need-union-requires
+union-requires c κs = search needs
 
 kind-word-requires : tie.Need-kind-word-requires
 kind-word-requires c κs = search needs
@@ -29,10 +32,12 @@ returns c =
     let l-push = c .before .before in
     let l-operand-word = l-push .before in
     let l-kind-word = l-operand-word .before .before in
-    let l-width2 = l-kind-word .before in
+    let l-union = l-kind-word .before in
+    let l-width2 = l-union .before .before in
     let l-width = l-width2 .before .before in
     let st = l-width .before .before .before in
-    concat-built (st .pre .0) (st .pre .1 .0) (st .pre .1 .1) (l-width .width .ensures .0) (l-width2 .width2 .ensures .0) (l-kind-word .kind-word .ensures) (l-operand-word .operand-word .ensures) (l-push .push .ensures)
+    concat-built (st .pre .0) (st .pre .1 .0) (st .pre .1 .1) (l-width .width .ensures .0) (l-width2 .width2 .ensures .0) (l-union .union .ensures .0) (l-kind-word .kind-word .ensures)
+    (l-operand-word .operand-word .ensures) (l-push .push .ensures)
 
 pub concat-spec : {M : Type 1} → statement M
 concat-spec =
@@ -40,7 +45,8 @@ concat-spec =
     (tie.spec
     width-requires
     width-requires-2
-    add-kind-word
+    add-bits
+    union-requires
     kind-word-requires
     operand-word-requires
     push-requires

@@ -9,6 +9,9 @@ sub-kind-word c = search needs
 add-kind-word : tie.Need-add-kind-word
 add-kind-word c = search needs
 
+set-of-requires : tie.Need-set-of-requires
+set-of-requires c κs = search needs
+
 kind-word-requires : tie.Need-kind-word-requires
 kind-word-requires c κs = search needs
 
@@ -26,8 +29,10 @@ returns c =
     let l-push = c .before .before in
     let l-operand-word = l-push .before in
     let l-kind-word = l-operand-word .before .before in
-    let st = l-kind-word .before .before .before .before in
-    extract-built (st .pre .0) (st .pre .1 .0) (st .pre .1 .1) (l-kind-word .kind-word .ensures) (l-operand-word .operand-word .ensures) (l-push .push .ensures)
+    let l-set-of = l-kind-word .before in
+    let st = l-set-of .before .before .before .before .before in
+    extract-built (st .pre .0) (st .pre .1 .0) (st .pre .1 .1) (st .pre .1 .2) (l-set-of .set-of .ensures .0) (l-kind-word .kind-word .ensures) (l-operand-word .operand-word .ensures)
+    (l-push .push .ensures)
 
 pub extract-spec : {M : Type 1} → statement M
 extract-spec =
@@ -35,6 +40,7 @@ extract-spec =
     (tie.spec
     sub-kind-word
     add-kind-word
+    set-of-requires
     kind-word-requires
     operand-word-requires
     push-requires

@@ -17,7 +17,7 @@ returns c =
     let l-push = c .before .before in
     let l-kind-word = l-push .before in
     let st = l-kind-word .before .before .before in
-    const-built (st .pre .0) (l-kind-word .kind-word .ensures) (l-push .push .ensures)
+    const-built (st .pre .0) (st .pre .1) (l-kind-word .kind-word .ensures) (l-push .push .ensures)
 
 pub konst-spec : {M : Type 1} → statement M
 konst-spec = tie.close (tie.spec kind-word-requires push-requires same-length returns)
