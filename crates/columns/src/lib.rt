@@ -1,7 +1,8 @@
 // Numbers in columns: right-justified decimals in fields of 4 characters, read and written. The Rust has no counterpart.
 use digits::put;
+use digits::tens_of;
 ghost use mathlib.Core.Path.{_≡_};
-ghost use Prim.Native.Nat.{_+_, _≤_, _<_};
+ghost use Prim.Native.Nat.{_+_, _%_, _≤_, _<_};
 ghost use lib.ListN.{length};
 ghost use Rattle.digits.specs.Writing.{Room, Wrote};
 ghost use Rattle.columns.specs.Columns.{columns, characterOf, shown, fieldAt, isField};
@@ -28,15 +29,13 @@ pub fn field(line: &[u8], at: usize) -> u64
     1000 * a + 100 * b + 10 * c + d
 }
 
-// The character of a column but the last: `above` is the number that the digits up to this column make. A blank where it is 0.
-fn character(above: u64) -> u8
+// The character of a column but the last: `above` is the number that the digits up to this column make, `ones` the last of them. A blank
+// where `above` is 0.
+fn character(above: u64, ones: u64) -> u8
+    requires { ⌜ ones ≡ above % 10 ⌝ }
     ensures { λ r. ⌜ r ≡ characterOf above ⌝ }
 {
-    if above == 0 {
-        32
-    } else {
-        (48 + above % 10) as u8
-    }
+    if above == 0 { 32 } else { (48 + ones) as u8 }
 }
 
 // A number in columns.
@@ -44,11 +43,14 @@ fn written(x: u64) -> [u8; 4]
     requires { ⌜ x < 10000 ⌝ }
     ensures { λ r. ⌜ r ≡ columns x ⌝ }
 {
+    let tens = tens_of(x);
+    let hundreds = tens_of(tens.tens);
+    let thousands = tens_of(hundreds.tens);
     [
-        character(x / 1000),
-        character(x / 100),
-        character(x / 10),
-        (48 + x % 10) as u8,
+        character(thousands.tens, thousands.tens),
+        character(hundreds.tens, thousands.ones),
+        character(tens.tens, hundreds.ones),
+        (48 + tens.ones) as u8,
     ]
 }
 

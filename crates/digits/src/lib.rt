@@ -35,22 +35,62 @@ fn hex_digit(d: u64) -> u8
 }
 
 // A number as tens and ones.
-struct Tens {
-    tens: u64,
-    ones: u64,
+pub struct Tens {
+    pub tens: u64,
+    pub ones: u64,
 }
 
-// By subtracting, with no division: positions and widths have three digits at most.
-fn tens_of(x: u64) -> Tens
+// k tens more, where the ones have them. No loop: of one that subtracts tens the compiler makes a division.
+fn take_tens(t: Tens, k: u64) -> Tens
+    requires { ⌜ (k ≤ 8) × (t .tens ≤ 16) × (t .ones < 20 * k) ⌝ }
+    ensures { λ r. ⌜ (10 * r .tens + r .ones ≡ 10 * t .tens + t .ones) × (r .ones < 10 * k) × (r .tens ≤ t .tens + k) ⌝ }
+{
+    let size = 10 * k;
+    if t.ones < size {
+        return t;
+    }
+    Tens {
+        tens: t.tens + k,
+        ones: t.ones - size,
+    }
+}
+
+// Positions and widths are below 130.
+fn short_tens(x: u64) -> Tens
+    requires { ⌜ x < 160 ⌝ }
     ensures { λ r. ⌜ (10 * r .tens + r .ones ≡ x) × (r .ones < 10) ⌝ }
 {
-    let mut tens = 0;
-    let mut ones = x;
-    while 10 <= ones {
-        ones -= 10;
-        tens += 1;
+    let eight = take_tens(Tens { tens: 0, ones: x }, 8);
+    let four = take_tens(eight, 4);
+    let two = take_tens(four, 2);
+    take_tens(two, 1)
+}
+
+// A longer number is halved until it is short, and its tens and ones are doubled again.
+fn long_tens(x: u64) -> Tens
+    ensures { λ r. ⌜ (10 * r .tens + r .ones ≡ x) × (r .ones < 10) ⌝ }
+{
+    if x < 160 {
+        return short_tens(x);
     }
-    Tens { tens, ones }
+    let half = long_tens(x / 2);
+    let ones = 2 * half.ones + x % 2;
+    if ones < 10 {
+        return Tens {
+            tens: 2 * half.tens,
+            ones,
+        };
+    }
+    Tens {
+        tens: 2 * half.tens + 1,
+        ones: ones - 10,
+    }
+}
+
+pub fn tens_of(x: u64) -> Tens
+    ensures { λ r. ⌜ (10 * r .tens + r .ones ≡ x) × (r .ones < 10) ⌝ }
+{
+    if x < 160 { short_tens(x) } else { long_tens(x) }
 }
 
 // How many decimal digits a number below 1,000 has.

@@ -1,4 +1,5 @@
-use mathlib.Core.Path.{sym}
+use mathlib.Core.Path.{sym, ap}
+use Prim.Native.Nat.{ℕ, _+_}
 use borrow.Author.Tests.{eq-eqb, ne-eqb}
 use borrow.Author.Needs.{needs}
 use Rattle.columns.proofs.character.Statement.{statement}
@@ -20,7 +21,7 @@ returns-2 : tie.Need-returns-2
 returns-2 c =
     let l-if1 = c in
     let st = l-if1 .before in
-    sym (rw (ne-eqb (st .args .above) 0 (l-if1 .if1 .left)))
+    rw (ne-eqb (st .args .above) 0 (l-if1 .if1 .left)) (ap (λ (d : ℕ). 48 + d) (st .pre))
 
 pub character-spec : {M : Type 1} → statement M
 character-spec = tie.close (tie.spec add-result cast-result returns returns-2)

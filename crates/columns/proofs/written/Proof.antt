@@ -1,8 +1,21 @@
-use mathlib.Core.Path.{refl, sym, _∙_}
+-- written: the four characters are those of the number in columns.
+use mathlib.Core.Path.{_≡_, sym, ap, _∙_}
+use Prim.Native.Nat.{_/_}
+use native.Mathlib.Omega.{arith}
+use Rattle.columns.specs.Columns.{characterOf}
 use Rattle.columns.proofs.Characters.{four, columns-are}
 use borrow.Author.Needs.{needs}
 use Rattle.columns.proofs.written.Statement.{statement}
 use Rattle.columns.proofs.written.Tie as tie
+
+tens-of-requires : tie.Need-tens-of-requires
+tens-of-requires c κs = search needs
+
+tens-of-requires-2 : tie.Need-tens-of-requires-2
+tens-of-requires-2 c κs = search needs
+
+tens-of-requires-3 : tie.Need-tens-of-requires-3
+tens-of-requires-3 c κs = search needs
 
 character-requires : tie.Need-character-requires
 character-requires c κs = search needs
@@ -13,21 +26,31 @@ character-requires-2 c κs = search needs
 character-requires-3 : tie.Need-character-requires-3
 character-requires-3 c κs = search needs
 
-add-t9 : tie.Need-add-t9
-add-t9 c = search needs
+add-t8 : tie.Need-add-t8
+add-t8 c = search needs
 
-cast-t10 : tie.Need-cast-t10
-cast-t10 c = search needs
+cast-t9 : tie.Need-cast-t9
+cast-t9 c = search needs
 
 returns : tie.Need-returns
 returns c =
-    let l-character3 = c in
-    let l-character2 = l-character3 .before in
-    let l-character = l-character2 .before in
-    let st = l-character .before in
-    four (l-character .character .ensures) (l-character2 .character2 .ensures) (l-character3 .character3 .ensures) refl ∙ sym (columns-are (st .args .x) (st .pre))
+    let last = c .before in
+    let first = last .before .before in
+    let thousands = first .before in
+    let hundreds = thousands .before in
+    let tens = hundreds .before in
+    let x = tens .before .args .x in
+    let e1 : tens .tens-of .result .tens ≡ x / 10 = omega (arith, tens .tens-of .ensures) in
+    let e2 : hundreds .tens-of2 .result .tens ≡ x / 100 = omega (arith, tens .tens-of .ensures, hundreds .tens-of2 .ensures) in
+    let e3 : thousands .tens-of3 .result .tens ≡ x / 1000 = omega (arith, e2, thousands .tens-of3 .ensures) in
+    four
+    (first .character .ensures ∙ ap characterOf e3)
+    (last .before .character2 .ensures ∙ ap characterOf e2)
+    (last .character3 .ensures ∙ ap characterOf e1)
+    (omega (arith, tens .tens-of .ensures))
+    ∙ sym (columns-are x (tens .before .pre))
 
 pub written-spec : {M : Type 1} → statement M
 written-spec =
     tie.close
-    (tie.spec character-requires character-requires-2 character-requires-3 add-t9 cast-t10 returns)
+    (tie.spec tens-of-requires tens-of-requires-2 tens-of-requires-3 character-requires character-requires-2 character-requires-3 add-t8 cast-t9 returns)
