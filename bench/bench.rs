@@ -13,7 +13,7 @@ use std::io::Write;
 use std::process::{Command, Stdio};
 use std::time::Instant;
 
-use native::{bytes, lower_block, lower_instruction, pool_check, words, write_text};
+use native::{bytes, lower_block, lower_instruction, pool_check, text_length, words, write_text};
 use pools::{Node, Rng, grow, pool_words};
 
 type Record = [u64; 6];
@@ -78,7 +78,7 @@ fn build(rounds: u64, all: &[Record]) {
     println!("forms {}\nnodes {nodes}\nmost {most}\nbuild {:.0}", all.len(), time / all.len() as f64);
 }
 
-/// Mean time of a byte of text, over the terms of all forms: the pool check and the length with it.
+/// Mean times of a byte of text, over the terms of all forms: to ask for its length, and to write it.
 fn text(rounds: u64, all: &[Record]) {
     let terms: Vec<(Vec<u64>, usize, usize)> = all
         .iter()
@@ -90,6 +90,13 @@ fn text(rounds: u64, all: &[Record]) {
             (pool.items()[..4 * count].to_vec(), count, results.items()[0] as usize)
         })
         .collect();
+    let mut measured = 0;
+    let length = best(rounds, || {
+        measured = 0;
+        for (pool, count, node) in &terms {
+            measured += black_box(text_length(pool, *count, *node, 65536)).1;
+        }
+    });
     let mut buffer = bytes(65536);
     let mut written = 0;
     let time = best(rounds, || {
@@ -98,7 +105,8 @@ fn text(rounds: u64, all: &[Record]) {
             written += black_box(write_text(pool, *count, *node, &mut buffer)).1;
         }
     });
-    println!("bytes {written}\ntext {:.2}", time / written as f64);
+    assert_eq!(measured, written as u64, "each length is that of its text");
+    println!("bytes {written}\nlength {:.2}\ntext {:.2}", length / written as f64, time / written as f64);
 }
 
 /// A valid pool of 65,535 nodes of random kinds.

@@ -41,13 +41,14 @@ all in one run on one machine. The Rust's times are `oracle-bench`'s.
 |---|---|---|---|---|""")
 row("Build a term, mean of all forms", "ns", float(ours["build"]), rust_build, 4)
 row("Text, a byte", "ns", float(ours["text"]), rust_text, 3)
+row("Its length alone, a byte", "ns", float(ours["length"]), rust_text)
 row("Line program on all forms", "µs", float(ours["program"]), float(ours["program-rust"]), 2)
 row("Block of 85 records, a record", "ns", float(ours["block-85"]), rust_build)
 print(f"""
 There are {int(ours["forms"]):,} forms; their terms have {int(ours["nodes"]):,} new nodes, at most {ours["most"]} each, and {int(ours["bytes"]):,} bytes of text.
 Building is `neon_lower_instruction` on a pool of 35 nodes, the pool check with it; the Rust builds and drops its tree. Text is
-`neon_write_text`, the pool check and the length with it; the Rust writes to a string that has room. A record of a block is set
-beside the Rust's mean of building one tree.""")
+`neon_write_text`, the pool check and the length with it; its length alone is `neon_text_length`, the pool check with it; the Rust writes
+to a string that has room. A record of a block is set beside the Rust's mean of building one tree.""")
 
 
 def growth(name):

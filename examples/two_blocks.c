@@ -4,22 +4,39 @@
 
 #include "neon_terms.h"
 
+enum { CEILING = 65536 };
+
+/* Asks for the length of a text, and then writes it into as many bytes. */
+static uint64_t print_text(const uint64_t *pool, size_t words, size_t count, size_t node) {
+    uint8_t text[CEILING];
+    uint64_t length;
+    size_t written;
+    uint64_t number = neon_text_length(pool, words, count, node, CEILING, &length);
+    if (number != NEON_DONE) {
+        return number;
+    }
+    if (length > CEILING) {
+        return NEON_SHORT_BUFFER;
+    }
+    number = neon_write_text(pool, words, count, node, text, length, &written);
+    if (number == NEON_DONE) {
+        printf("%.*s\n", (int)written, (const char *)text);
+    }
+    return number;
+}
+
 static int show(const uint64_t *records, size_t count) {
     size_t words = NEON_BLOCK_WORDS(count);
     uint64_t *pool = calloc(words, sizeof *pool);
     uint64_t results[NEON_RESULTS];
-    uint8_t text[65536];
-    size_t length;
     if (pool == NULL) {
         return 1;
     }
     uint64_t number = neon_lower_block(pool, words, records, NEON_RECORD * count, results);
     if (number == NEON_DONE) {
-        number = neon_write_text(pool, words, results[32], results[0], text, sizeof text, &length);
+        number = print_text(pool, words, results[32], results[0]);
     }
-    if (number == NEON_DONE) {
-        printf("%.*s\n", (int)length, (const char *)text);
-    } else {
+    if (number != NEON_DONE) {
         printf("refused: %d, record %d\n", (int)number, (int)results[33]);
     }
     free(pool);

@@ -117,7 +117,7 @@ uint64_t neon_write_text(const uint64_t *pool, size_t words, size_t count, size_
 
 /* *length is that of the text of a node, or ceiling + 1 where the text is longer; 0 where it is refused. Its time grows with the
  * ceiling. */
-uint64_t neon_text_length(const uint64_t *pool, size_t words, size_t count, size_t node, uint32_t ceiling, size_t *length);
+uint64_t neon_text_length(const uint64_t *pool, size_t words, size_t count, size_t node, uint32_t ceiling, uint64_t *length);
 
 /* The registers that a node's term reads: *set has bit r for register r, 0 where it is refused by 1 or 5. Two starts that agree on these
  * registers give the term the same value. */

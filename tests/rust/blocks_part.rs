@@ -99,7 +99,7 @@ fn accepted(r: &mut Rng, pool: &Words, old: &[u64], results: &Words, records: &[
     assert_eq!(native::registers_of(new, count, node), (0, beneath(&dag, root)), "register {register} of {records:?}");
     let length = dag.lengths[root as usize];
     let ceiling = 1 << 17;
-    assert_eq!(native::text_length(new, count, node, ceiling), (0, length.min(u64::from(ceiling) + 1) as usize));
+    assert_eq!(native::text_length(new, count, node, ceiling), (0, length.min(u64::from(ceiling) + 1)));
     if length <= 65536 {
         let mut buffer = bytes(65536);
         assert_eq!(native::write_text(new, count, node, &mut buffer), (0, length as usize));

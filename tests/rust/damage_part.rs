@@ -189,7 +189,7 @@ fn try_text(r: &mut Rng, pool: &[u64], count: usize, ok: bool, seen: &mut Seen) 
     let ceiling = room as u32;
     let measured = native::text_length(pool, count, node, ceiling);
     let want = text_number(ok, count, node, 0, 0);
-    assert_eq!(measured, (want, if want == 0 { length.min(u64::from(ceiling) + 1) as usize } else { 0 }));
+    assert_eq!(measured, (want, if want == 0 { length.min(u64::from(ceiling) + 1) } else { 0 }));
     seen.text[number as usize] += 1;
 }
 

@@ -179,7 +179,9 @@ fn compare(s: &Sources, base: &[u64], base_hashes: &[u64], pool: &mut Words, for
     assert_eq!(hashes[node], dag.hashes[root as usize], "{form:?} on {nodes:?}");
     if display {
         let text = want.to_string();
-        let mut buffer = bytes(text.len() + 3);
+        let (number, length) = native::text_length(pool.items(), after, node, u32::MAX);
+        assert_eq!((number, length), (0, text.len() as u64));
+        let mut buffer = bytes(length as usize + 3);
         assert_eq!(native::write_text(pool.items(), after, node, &mut buffer), (0, text.len()));
         assert_eq!(&buffer.items()[..text.len()], text.as_bytes());
     }

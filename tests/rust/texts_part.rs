@@ -110,8 +110,8 @@ pub fn main(pools: u64) {
             written(&pool, count, n, len, &want);
             written(&pool, count, n, len + 9, &want);
             refused(&pool, count, n, len - 1, 9);
-            for ceiling in [30000, len, len - 1, len / 2] {
-                assert_eq!(text_length(&pool, count, n, ceiling as u32), (0, len.min(ceiling + 1)));
+            for ceiling in [0, len / 2, len - 1, len, u32::MAX as usize] {
+                assert_eq!(text_length(&pool, count, n, ceiling as u32), (0, len.min(ceiling + 1) as u64));
             }
             longest = longest.max(len);
             texts += 1;
@@ -120,6 +120,7 @@ pub fn main(pools: u64) {
             refused(&pool, count, node, 40, 5);
             assert_eq!(text_length(&pool, count, node, 40), (5, 0));
         }
+        assert_eq!(text_length(&pool, pool.len() / 4 + 1, 0, 40), (1, 0));
         refused(&pool, pool.len() / 4 + 1, 0, 40, 1);
         refused(&pool, usize::MAX, usize::MAX, 40, 1);
     }

@@ -311,11 +311,11 @@ impl Pool {
 
     /// Most texts are short, and are measured on the caller's stack.
     fn text_length(&self, node: Node) -> Result<usize, Refusal> {
-        for ceiling in [raw::SHALLOW, 1 << 24] {
-            let (number, length) = raw::text_length(&self.words, self.count, node.0, ceiling as u32);
+        for ceiling in [raw::SHALLOW as u32, 1 << 24] {
+            let (number, length) = raw::text_length(&self.words, self.count, node.0, ceiling);
             answer(number)?;
-            if length <= ceiling {
-                return Ok(length);
+            if length <= u64::from(ceiling) {
+                return Ok(length as usize);
             }
         }
         Err(Refusal { number: Number::ShortBuffer, position: None })

@@ -35,7 +35,7 @@ unsafe extern "C" {
     ) -> u64;
     fn neon_lower_block(pool: *mut u64, words: usize, records: *const u64, numbers: usize, results: *mut [u64; RESULTS]) -> u64;
     fn neon_write_text(pool: *const u64, words: usize, count: usize, node: usize, buffer: *mut u8, bytes: usize, length: *mut usize) -> u64;
-    fn neon_text_length(pool: *const u64, words: usize, count: usize, node: usize, ceiling: u32, length: *mut usize) -> u64;
+    fn neon_text_length(pool: *const u64, words: usize, count: usize, node: usize, ceiling: u32, length: *mut u64) -> u64;
     fn neon_registers_of(pool: *const u64, words: usize, count: usize, node: usize, set: *mut u64) -> u64;
 }
 
@@ -70,7 +70,7 @@ pub fn write_text(pool: &[u64], count: usize, node: usize, buffer: &mut [u8]) ->
 }
 
 /// Number and length.
-pub fn text_length(pool: &[u64], count: usize, node: usize, ceiling: u32) -> (u64, usize) {
+pub fn text_length(pool: &[u64], count: usize, node: usize, ceiling: u32) -> (u64, u64) {
     with_stack(ceiling as usize, || {
         let mut length = 0;
         let number = unsafe { neon_text_length(pool.as_ptr(), pool.len(), count, node, ceiling, &mut length) };

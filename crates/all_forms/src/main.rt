@@ -83,9 +83,10 @@ fn show(pool: &[u64], lowered: Lowering) {
         print(lowered.count as u64, b"\n");
         return;
     }
+    let asked = text_length::text_length(pool, lowered.count, lowered.node, 65536);
     let mut text = io::large_buffer();
     let written = text::write_text(pool, lowered.count, lowered.node, &mut text);
-    print(written.length as u64, b" ");
+    print(asked.length, b" ");
     io::print_hex(1, hash(&text, written.length), 16);
     io::write_all(1, b"\n");
 }

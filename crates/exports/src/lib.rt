@@ -79,13 +79,14 @@ pub extern "C" fn neon_write_text(
     w.number
 }
 
+// Returns the number; the length goes to `length`.
 #[no_mangle]
 pub extern "C" fn neon_text_length(
     pool: &[u64],
     count: usize,
     node: usize,
     ceiling: u32,
-    length: &mut usize,
+    length: &mut u64,
 ) -> u64
     ensures { λ r. ⌜ Measured (now (pool .entry)) count node ceiling r (now (length .exit)) ⌝ }
 {

@@ -124,7 +124,7 @@ fn sized(pool: &[u64], node: usize, buffer: &mut [u8], n: usize) {
 
 // A chain in each buffer that there is room for.
 fn buffers(pool: &[u64], node: usize, buffer: &mut [u8]) {
-    let exact = text_length::text_length(pool, NODES, node, 1441792).length;
+    let exact = text_length::text_length(pool, NODES, node, 1441792).length as usize;
     let mut i = 0;
     while i < 6 {
         sized(pool, node, buffer, size(i, exact));

@@ -1,10 +1,8 @@
 -- The bytes that answer a line (document 01, "Text and program").
 use mathlib.Core.List.{List, [], _∷_, _++_}
-use mathlib.Core.Path.{_≡_}
-use Prim.Native.Nat.{ℕ, zero, suc, _≤_}
+use Prim.Native.Nat.{ℕ, zero, suc}
 use lib.Dec.{leb}
 use lib.ListN.{length}
-use lib.Seq.{sets}
 use Rattle.facts.specs.Refuse.{unless}
 use Rattle.columns.specs.Columns.{columns}
 
@@ -23,9 +21,3 @@ roomNumber s = unless (leb (length s) textRoom) 9 0
 abbrev pub written : ℕ → List ℕ → List ℕ
 written zero s = columns 0 ++ (32 ∷ (s ++ (10 ∷ [])))
 written (suc k) s = columns (suc k) ++ (10 ∷ [])
-
--- the text s was asked for at `from` of a buffer, with the text buffer's room: what the buffer then holds
-pub record TextPut (old : List ℕ) (from : ℕ) (s : List ℕ) (number len : ℕ) (new : List ℕ) : Type 0 where
-  pub number-is : number ≡ roomNumber s
-  pub done : number ≡ 0 → (len ≡ length s) × (length s ≤ textRoom) × (new ≡ sets old from s)
-  pub refused : (number ≡ 0 → ⊥) → new ≡ old

@@ -1,19 +1,37 @@
 -- What `write_text` answers, by the way that it took. Assumes nothing.
-use mathlib.Core.Bool.{true}
+use mathlib.Core.Bool.{Bool, true, false}
 use mathlib.Core.List.{List, _++_}
-use mathlib.Core.Path.{_≡_, sym, ap, _∙_}
-use Prim.Native.Nat.{ℕ, suc, _≤_, _<_}
-use native.Mathlib.Nat.{zero-add}
+use mathlib.Core.Path.{_≡_, refl, sym, _∙_}
+use Prim.Native.Nat.{ℕ, zero, suc, _≤_, _<_}
 use native.Mathlib.Omega.{arith}
+use lib.Dec.{leb, ltb}
 use lib.ListN.{length, drop}
-use lib.Seq.{sets, sets-eq}
 use borrow.Author.Tests.{le-leb, lt-leb}
+use Rattle.facts.specs.Refuse.{unless}
 use Rattle.pool.specs.Rules.{poolOk}
 use Rattle.text_parts.specs.Text.{text}
-use Rattle.text_length.proofs.Answers.{good-node}
-use Rattle.text.specs.Answer.{textNumber, Answered}
+use Rattle.text_length.specs.Answer.{nodeNumber}
+use Rattle.text_length.proofs.Answers.{good-node, no-length}
+use Rattle.text.specs.Answer.{textNumber, bufferBy, Answered}
+
+none : {A : Type 0} → 0 < 0 → A
+none h = absurd (omega arith)
+
+-- a refusal leaves the buffer
+pub no-text : (number : ℕ) (s old : List ℕ) → 0 < number → bufferBy number s old ≡ old
+no-text zero s old h = none h
+no-text (suc k) s old h = refl
+
+-- a bad pool and a bad node are refused whatever follows
+first-refusal : (good inside : Bool) (rest : ℕ) → 0 < unless good 1 (unless inside 5 0) → unless good 1 (unless inside 5 0) ≡ unless good 1 (unless inside 5 rest)
+first-refusal false inside rest h = refl
+first-refusal true false rest h = refl
+first-refusal true true rest h = none h
 
 module _ (ws : List ℕ) (count n : ℕ) where
+  pub bad : (room : ℕ) → 0 < nodeNumber ws count n 0 → nodeNumber ws count n 0 ≡ textNumber ws count n room
+  bad room h = first-refusal (poolOk ws count) (ltb n count) (unless (leb (length (text ws n)) room) 9 0) h
+
   pub short : (room : ℕ) → poolOk ws count ≡ true → n < count → room < length (text ws n) → textNumber ws count n room ≡ 9
   short room h l s = good-node ws count n _ h l ∙ rw (lt-leb (length (text ws n)) room s)
 
@@ -21,16 +39,12 @@ module _ (ws : List ℕ) (count n : ℕ) where
   fits room h l s = good-node ws count n _ h l ∙ rw (le-leb (length (text ws n)) room s)
 
   -- a refusal
-  pub refused : (old : List ℕ) (k : ℕ) → textNumber ws count n (length old) ≡ suc k → Answered ws count n old (suc k) 0 old
-  refused old k e = record { number-is = sym e; length-is = rw e; buffer-is = rw e }
+  pub refused : (old : List ℕ) {number : ℕ} → number ≡ textNumber ws count n (length old) → 0 < number → Answered ws count n old number 0 old
+  refused old e h =
+      let r : 0 < textNumber ws count n (length old) = rw e at h in
+      record { number-is = e; length-is = sym (no-length _ _ r); buffer-is = sym (no-text _ _ _ r) }
 
   -- a text that was written
-  pub written : {old new : List ℕ} {len : ℕ} → textNumber ws count n (length old) ≡ 0 → length (text ws n) ≤ length old → len ≡ length (text ws n)
-      → new ≡ sets old 0 (text ws n) → Answered ws count n old 0 len new
-  written {old} e h l w =
-      record {
-        number-is = sym e;
-        length-is = rw e l;
-        buffer-is =
-            rw e (w ∙ sets-eq (text ws n) old 0 (omega arith) ∙ ap (λ (k : ℕ). text ws n ++ drop k old) (zero-add (length (text ws n))));
-      }
+  pub written : {old new : List ℕ} {number len : ℕ} → number ≡ 0 → textNumber ws count n (length old) ≡ 0 → len ≡ length (text ws n)
+      → new ≡ text ws n ++ drop (length (text ws n)) old → Answered ws count n old number len new
+  written z e l w = record { number-is = z ∙ sym e; length-is = rw e l; buffer-is = rw e w }

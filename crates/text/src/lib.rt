@@ -1,28 +1,40 @@
 // The text of a node of a pool: 1, 5 and 9, or the bytes. The length is known before the first byte is written, so that a refusal
 // writes nothing.
 use pool::Node;
-use pool_check::pool_check;
-use text_length::Written;
 use text_length::measure;
+use text_length::node_number;
 use text_terms::write_node;
+ghost use mathlib.Core.List.{_++_};
+ghost use mathlib.Core.Path.{_≡_};
+ghost use Prim.Native.Nat.{_≤_};
+ghost use lib.ListN.{length, drop};
+ghost use Rattle.text_parts.specs.Text.{text, Ready};
 ghost use Rattle.text.specs.Answer.{Answered};
+
+// A number of document 01, and the length of the text that was written.
+pub struct Written {
+    pub number: u64,
+    pub length: usize,
+}
+
+// Writes the text of a node to the front of a buffer, and leaves the bytes after it, where the pool is known to be good and the text
+// to fit.
+pub fn write_known(p: &[u64], n: Node, buffer: &mut [u8])
+    requires { ⌜ Ready (now p) (n .0) ⌝ }
+    requires { ⌜ length (text (now p) (n .0)) ≤ length (now buffer) ⌝ }
+    ensures { λ _. ⌜ now (buffer .exit) ≡ text (now (p .entry)) (n .0) ++ drop (length (text (now (p .entry)) (n .0))) (now (buffer .entry)) ⌝ }
+{
+    write_node(p, n, buffer);
+}
 
 // Writes the text of a node to the front of a buffer, and leaves the bytes after it. Refuses by 1, 5 and 9, and
 // then writes nothing.
 pub fn write_text(pool: &[u64], count: usize, node: usize, buffer: &mut [u8]) -> Written
     ensures { λ r. ⌜ Answered (now (pool .entry)) count node (now (buffer .entry)) (r .number) (r .length) (now (buffer .exit)) ⌝ }
 {
-    if !pool_check(pool, count) {
-        return Written {
-            number: 1,
-            length: 0,
-        };
-    }
-    if count <= node {
-        return Written {
-            number: 5,
-            length: 0,
-        };
+    let number = node_number(pool, count, node);
+    if 0 < number {
+        return Written { number, length: 0 };
     }
     let most = buffer.len() + 1;
     let left = measure(pool, Node(node), most);
@@ -32,9 +44,9 @@ pub fn write_text(pool: &[u64], count: usize, node: usize, buffer: &mut [u8]) ->
             length: 0,
         };
     }
-    write_node(pool, Node(node), buffer);
+    write_known(pool, Node(node), buffer);
     Written {
-        number: 0,
+        number,
         length: most - left,
     }
 }

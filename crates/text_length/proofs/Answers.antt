@@ -1,18 +1,26 @@
 -- What `text_length` answers, by the way that it took. Assumes nothing.
 use mathlib.Core.Bool.{true, false}
 use mathlib.Core.List.{List}
-use mathlib.Core.Path.{_≡_, sym}
-use Prim.Native.Nat.{ℕ, suc, _+_, _-_, _≤_, _<_}
+use mathlib.Core.Path.{_≡_, refl, sym, ap, _∙_}
+use Prim.Native.Nat.{ℕ, zero, suc, _+_, min, _≤_, _<_}
 use native.Mathlib.Omega.{arith}
-use lib.Dec.{leb}
+use lib.Dec.{leb, ltb}
 use lib.ListN.{length}
-use borrow.Author.Tests.{lt-ltb, le-ltb, leb-true}
-use Rattle.facts.proofs.Tests.{and-both}
+use borrow.Author.Tests.{lt-ltb, le-ltb, leb-true, ltb-true}
+use Rattle.facts.proofs.Tests.{and-both, passed}
 use Rattle.pool.specs.Node.{places}
 use Rattle.pool.specs.Rules.{okPool, poolOk}
 use Rattle.text_parts.specs.Text.{text, Ready}
 use Rattle.text_parts.proofs.Operands.{ready-of}
-use Rattle.text_length.specs.Answer.{nodeNumber, Measured}
+use Rattle.text_length.specs.Answer.{nodeNumber, lengthBy, Measured}
+
+not-zero : {k : ℕ} → 0 < k → k ≡ 0 → ⊥
+not-zero h e = omega arith
+
+-- a refusal has length 0
+pub no-length : (number l : ℕ) → 0 < number → lengthBy number l ≡ 0
+no-length zero l h = absurd (not-zero h refl)
+no-length (suc k) l h = refl
 
 module _ (ws : List ℕ) (count n : ℕ) where
   pub ready : poolOk ws count ≡ true → n < count → Ready ws n
@@ -30,11 +38,16 @@ module _ (ws : List ℕ) (count n : ℕ) where
   pub good-node : (rest : ℕ) → poolOk ws count ≡ true → n < count → nodeNumber ws count n rest ≡ rest
   good-node rest h l = rw (h, lt-ltb n count l)
 
-  pub unmeasured : (ceiling k : ℕ) → nodeNumber ws count n 0 ≡ suc k → Measured ws count n ceiling (suc k) 0
-  unmeasured ceiling k e = record { number-is = sym e; length-is = rw e }
+  -- a pool and a node that are not refused
+  pub accepted : (rest : ℕ) → nodeNumber ws count n rest ≡ 0 → (poolOk ws count ≡ true) × (n < count) × (rest ≡ 0)
+  accepted rest e =
+      let p = passed (poolOk ws count) (not-zero (omega arith)) e in
+      let q = passed (ltb n count) (not-zero (omega arith)) (p .1) in
+      (p .0, ltb-true _ _ (q .0), q .1)
 
-  pub measured : (ceiling left : ℕ) → poolOk ws count ≡ true → n < count → left ≡ ceiling + 1 - length (text ws n)
-      → Measured ws count n ceiling 0 (ceiling + 1 - left)
-  measured ceiling left h l e =
-      let z = good-node 0 h l in
-      record { number-is = sym z; length-is = rw z (omega arith) }
+  pub unmeasured : (ceiling : ℕ) {number : ℕ} → number ≡ nodeNumber ws count n 0 → 0 < number → Measured ws count n ceiling number 0
+  unmeasured ceiling e h = record { number-is = e; length-is = sym (no-length _ _ (rw e at h)) }
+
+  pub measured : (ceiling : ℕ) {number len : ℕ} → number ≡ nodeNumber ws count n 0 → number ≡ 0 → len ≡ min (length (text ws n)) (ceiling + 1)
+      → Measured ws count n ceiling number len
+  measured ceiling e z l = record { number-is = e; length-is = rw (sym e ∙ z) l }

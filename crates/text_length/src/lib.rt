@@ -15,13 +15,13 @@ use text_operators::operator_length;
 use text_parts::is_single;
 ghost use mathlib.Core.Path.{_≡_};
 ghost use mathlib.Core.Bool.{true, cond};
-ghost use Prim.Native.Nat.{_+_, _-_, _<_};
+ghost use Prim.Native.Nat.{_+_, _-_, _<_, min};
 ghost use lib.Dec.{eqb};
 ghost use lib.ListN.{length};
 ghost use Rattle.pool.specs.Node.{kindNumber};
 ghost use Rattle.text_operators.specs.Between.{Joined, betweenText};
 ghost use Rattle.text_parts.specs.Text.{text, Ready, openText, endText, single};
-ghost use Rattle.text_length.specs.Answer.{Measured};
+ghost use Rattle.text_length.specs.Answer.{nodeNumber, Measured};
 
 // What is left of b when the length of a Var's or a Const's text is taken off it, and 0 where the text is longer.
 // k is the number of the node's kind.
@@ -92,32 +92,45 @@ pub fn measure(p: &[u64], n: Node, b: usize) -> usize
     less_node(&p, n, b)
 }
 
-// A number of document 01, and the text's length.
-pub struct Written {
+// The length of a node's text, or one more than the ceiling where the text is longer, of a pool that is known to be good.
+pub fn length_to(p: &[u64], n: Node, ceiling: u32) -> u64
+    requires { ⌜ Ready (now p) (n .0) ⌝ }
+    ensures { λ r. ⌜ r ≡ min (length (text (now (p .entry)) (n .0))) (ceiling + 1) ⌝ }
+{
+    let most = (ceiling as usize) + 1;
+    let left = measure(p, n, most);
+    (most - left) as u64
+}
+
+// 1 for a bad pool, 5 for a node that it has not, else 0.
+pub fn node_number(pool: &[u64], count: usize, node: usize) -> u64
+    ensures { λ r. ⌜ r ≡ nodeNumber (now (pool .entry)) count node 0 ⌝ }
+{
+    if !pool_check(pool, count) {
+        return 1;
+    }
+    if count <= node {
+        return 5;
+    }
+    0
+}
+
+// A number of document 01, and the text's length up to a ceiling.
+pub struct TextLength {
     pub number: u64,
-    pub length: usize,
+    pub length: u64,
 }
 
 // The length of a node's text, or one more than the ceiling where the text is longer. Refuses by 1 and 5.
-pub fn text_length(pool: &[u64], count: usize, node: usize, ceiling: u32) -> Written
+pub fn text_length(pool: &[u64], count: usize, node: usize, ceiling: u32) -> TextLength
     ensures { λ r. ⌜ Measured (now (pool .entry)) count node ceiling (r .number) (r .length) ⌝ }
 {
-    if !pool_check(pool, count) {
-        return Written {
-            number: 1,
-            length: 0,
-        };
+    let number = node_number(pool, count, node);
+    if 0 < number {
+        return TextLength { number, length: 0 };
     }
-    if count <= node {
-        return Written {
-            number: 5,
-            length: 0,
-        };
-    }
-    let most = (ceiling as usize) + 1;
-    let left = measure(pool, Node(node), most);
-    Written {
-        number: 0,
-        length: most - left,
+    TextLength {
+        number,
+        length: length_to(pool, Node(node), ceiling),
     }
 }

@@ -1,50 +1,36 @@
-use mathlib.Core.Bool.{true}
 use mathlib.Core.Path.{_≡_, sym, _∙_}
-use borrow.Author.Tests.{not-true, not-false}
-use Rattle.pool.specs.Rules.{poolOk}
-use Rattle.text_length.proofs.Answers.{ready, bad-pool, bad-node, unmeasured, measured}
+use native.Mathlib.Omega.{arith}
+use Rattle.text_length.specs.Answer.{nodeNumber}
+use Rattle.text_length.proofs.Answers.{ready, accepted, unmeasured, measured}
 use borrow.Author.Needs.{needs}
 use Rattle.text_length.proofs.text_length.Statement.{statement}
 use Rattle.text_length.proofs.text_length.Tie as tie
 
-abbrev entry : tie.Else1 → tie.Start
-entry c = c .before .before .before
+-- past the test nothing is refused
+zero : (c : tie.Else1) → c .before .node-number .result ≡ 0
+zero c = omega (arith, c .if1 .left)
 
--- past the first test the pool is good
-good : (c : tie.Else1) → poolOk (entry c .args .pool .now) (entry c .args .count) ≡ true
-good c = sym (c .before .pool-check .ensures) ∙ not-false _ (c .if1 .left)
-
-pool-check-requires : tie.Need-pool-check-requires
-pool-check-requires c κs = search needs
+node-number-requires : tie.Need-node-number-requires
+node-number-requires c κs = search needs
 
 returns : tie.Need-returns
 returns c =
-    let a = c .before .before .before .args in
-    unmeasured (a .pool .now) (a .count) (a .node) (a .ceiling) 0
-    (bad-pool (a .pool .now) (a .count) (a .node) 0 (sym (c .before .pool-check .ensures) ∙ not-true _ (c .if1 .taken)))
+    let n = c .before in
+    let a = n .before .before .args in unmeasured (a .pool .now) (a .count) (a .node) (a .ceiling) (n .node-number .ensures) (c .if1 .taken)
+
+length-to-requires : tie.Need-length-to-requires
+length-to-requires c κs =
+    let n = c .before in
+    let a = n .before .before .args in
+    let k = accepted (a .pool .now) (a .count) (a .node) 0 (sym (n .node-number .ensures) ∙ zero c) in ready (a .pool .now) (a .count) (a .node) (k .0) (k .1)
 
 returns-2 : tie.Need-returns-2
 returns-2 c =
-    let a = entry (c .before) .args in
-    unmeasured (a .pool .now) (a .count) (a .node) (a .ceiling) 4 (bad-node (a .pool .now) (a .count) (a .node) 0 (good (c .before)) (c .if2 .taken))
-
-add-most : tie.Need-add-most
-add-most c = search needs
-
-measure-requires : tie.Need-measure-requires
-measure-requires c κs =
-    let a = entry (c .before) .args in ready (a .pool .now) (a .count) (a .node) (good (c .before)) (c .if2 .left)
-
-sub-t9 : tie.Need-sub-t9
-sub-t9 c = search needs
-
-returns-3 : tie.Need-returns-3
-returns-3 c =
     let e = c .before in
-    let a = entry (e .before) .args in
-    measured (a .pool .now) (a .count) (a .node) (a .ceiling) (c .measure .result) (good (e .before)) (e .if2 .left) (c .measure .ensures)
+    let n = e .before in
+    let a = n .before .before .args in
+    measured (a .pool .now) (a .count) (a .node) (a .ceiling) (n .node-number .ensures) (zero e) (c .length-to .ensures)
 
 pub text-length-spec : {M : Type 1} → statement M
 text-length-spec =
-    tie.close
-    (tie.spec pool-check-requires returns returns-2 add-most measure-requires sub-t9 returns-3)
+    tie.close (tie.spec node-number-requires returns length-to-requires returns-2)

@@ -1,0 +1,29 @@
+use mathlib.Core.Path.{_≡_, sym, _∙_}
+use borrow.Author.Tests.{not-true, not-false}
+use Rattle.text_length.proofs.Answers.{bad-pool, bad-node, good-node}
+use borrow.Author.Needs.{needs}
+use Rattle.text_length.proofs.node_number.Statement.{statement}
+use Rattle.text_length.proofs.node_number.Tie as tie
+
+pool-check-requires : tie.Need-pool-check-requires
+pool-check-requires c κs = search needs
+
+returns : tie.Need-returns
+returns c =
+    let a = c .before .before .before .args in
+    sym (bad-pool (a .pool .now) (a .count) (a .node) 0 (sym (c .before .pool-check .ensures) ∙ not-true _ (c .if1 .taken)))
+
+returns-2 : tie.Need-returns-2
+returns-2 c =
+    let e = c .before in
+    let a = e .before .before .before .args in
+    sym (bad-node (a .pool .now) (a .count) (a .node) 0 (sym (e .before .pool-check .ensures) ∙ not-false _ (e .if1 .left)) (c .if2 .taken))
+
+returns-3 : tie.Need-returns-3
+returns-3 c =
+    let e = c .before in
+    let a = e .before .before .before .args in
+    sym (good-node (a .pool .now) (a .count) (a .node) 0 (sym (e .before .pool-check .ensures) ∙ not-false _ (e .if1 .left)) (c .if2 .left))
+
+pub node-number-spec : {M : Type 1} → statement M
+node-number-spec = tie.close (tie.spec pool-check-requires returns returns-2 returns-3)
