@@ -1,5 +1,5 @@
-//! Times the library's operations: `bench ROUNDS ORACLE PROGRAM`, the best of ROUNDS passes each, as `oracle-bench bench`
-//! takes it, of blocks and of the program of a quarter as many. Writes a line `name value` for each figure; bench/run makes the table.
+//! Times the library's operations: `bench ROUNDS ORACLE LANES FORMS`, the best of ROUNDS passes each, as `oracle-bench bench`
+//! takes it, of blocks and of the programs of a quarter as many. Writes a line `name value` for each figure; bench/run makes the table.
 
 #[path = "../tests/rust/native.rs"]
 #[allow(dead_code)]
@@ -198,7 +198,7 @@ fn nested(rounds: u64) {
     }
 }
 
-/// A whole run of a program that reads all forms.
+/// A whole run of a program.
 fn program(rounds: u64, command: &[&str], input: &[u8]) -> f64 {
     best(rounds, || {
         let mut child = Command::new(command[0]).args(&command[1..]).stdin(Stdio::piped()).stdout(Stdio::null()).spawn().expect("a program");
@@ -223,4 +223,5 @@ fn main() {
         rust = rust.min(program(1, &[&arguments[1], "lines"], &list));
     }
     println!("program {:.0}\nprogram-rust {:.0}", ours / 1000.0, rust / 1000.0);
+    println!("listing {:.0}", program(rounds.div_ceil(4), &[&arguments[3]], &[]) / 1000.0);
 }

@@ -48,7 +48,8 @@ print(f"""
 There are {int(ours["forms"]):,} forms; their terms have {int(ours["nodes"]):,} new nodes, at most {ours["most"]} each, and {int(ours["bytes"]):,} bytes of text.
 Building is `neon_lower_instruction` on a pool of 35 nodes, the pool check with it; the Rust builds and drops its tree. Text is
 `neon_write_text`, the pool check and the length with it; its length alone is `neon_text_length`, the pool check with it; the Rust writes
-to a string that has room. A record of a block is set beside the Rust's mean of building one tree.""")
+to a string that has room. A record of a block is set beside the Rust's mean of building one tree. The program `forms`
+writes the list of all forms in {float(ours["listing"]):,.0f} µs.""")
 
 
 def growth(name):

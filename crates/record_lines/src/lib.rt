@@ -1,0 +1,34 @@
+// A record written as a line of document 01's columns.
+use columns::put_columns;
+use digits::put;
+ghost use Prim.Native.Nat.{_<_};
+ghost use Rattle.record_check.specs.Record.{instruction};
+ghost use Rattle.digits.specs.Writing.{Room, Wrote};
+ghost use Rattle.record_lines.specs.Line.{line};
+
+// The bytes of a line.
+pub const LINE: usize = 25;
+
+// Writes a line. A field has four columns.
+pub fn put_line(
+    operation: u64,
+    arrangement: u64,
+    i: u64,
+    d: u64,
+    n: u64,
+    m: u64,
+    buf: &mut [u8],
+    at: usize,
+) -> usize
+    requires { ⌜ (operation < 10000) × (arrangement < 10000) × (i < 10000) × (d < 10000) × (n < 10000) × (m < 10000) ⌝ }
+    requires { ⌜ Room (now buf) at (line (instruction operation arrangement i d n m)) ⌝ }
+    ensures { λ r. ⌜ Wrote (now (buf .entry)) at (line (instruction operation arrangement i d n m)) r (now (buf .exit)) ⌝ }
+{
+    let a = put_columns(operation, buf, at);
+    let b = put_columns(arrangement, buf, a);
+    let c = put_columns(i, buf, b);
+    let e = put_columns(d, buf, c);
+    let f = put_columns(n, buf, e);
+    let g = put_columns(m, buf, f);
+    put(b"\n", buf, g)
+}
