@@ -13,7 +13,7 @@ use std::io::Write;
 use std::process::{Command, Stdio};
 use std::time::Instant;
 
-use native::{bytes, lower_block, lower_instruction, pool_check, text_length, words, write_text};
+use native::{bytes, lower_block, lower_instruction, pool_check, text_length, value_to, words, write_text};
 use pools::{Node, Rng, grow, pool_words};
 
 type Record = [u64; 6];
@@ -78,10 +78,11 @@ fn build(rounds: u64, all: &[Record]) {
     println!("forms {}\nnodes {nodes}\nmost {most}\nbuild {:.0}", all.len(), time / all.len() as f64);
 }
 
-/// Mean times of a byte of text, over the terms of all forms: to ask for its length, and to write it.
-fn text(rounds: u64, all: &[Record]) {
-    let terms: Vec<(Vec<u64>, usize, usize)> = all
-        .iter()
+/// The pool of a form's block of one, its count and the node of its term.
+type Term = (Vec<u64>, usize, usize);
+
+fn terms(all: &[Record]) -> Vec<Term> {
+    all.iter()
         .map(|record| {
             let mut pool = words(&vec![0; 4 * (32 + RESERVE)]);
             let mut results = words(&[0; 34]);
@@ -89,11 +90,31 @@ fn text(rounds: u64, all: &[Record]) {
             let count = results.items()[32] as usize;
             (pool.items()[..4 * count].to_vec(), count, results.items()[0] as usize)
         })
-        .collect();
+        .collect()
+}
+
+/// Mean time of a visit to a node, over the values of the terms of all forms at one start: the pool check with it.
+fn value(rounds: u64, terms: &[Term]) {
+    let mut r = Rng(0x6a09_e667_f3bc_c908);
+    let start: Vec<u64> = (0..64).map(|_| r.next()).collect();
+    let mut found = words(&[0; 3]);
+    let mut visits = 0;
+    let time = best(rounds, || {
+        visits = 0;
+        for (pool, count, node) in terms {
+            visits += black_box(value_to(&mut found, pool, *count, *node, &start, u64::MAX)).1;
+        }
+    });
+    assert!(visits > 0);
+    println!("visits {visits}\nvisit {:.2}", time / visits as f64);
+}
+
+/// Mean times of a byte of text, over the terms of all forms: to ask for its length, and to write it.
+fn text(rounds: u64, terms: &[Term]) {
     let mut measured = 0;
     let length = best(rounds, || {
         measured = 0;
-        for (pool, count, node) in &terms {
+        for (pool, count, node) in terms {
             measured += black_box(text_length(pool, *count, *node, 65536)).1;
         }
     });
@@ -101,7 +122,7 @@ fn text(rounds: u64, all: &[Record]) {
     let mut written = 0;
     let time = best(rounds, || {
         written = 0;
-        for (pool, count, node) in &terms {
+        for (pool, count, node) in terms {
             written += black_box(write_text(pool, *count, *node, &mut buffer)).1;
         }
     });
@@ -212,7 +233,9 @@ fn main() {
     let rounds: u64 = arguments[0].parse().expect("a number of rounds");
     let (list, all) = forms(&arguments[1]);
     build(rounds, &all);
-    text(rounds, &all);
+    let terms = terms(&all);
+    text(rounds, &terms);
+    value(rounds, &terms);
     check(rounds, &all);
     blocks(rounds, &all);
     nested(rounds);

@@ -51,6 +51,13 @@ Building is `neon_lower_instruction` on a pool of 35 nodes, the pool check with 
 to a string that has room. A record of a block is set beside the Rust's mean of building one tree. The program `forms`
 writes the list of all forms in {float(ours["listing"]):,.0f} µs.""")
 
+visit = float(ours["visit"])
+print(f"""
+## Values
+
+`neon_value` takes {visit:.2f} ns a visit to a node, over the terms of all forms at one start, the pool check with it; the goal is 15,
+{"met" if visit <= 15 else "missed"}. The values take {int(ours["visits"]):,} visits.""")
+
 
 def growth(name):
     return {int(k.split("-")[1]): float(v) for k, v in ours.items() if k.startswith(name + "-") and "rust" not in k}

@@ -9,7 +9,7 @@
  *
  * Stack. The two functions on texts call themselves for each level of a term, and take at most 64 bytes a level: 4.2 MB for the
  * deepest pool. A level has 5 characters or more, so a buffer or a ceiling of 140,000 bytes or less needs 1.8 MB at most. The
- * other functions take a few kilobytes.
+ * other functions take a few kilobytes. neon_value calls itself too, and takes 80 bytes a level: 5.3 MB for the deepest pool.
  *
  * Pool. Four words a node; places = words / 4, or 65,535 if that is less; nodes 0 to count - 1 are in use.
  *   word 0   kind + 65,536 * width + 2^32 * set; the width is 1 to 129 bits, or 0 for a condition; bit r of the set is up
@@ -31,7 +31,8 @@
 extern "C" {
 #endif
 
-/* The numbers. The first in order wins: one instruction 1 to 6; text 1, 5, 9; block 8, 6, then record by record 2, 3, 4, 7. */
+/* The numbers. The first in order wins: one instruction 1 to 6; text 1, 5, 9; block 8, 6, then record by record 2, 3, 4, 7; value 1, 5,
+ * 11. */
 enum neon_number {
     NEON_DONE = 0,
     NEON_BAD_POOL = 1,          /* count above places, or a node breaks a rule */
@@ -43,7 +44,8 @@ enum neon_number {
     NEON_REGISTER = 7,          /* above 31, m above 15 for an element of 16 bits, or m not 0 with no second source */
     NEON_LONG_BLOCK = 8,        /* more than 85 records */
     NEON_SHORT_BUFFER = 9,      /* the text is longer than the buffer */
-    NEON_LINE = 10              /* of the line program alone */
+    NEON_LINE = 10,             /* of the line program alone */
+    NEON_VISITS = 11            /* the term's value takes more visits than are allowed */
 };
 
 /* The kinds of nodes. */
@@ -82,6 +84,8 @@ enum neon_arrangement { NEON_8B, NEON_16B, NEON_4H, NEON_8H, NEON_2S, NEON_4S, N
 #define NEON_RESERVE 768       /* free places that one instruction needs */
 #define NEON_MOST_RECORDS 85
 #define NEON_RECORD 6          /* words of a record: operation, arrangement, i, d, n, m */
+#define NEON_REGISTER_WORDS 64 /* words of the 32 registers: two each, the low one first, v0 first */
+#define NEON_VALUE 3           /* words of a value, the lowest first */
 #define NEON_RESULTS 34        /* words of a block's results: 32 nodes, the count, the position */
 
 /* Words of a pool that takes a block of k records. */
@@ -122,6 +126,15 @@ uint64_t neon_text_length(const uint64_t *pool, size_t words, size_t count, size
 /* The registers that a node's term reads: *set has bit r for register r, 0 where it is refused by 1 or 5. Two starts that agree on these
  * registers give the term the same value. */
 uint64_t neon_registers_of(const uint64_t *pool, size_t words, size_t count, size_t node, uint64_t *set);
+
+/* ---- Values */
+
+/* The value of a node's term where the registers hold `start`: `value` gets its three words, of which a term of 129 bits uses the
+ * lowest bit of the last; a condition gives 0 or 1. *visits is the number of visits made: one to the node, and to each operand as often
+ * as a node over it is visited; of an Ite the condition and the chosen arm alone are visited. Numbers 1, 5, then 11 where the visits
+ * are more than `allowance`; no more than `allowance` are made. With these `value` and *visits are 0. */
+uint64_t neon_value(const uint64_t *pool, size_t words, size_t count, size_t node, const uint64_t start[NEON_REGISTER_WORDS],
+                    uint64_t allowance, uint64_t value[NEON_VALUE], uint64_t *visits);
 
 #ifdef __cplusplus
 }

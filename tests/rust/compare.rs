@@ -24,6 +24,7 @@ mod run;
 mod blocks_part;
 mod damage_part;
 mod evaluate;
+mod evaluate_part;
 mod forms_part;
 mod judge;
 mod lines_part;
@@ -68,6 +69,7 @@ const PARTS: &[Part] = &[
     part("values", 1, 0, values_part::main),
     part("texts", 250, 10, texts_part::main),
     part("damage", 1, 0, damage_part::main),
+    part("evaluate", 10, 10, evaluate_part::main),
     part("lines", 5_000, 10, lines_part::main),
     part("solvers", 5_000, 5, solver_part::main),
 ];
@@ -79,7 +81,7 @@ struct Sample {
 }
 
 /// The samples in tests/stored that a judge makes, by name and number of cases; tests/stored/NAME.c reads NAME.in and writes NAME.out.
-const STORED: &[(&str, u64, fn(u64) -> Sample)] = &[("pools", 300, damage_part::stored)];
+const STORED: &[(&str, u64, fn(u64) -> Sample)] = &[("pools", 300, damage_part::stored), ("evaluate", 200, evaluate_part::stored)];
 
 impl Part {
     /// The library has to make do with 8 MB of stack, whatever this machine gives the first thread.

@@ -123,3 +123,19 @@ pub fn values(pool: &[u64], count: usize, start: &[u128; 32]) -> Vec<Value> {
     }
     all
 }
+
+/// The visits that each node's value takes (document 02, S-6), or the greatest number where they are more: of an Ite the condition and
+/// the chosen arm are visited, of any other node all operands, and each visit counts one.
+pub fn visits(pool: &[u64], values: &[Value]) -> Vec<u64> {
+    let mut all: Vec<u64> = Vec::with_capacity(values.len());
+    for n in 0..values.len() {
+        let node = Node::at(pool, n);
+        let [a, b, c] = node.operands;
+        let visited = match node.kind {
+            15 => vec![a, if values[a] == of(1) { b } else { c }],
+            _ => node.used().to_vec(),
+        };
+        all.push(visited.iter().fold(1, |sum: u64, &m| sum.saturating_add(all[m])));
+    }
+    all
+}

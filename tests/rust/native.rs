@@ -9,6 +9,9 @@ unsafe extern "C" {
     ) -> u64;
     fn neon_lower_block(pool: *mut u64, words: usize, records: *const u64, numbers: usize, results: *mut u64) -> u64;
     fn neon_write_text(pool: *const u64, words: usize, count: usize, node: usize, buffer: *mut u8, bytes: usize, length: *mut usize) -> u64;
+    fn neon_value(
+        pool: *const u64, words: usize, count: usize, node: usize, start: *const u64, allowance: u64, value: *mut u64, visits: *mut u64,
+    ) -> u64;
     fn neon_text_length(pool: *const u64, words: usize, count: usize, node: usize, ceiling: u32, length: *mut u64) -> u64;
     fn neon_registers_of(pool: *const u64, words: usize, count: usize, node: usize, set: *mut u64) -> u64;
 }
@@ -112,4 +115,26 @@ pub fn registers_of(pool: &[u64], count: usize, node: usize) -> (u64, u64) {
     let mut set = 77;
     let number = unsafe { neon_registers_of(pool.as_ptr(), pool.len(), count, node, &mut set) };
     (number, set)
+}
+
+/// Two words a register, the low one first.
+pub fn register_words(registers: &[u128; 32]) -> Vec<u64> {
+    registers.iter().flat_map(|v| [*v as u64, (*v >> 64) as u64]).collect()
+}
+
+/// Number and visits; the value goes to `found`, of three words. `start` has 64.
+pub fn value_to(found: &mut Words, pool: &[u64], count: usize, node: usize, start: &[u64], allowance: u64) -> (u64, u64) {
+    let mut visits = 77;
+    let (to, entries) = found.lend();
+    assert!(entries == 3 && start.len() == 64);
+    let number = unsafe { neon_value(pool.as_ptr(), pool.len(), count, node, start.as_ptr(), allowance, to, &mut visits) };
+    found.look();
+    (number, visits)
+}
+
+/// Number, value and visits.
+pub fn value(pool: &[u64], count: usize, node: usize, start: &[u128; 32], allowance: u64) -> (u64, [u64; 3], u64) {
+    let mut found = words(&[77; 3]);
+    let (number, visits) = value_to(&mut found, pool, count, node, &register_words(start), allowance);
+    (number, found.items().try_into().expect("three words"), visits)
 }

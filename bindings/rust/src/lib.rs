@@ -16,9 +16,13 @@
 
 mod operation;
 mod raw;
+mod registers;
+mod value;
 mod words;
 
 pub use operation::{Arrangement, Operation};
+pub use registers::Registers;
+pub use value::Value;
 pub use words::{Kind, Node, Nodes, RegisterSet, View};
 
 use std::fmt;
@@ -46,12 +50,14 @@ pub enum Number {
     ShortBuffer,
     /// An input line is not in columns: of the line program alone.
     Line,
+    /// The value of a term takes more visits than are allowed.
+    Visits,
     /// A number that this wrapper does not know, from an archive that is newer than it.
     Unknown(u64),
 }
 
 /// Each number with its word.
-const NUMBERS: [(u64, Number, &str); 10] = [
+const NUMBERS: [(u64, Number, &str); 11] = [
     (1, Number::BadPool, "bad pool"),
     (2, Number::NoSuchOperation, "no such operation"),
     (3, Number::NoSuchForm, "no such form"),
@@ -62,6 +68,7 @@ const NUMBERS: [(u64, Number, &str); 10] = [
     (8, Number::LongBlock, "long block"),
     (9, Number::ShortBuffer, "short buffer"),
     (10, Number::Line, "line"),
+    (11, Number::Visits, "visits"),
 ];
 
 impl Number {
@@ -311,7 +318,7 @@ impl Pool {
 
     /// Most texts are short, and are measured on the caller's stack.
     fn text_length(&self, node: Node) -> Result<usize, Refusal> {
-        for ceiling in [raw::SHALLOW as u32, 1 << 24] {
+        for ceiling in [raw::SHORT_TEXT as u32, 1 << 24] {
             let (number, length) = raw::text_length(&self.words, self.count, node.0, ceiling);
             answer(number)?;
             if length <= u64::from(ceiling) {

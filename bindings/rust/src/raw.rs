@@ -9,15 +9,21 @@ pub const MOST_RECORDS: usize = 85;
 pub const RESULTS: usize = 34;
 pub const NO_NODE: usize = 65535;
 
-/// A text of so many bytes has at most a fifth as many levels, of 64 bytes of stack each: 0.9 MB, which every thread has.
-pub const SHALLOW: usize = 65536;
+/// So many levels of a term, of 80 bytes of stack each at most, take 1.1 MB, which every thread has.
+const SHALLOW: usize = 13107;
 
-/// 65,534 levels of 64 bytes, and to spare.
+/// 65,534 levels of 80 bytes, and to spare.
 const DEEP_STACK: usize = 8 << 20;
 
-/// A call that reads or writes a text of up to so many bytes.
-fn with_stack<T: Send>(bytes: usize, call: impl FnOnce() -> T + Send) -> T {
-    if bytes <= SHALLOW {
+/// A level of a text has so many bytes or more.
+const LEVEL: usize = 5;
+
+/// A text of so many bytes is of a term that is not deeper.
+pub const SHORT_TEXT: usize = LEVEL * SHALLOW;
+
+/// A call that goes down a term of up to so many levels.
+fn with_stack<T: Send>(levels: usize, call: impl FnOnce() -> T + Send) -> T {
+    if levels <= SHALLOW {
         return call();
     }
     thread::scope(|scope| {
@@ -35,6 +41,9 @@ unsafe extern "C" {
     ) -> u64;
     fn neon_lower_block(pool: *mut u64, words: usize, records: *const u64, numbers: usize, results: *mut [u64; RESULTS]) -> u64;
     fn neon_write_text(pool: *const u64, words: usize, count: usize, node: usize, buffer: *mut u8, bytes: usize, length: *mut usize) -> u64;
+    fn neon_value(
+        pool: *const u64, words: usize, count: usize, node: usize, start: *const u64, allowance: u64, value: *mut u64, visits: *mut u64,
+    ) -> u64;
     fn neon_text_length(pool: *const u64, words: usize, count: usize, node: usize, ceiling: u32, length: *mut u64) -> u64;
     fn neon_registers_of(pool: *const u64, words: usize, count: usize, node: usize, set: *mut u64) -> u64;
 }
@@ -62,7 +71,7 @@ pub fn lower_block(pool: &mut [u64], records: &[u64], results: &mut [u64; RESULT
 
 /// Number and length.
 pub fn write_text(pool: &[u64], count: usize, node: usize, buffer: &mut [u8]) -> (u64, usize) {
-    with_stack(buffer.len(), || {
+    with_stack(buffer.len() / LEVEL, || {
         let mut length = 0;
         let number = unsafe { neon_write_text(pool.as_ptr(), pool.len(), count, node, buffer.as_mut_ptr(), buffer.len(), &mut length) };
         (number, length)
@@ -71,7 +80,7 @@ pub fn write_text(pool: &[u64], count: usize, node: usize, buffer: &mut [u8]) ->
 
 /// Number and length.
 pub fn text_length(pool: &[u64], count: usize, node: usize, ceiling: u32) -> (u64, u64) {
-    with_stack(ceiling as usize, || {
+    with_stack(ceiling as usize / LEVEL, || {
         let mut length = 0;
         let number = unsafe { neon_text_length(pool.as_ptr(), pool.len(), count, node, ceiling, &mut length) };
         (number, length)
@@ -83,4 +92,15 @@ pub fn registers_of(pool: &[u64], count: usize, node: usize) -> (u64, u64) {
     let mut set = 0;
     let number = unsafe { neon_registers_of(pool.as_ptr(), pool.len(), count, node, &mut set) };
     (number, set)
+}
+
+/// Number, value and visits.
+pub fn value(pool: &[u64], count: usize, node: usize, start: &[u64; 64], allowance: u64) -> (u64, [u64; 3], u64) {
+    with_stack(count, || {
+        let (mut value, mut visits) = ([0; 3], 0);
+        let number = unsafe {
+            neon_value(pool.as_ptr(), pool.len(), count, node, start.as_ptr(), allowance, value.as_mut_ptr(), &mut visits)
+        };
+        (number, value, visits)
+    })
 }

@@ -1,6 +1,6 @@
 //! The deepest term a pool can hold, on a test's thread of 2 MB.
 
-use neon_terms::{Node, Number, Pool};
+use neon_terms::{Node, Number, Pool, Registers};
 
 /// v0, then each node the sum of the one before and v0.
 fn chain(second: impl Fn(u64) -> u64) -> Pool {
@@ -19,6 +19,21 @@ fn deepest_text() {
     let mut short = vec![0; text.len() - 1];
     assert_eq!(pool.write_text(Node(65534), &mut short).unwrap_err().number, Number::ShortBuffer);
     assert!(short.iter().all(|byte| *byte == 0));
+}
+
+#[test]
+fn deepest_value() {
+    let pool = chain(|_| 0);
+    let start = Registers(std::array::from_fn(|r| r as u128 + 3));
+    let value = pool.value(Node(65534), &start, u64::MAX).unwrap();
+    assert_eq!((value.bits, value.top, value.visits), (3 * 65535, false, 2 * 65534 + 1));
+    assert_eq!(pool.value(Node(65534), &start, value.visits - 1).unwrap_err().number, Number::Visits);
+}
+
+#[test]
+fn most_visits() {
+    let pool = chain(|last| last);
+    assert_eq!(pool.value(Node(65534), &Registers::default(), 1_000_000).unwrap_err().number, Number::Visits);
 }
 
 #[test]

@@ -1,0 +1,10 @@
+use native.Mathlib.Omega.{arith}
+use Rattle.bit_vectors.proofs.Laws.{below-is}
+use Rattle.bit_vectors.proofs.below.Statement.{statement}
+use Rattle.bit_vectors.proofs.below.Tie as tie
+
+returns : tie.Need-returns
+returns c = below-is _ _ (omega arith)
+
+pub below-spec : {M : Type 1} → statement M
+below-spec = tie.close (tie.spec returns)

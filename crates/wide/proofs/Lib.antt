@@ -1,0 +1,5 @@
+pub mod Words
+pub mod Digits
+pub mod Shifts
+pub mod Tests
+pub mod Products

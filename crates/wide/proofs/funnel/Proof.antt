@@ -1,0 +1,20 @@
+use native.Mathlib.Omega.{arith}
+use Rattle.wide.proofs.Shifts.{funnel-is}
+use borrow.Author.Needs.{needs}
+use Rattle.wide.proofs.funnel.Statement.{statement}
+use Rattle.wide.proofs.funnel.Tie as tie
+
+shl-result : tie.Need-shl-result
+shl-result c = search needs
+
+sub-result : tie.Need-sub-result
+sub-result c = search needs
+
+shr-result : tie.Need-shr-result
+shr-result c = search needs
+
+returns : tie.Need-returns
+returns c = funnel-is _ _ _ (omega arith) (omega arith)
+
+pub funnel-spec : {M : Type 1} → statement M
+funnel-spec = tie.close (tie.spec shl-result sub-result shr-result returns)
