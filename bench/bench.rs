@@ -13,7 +13,7 @@ use std::io::Write;
 use std::process::{Command, Stdio};
 use std::time::Instant;
 
-use native::{bytes, lower_block, lower_instruction, pool_check, text_length, value_to, words, write_text};
+use native::{bytes, lower_block, lower_instruction, pool_check, read_words, text_length, value_to, words, write_text, write_words};
 use pools::{Node, Rng, grow, pool_words};
 
 type Record = [u64; 6];
@@ -219,6 +219,18 @@ fn nested(rounds: u64) {
     }
 }
 
+/// Mean time of a record written as a word, and of a word read as a record, in a list of all forms.
+fn coding(rounds: u64, all: &[Record]) {
+    let flat = all.concat();
+    let mut text = bytes(4 * all.len());
+    let write = best(rounds, || assert_eq!(black_box(write_words(black_box(&flat), &mut text)).0, 0));
+    let raw = text.items().to_vec();
+    let mut records = words(&vec![0; flat.len()]);
+    let read = best(rounds, || assert_eq!(black_box(read_words(black_box(&raw), &mut records)).0, 0));
+    assert!(records.items() == flat, "reading what was written gives the records");
+    println!("write-word {:.1}\nread-word {:.1}", write / all.len() as f64, read / all.len() as f64);
+}
+
 /// A whole run of a program.
 fn program(rounds: u64, command: &[&str], input: &[u8]) -> f64 {
     best(rounds, || {
@@ -239,6 +251,7 @@ fn main() {
     check(rounds, &all);
     blocks(rounds, &all);
     nested(rounds);
+    coding(rounds, &all);
     // in turn, so that both meet the same machine
     let (mut ours, mut rust) = (f64::MAX, f64::MAX);
     for _ in 0..rounds.div_ceil(4) {

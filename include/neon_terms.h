@@ -32,7 +32,7 @@ extern "C" {
 #endif
 
 /* The numbers. The first in order wins: one instruction 1 to 6; text 1, 5, 9; block 8, 6, then record by record 2, 3, 4, 7; value 1, 5,
- * 11. */
+ * 11; words 12, 9; records as words 2, 3, 4, 7 record by record, then 9. */
 enum neon_number {
     NEON_DONE = 0,
     NEON_BAD_POOL = 1,          /* count above places, or a node breaks a rule */
@@ -43,9 +43,10 @@ enum neon_number {
     NEON_NO_ROOM = 6,           /* fewer than 768 free places; block of k: fewer than 32 + 768 * k places */
     NEON_REGISTER = 7,          /* above 31, m above 15 for an element of 16 bits, or m not 0 with no second source */
     NEON_LONG_BLOCK = 8,        /* more than 85 records */
-    NEON_SHORT_BUFFER = 9,      /* the text is longer than the buffer */
+    NEON_SHORT_BUFFER = 9,      /* the text is longer than the buffer; a lent list is too short for the records or words */
     NEON_LINE = 10,             /* of the line program alone */
-    NEON_VISITS = 11            /* the term's value takes more visits than are allowed */
+    NEON_VISITS = 11,           /* the term's value takes more visits than are allowed */
+    NEON_WORD = 12              /* a word that encodes no legal form, a broken last word among them */
 };
 
 /* The kinds of nodes. */
@@ -122,6 +123,22 @@ uint64_t neon_write_text(const uint64_t *pool, size_t words, size_t count, size_
 /* *length is that of the text of a node, or ceiling + 1 where the text is longer; 0 where it is refused. Its time grows with the
  * ceiling. */
 uint64_t neon_text_length(const uint64_t *pool, size_t words, size_t count, size_t node, uint32_t ceiling, uint64_t *length);
+
+/* Words. A64 instruction words stand in memory as four bytes each, the lowest first; records as six words each, as in a block.
+ * Reading and writing are inverse: what one made the other takes back, and no bit of a word goes unread.
+ *
+ * Reads words into records. `length` counts bytes, `entries` the words of `records`. Numbers: NEON_WORD with the position of the first
+ * word that encodes no legal form, counted from 0; a broken last word is one, at the number of whole words before it. Then
+ * NEON_SHORT_BUFFER where `entries` is below six a word. Done: the records are at the front of `records`, later entries stay, *count is the
+ * number of records, *position 0. Refused: *count is 0, *position 0 but with NEON_WORD, and no entry changes. A few hundred bytes of
+ * stack. */
+uint64_t neon_read_words(const uint8_t *bytes, size_t length, uint64_t *records, size_t entries, size_t *count, size_t *position);
+
+/* Writes records as words. `numbers` counts words, six a record; words after the last whole record are not read. Numbers: 2, 3, 4 and 7
+ * by record, with the position of the first bad one; then NEON_SHORT_BUFFER where `length` is below four bytes a record. Done: the words
+ * are at the front of `bytes`, later bytes stay, *count is the number of words, *position 0. Refused: *count is 0, *position 0 but with
+ * 2, 3, 4 and 7, and no byte changes. */
+uint64_t neon_write_words(const uint64_t *records, size_t numbers, uint8_t *bytes, size_t length, size_t *count, size_t *position);
 
 /* The registers that a node's term reads: *set has bit r for register r, 0 where it is refused by 1 or 5. Two starts that agree on these
  * registers give the term the same value. */

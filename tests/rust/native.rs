@@ -14,6 +14,8 @@ unsafe extern "C" {
     ) -> u64;
     fn neon_text_length(pool: *const u64, words: usize, count: usize, node: usize, ceiling: u32, length: *mut u64) -> u64;
     fn neon_registers_of(pool: *const u64, words: usize, count: usize, node: usize, set: *mut u64) -> u64;
+    fn neon_read_words(bytes: *const u8, length: usize, records: *mut u64, entries: usize, count: *mut usize, position: *mut usize) -> u64;
+    fn neon_write_words(records: *const u64, numbers: usize, bytes: *mut u8, length: usize, count: *mut usize, position: *mut usize) -> u64;
 }
 
 const GUARDS: usize = 8;
@@ -137,4 +139,22 @@ pub fn value(pool: &[u64], count: usize, node: usize, start: &[u128; 32], allowa
     let mut found = words(&[77; 3]);
     let (number, visits) = value_to(&mut found, pool, count, node, &register_words(start), allowance);
     (number, found.items().try_into().expect("three words"), visits)
+}
+
+/// Number, count and position.
+pub fn read_words(bytes: &[u8], records: &mut Words) -> (u64, usize, usize) {
+    let (to, entries) = records.lend();
+    let (mut count, mut position) = (77, 77);
+    let number = unsafe { neon_read_words(bytes.as_ptr(), bytes.len(), to, entries, &mut count, &mut position) };
+    records.look();
+    (number, count, position)
+}
+
+/// Number, count and position.
+pub fn write_words(records: &[u64], bytes: &mut Lent<u8>) -> (u64, usize, usize) {
+    let (to, length) = bytes.lend();
+    let (mut count, mut position) = (77, 77);
+    let number = unsafe { neon_write_words(records.as_ptr(), records.len(), to, length, &mut count, &mut position) };
+    bytes.look();
+    (number, count, position)
 }

@@ -14,12 +14,14 @@
 //! # Ok::<(), neon_terms::Refusal>(())
 //! ```
 
+mod encoding;
 mod operation;
 mod raw;
 mod registers;
 mod value;
 mod words;
 
+pub use encoding::Block;
 pub use operation::{Arrangement, Operation};
 pub use registers::Registers;
 pub use value::Value;
@@ -52,12 +54,14 @@ pub enum Number {
     Line,
     /// The value of a term takes more visits than are allowed.
     Visits,
+    /// A word that encodes no legal form, a broken last word among them.
+    Word,
     /// A number that this wrapper does not know, from an archive that is newer than it.
     Unknown(u64),
 }
 
 /// Each number with its word.
-const NUMBERS: [(u64, Number, &str); 11] = [
+const NUMBERS: [(u64, Number, &str); 12] = [
     (1, Number::BadPool, "bad pool"),
     (2, Number::NoSuchOperation, "no such operation"),
     (3, Number::NoSuchForm, "no such form"),
@@ -69,6 +73,7 @@ const NUMBERS: [(u64, Number, &str); 11] = [
     (9, Number::ShortBuffer, "short buffer"),
     (10, Number::Line, "line"),
     (11, Number::Visits, "visits"),
+    (12, Number::Word, "word"),
 ];
 
 impl Number {
@@ -95,7 +100,7 @@ impl fmt::Display for Number {
     }
 }
 
-/// A number, and for a block the position of its first bad record, where the number is of a record.
+/// A number and, where it is of a record of a block or of a word, the position of the first bad one.
 #[derive(Debug, Clone, Copy, PartialEq, Eq)]
 pub struct Refusal {
     pub number: Number,
@@ -105,6 +110,7 @@ pub struct Refusal {
 impl fmt::Display for Refusal {
     fn fmt(&self, f: &mut fmt::Formatter<'_>) -> fmt::Result {
         match self.position {
+            Some(position) if self.number == Number::Word => write!(f, "word {position} encodes no legal form"),
             Some(position) => write!(f, "{} (record {position})", self.number),
             None => self.number.fmt(f),
         }
@@ -121,10 +127,10 @@ fn answer(code: u64) -> Result<(), Refusal> {
     }
 }
 
-/// The answer of a block: 2, 3, 4 and 7 are of the record at a position.
-fn block_answer(code: u64, position: u64) -> Result<(), Refusal> {
-    let of_record = matches!(code, 2 | 3 | 4 | 7);
-    answer(code).map_err(|refusal| Refusal { position: of_record.then_some(position as usize), ..refusal })
+/// The answer of a list: 2, 3, 4 and 7 are of the record at a position, 12 of the word.
+fn list_answer(code: u64, position: usize) -> Result<(), Refusal> {
+    let of_one = matches!(code, 2 | 3 | 4 | 7 | 12);
+    answer(code).map_err(|refusal| Refusal { position: of_one.then_some(position), ..refusal })
 }
 
 /// An instruction of a block: d, n and m are registers, m is 0 without a second source. Numbers that name nothing are refused.
@@ -136,6 +142,12 @@ pub struct Record {
     pub d: u64,
     pub n: u64,
     pub m: u64,
+}
+
+impl Record {
+    pub(crate) fn numbers(&self) -> [u64; 6] {
+        [self.operation, self.arrangement, self.i, self.d, self.n, self.m]
+    }
 }
 
 /// What a legal form reads.
@@ -237,11 +249,11 @@ impl Pool {
     /// assert_eq!(refusal.to_string(), "immediate (record 1)");
     /// ```
     pub fn from_block(records: &[Record]) -> Result<(Self, [Node; 32]), Refusal> {
-        let flat: Vec<u64> = records.iter().flat_map(|r| [r.operation, r.arrangement, r.i, r.d, r.n, r.m]).collect();
+        let flat: Vec<u64> = records.iter().flat_map(Record::numbers).collect();
         let mut words = vec![0; 4 * (32 + raw::RESERVE * records.len().min(raw::MOST_RECORDS))];
         let mut results = [0; raw::RESULTS];
         let number = raw::lower_block(&mut words, &flat, &mut results);
-        block_answer(number, results[33])?;
+        list_answer(number, results[33] as usize)?;
         let count = results[32] as usize;
         words.truncate(4 * count);
         Ok((Self { words, count }, std::array::from_fn(|r| Node(results[r] as usize))))
@@ -353,11 +365,11 @@ mod tests {
     #[test]
     fn numbers_of_records_have_a_position() {
         for code in 1..20 {
-            let position = matches!(code, 2 | 3 | 4 | 7).then_some(5);
-            assert_eq!(block_answer(code, 5).unwrap_err().position, position);
+            let position = matches!(code, 2 | 3 | 4 | 7 | 12).then_some(5);
+            assert_eq!(list_answer(code, 5).unwrap_err().position, position);
         }
-        assert_eq!(block_answer(7, 0).unwrap_err().to_string(), "register (record 0)");
-        assert_eq!(block_answer(8, 0).unwrap_err().to_string(), "long block");
+        assert_eq!(list_answer(7, 0).unwrap_err().to_string(), "register (record 0)");
+        assert_eq!(list_answer(8, 0).unwrap_err().to_string(), "long block");
     }
 
     #[test]

@@ -46,6 +46,8 @@ unsafe extern "C" {
     ) -> u64;
     fn neon_text_length(pool: *const u64, words: usize, count: usize, node: usize, ceiling: u32, length: *mut u64) -> u64;
     fn neon_registers_of(pool: *const u64, words: usize, count: usize, node: usize, set: *mut u64) -> u64;
+    fn neon_read_words(bytes: *const u8, length: usize, records: *mut u64, entries: usize, count: *mut usize, position: *mut usize) -> u64;
+    fn neon_write_words(records: *const u64, numbers: usize, bytes: *mut u8, length: usize, count: *mut usize, position: *mut usize) -> u64;
 }
 
 pub fn form_code(operation: u64, arrangement: u64) -> u64 {
@@ -103,4 +105,18 @@ pub fn value(pool: &[u64], count: usize, node: usize, start: &[u64; 64], allowan
         };
         (number, value, visits)
     })
+}
+
+/// Number, count of records and position.
+pub fn read_words(bytes: &[u8], records: &mut [u64]) -> (u64, usize, usize) {
+    let (mut count, mut position) = (0, 0);
+    let number = unsafe { neon_read_words(bytes.as_ptr(), bytes.len(), records.as_mut_ptr(), records.len(), &mut count, &mut position) };
+    (number, count, position)
+}
+
+/// Number, count of words and position.
+pub fn write_words(records: &[u64], bytes: &mut [u8]) -> (u64, usize, usize) {
+    let (mut count, mut position) = (0, 0);
+    let number = unsafe { neon_write_words(records.as_ptr(), records.len(), bytes.as_mut_ptr(), bytes.len(), &mut count, &mut position) };
+    (number, count, position)
 }

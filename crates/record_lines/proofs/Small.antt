@@ -1,13 +1,17 @@
--- The numbers of a legal record fit their columns. Assumes nothing.
+-- The numbers of a legal record fit their columns, and its line has 25 bytes. Assumes nothing.
+use mathlib.Core.Path.{_≡_}
 use mathlib.Core.Bool.{Bool, true, false, cond}
 use Prim.Native.Nat.{_<_}
 use native.Mathlib.Omega.{arith}
+use lib.ListN.{length}
 use Rattle.neon.specs.declared.Instruction.{Instruction}
 use Rattle.neon.specs.Op.{Op, opAt, Arrangement, B8, B16, H4, H8, S2, S4, D2, arrangementAt, laneBits}
 use Rattle.neon.specs.Form.{Immediate, None, Left, Right, Element, mostOf, form, hasSecond, most}
 use Rattle.neon.specs.Refusal.{Legal, mostM, shortElement}
 use Rattle.neon.proofs.Geometry.{sized}
 use Rattle.neon.proofs.Legal.{accepted}
+use Rattle.columns.proofs.Characters.{columns-are}
+use Rattle.record_lines.specs.Line.{line}
 
 most-of : (K : Immediate) (v : Arrangement) → mostOf K (laneBits v) < 10000
 most-of None v = omega arith
@@ -54,3 +58,15 @@ small c h =
       n-small = omega (arith, a .at-n);
       m-small = omega (arith, a .at-m, second-small o v);
     }
+
+pub line-length : (c : Instruction) → Legal c → length (line c) ≡ 25
+line-length c h =
+    let s = small c h in
+    rw (
+      columns-are (c .operation) (s .operation-small),
+      columns-are (c .arrangement) (s .arrangement-small),
+      columns-are (c .i) (s .i-small),
+      columns-are (c .d) (s .d-small),
+      columns-are (c .n) (s .n-small),
+      columns-are (c .m) (s .m-small),
+    )

@@ -6,9 +6,6 @@ ghost use Rattle.record_check.specs.Record.{instruction};
 ghost use Rattle.digits.specs.Writing.{Room, Wrote};
 ghost use Rattle.record_lines.specs.Line.{line};
 
-// The bytes of a line.
-pub const LINE: usize = 25;
-
 // Writes a line. A field has four columns.
 pub fn put_line(
     operation: u64,

@@ -1,0 +1,6 @@
+pub mod Encoding
+pub mod Word
+pub mod Decode
+pub mod Inverse
+pub mod Samples
+pub mod Parts

@@ -1,0 +1,99 @@
+-- `words_lists::put_words` meets its contract: after each turn the words of the records so far are written.
+use mathlib.Core.List.{List}
+use mathlib.Core.Path.{_≡_, refl, sym, ap, _∙_, subst}
+use Prim.Native.Nat.{ℕ, _-_, _/_, _≤_}
+use native.Mathlib.Omega.{arith}
+use lib.ListN.{length}
+use Rattle.neon.specs.declared.Instruction.{Instruction}
+use Rattle.neon.specs.Refusal.{Legal}
+use Rattle.digits.specs.Writing.{Wrote}
+use Rattle.digits.proofs.Laws.{wrote-length, wrote-as}
+use Rattle.record_check.specs.Record.{recordAt}
+use Rattle.encoding.specs.Word.{encode}
+use Rattle.series.specs.Series.{upTo}
+use Rattle.series.proofs.Texts.{room-next, wrote-next, wrote-first}
+use Rattle.words_lists.specs.Words.{wordBytes, wordsIn}
+use Rattle.words_lists.proofs.put_words.Statement.{statement}
+use Rattle.words_lists.proofs.put_words.Tie as tie
+
+abbrev rows : List ℕ → ℕ → List ℕ
+rows fs j = wordBytes (encode (recordAt fs j))
+
+abbrev Inv-loop : tie.InvT-loop
+Inv-loop records bytes₀ count j₀ end₀ bytes j end =
+    Wrote bytes₀ 0 (upTo j (rows records)) end bytes × (count ≡ length records / 6) × (j ≤ count) × (length bytes ≡ length bytes₀)
+
+abbrev μ-loop : tie.MeasureT-loop
+μ-loop records bytes₀ count j₀ end₀ bytes j end = count - j
+
+loop-holds : tie.Need-loop-holds Inv-loop μ-loop
+loop-holds c =
+    let a = c .before .before .args in (wrote-first (rows (a .records .now)) (a .bytes .now) 0, refl, omega arith, refl)
+
+record-at-requires : tie.Need-record-at-requires Inv-loop μ-loop
+record-at-requires c κs =
+    omega (arith, c .before .loop .inv .1, c .loop-test .taken)
+
+encode-word-requires : tie.Need-encode-word-requires Inv-loop μ-loop
+encode-word-requires c κs =
+    let t = c .before in
+    let l = t .before in
+    let st = l .before .before .before in
+    subst (λ (x : Instruction). Legal x) (sym (c .record-at .ensures)) (st .pre .0 (l .loop .j) (omega (arith, l .loop .inv .1, t .loop-test .taken)))
+
+put-word-requires : tie.Need-put-word-requires Inv-loop μ-loop
+unfolding wordsIn
+put-word-requires c κs =
+    let w = c .before in
+    let t = w .before .before in
+    let l = t .before in
+    let st = l .before .before .before in
+    let fs = st .args .records .now in
+    room-next (rows fs) (length fs / 6) (l .loop .j) (omega (arith, l .loop .inv .1, t .loop-test .taken)) (st .pre .1) (l .loop .inv .0) .room
+
+add-j : tie.Need-add-j Inv-loop μ-loop
+add-j c =
+    omega (arith, c .before .before .before .before .before .before .loop-test .taken, c .before .before .before .before .before .before .before .loop .inv .1)
+
+loop-less : tie.Need-loop-less Inv-loop μ-loop
+loop-less c =
+    omega (arith, c .before .before .before .before .before .before .loop-test .taken)
+
+loop-again : tie.Need-loop-again Inv-loop μ-loop
+loop-again c =
+    let p = c .before .before in
+    let w = p .before .before in
+    let r = w .before in
+    let t = r .before in
+    let l = t .before in
+    let fs = l .before .before .before .args .records .now in
+    let u = wrote-as (ap wordBytes (sym (w .encode-word .ensures ∙ ap encode (r .record-at .ensures)))) (p .put-word .ensures) in
+    (wrote-next (rows fs) (l .loop .j) (l .loop .inv .0) u, l .loop .inv .1, omega (arith, t .loop-test .taken), wrote-length (p .put-word .ensures) ∙ l .loop .inv .3)
+
+same-length : tie.Need-same-length Inv-loop μ-loop
+same-length c =
+    c .before .loop .inv .3
+
+returns : tie.Need-returns Inv-loop μ-loop
+unfolding wordsIn
+returns c =
+    let l = c .before .loop in
+    let a = c .before .before .before .before .args in
+    let e : l .j ≡ length (a .records .now) / 6 = omega (arith, l .inv .1, l .inv .2, c .loop-test .left) in
+    subst (λ (j : ℕ). Wrote (a .bytes .now) 0 (upTo j (rows (a .records .now))) (l .end) (l .bytes)) e (l .inv .0)
+
+pub put-words-spec : {M : Type 1} → statement M
+put-words-spec =
+    tie.close
+    (tie.spec
+    Inv-loop
+    μ-loop
+    loop-holds
+    record-at-requires
+    encode-word-requires
+    put-word-requires
+    add-j
+    loop-less
+    loop-again
+    same-length
+    returns)
