@@ -13,7 +13,7 @@ use std::io::Write;
 use std::process::{Command, Stdio};
 use std::time::Instant;
 
-use native::{bytes, lower_block, lower_instruction, pool_check, read_words, text_length, value_to, words, write_text, write_words};
+use native::{bytes, join, lower_block, lower_instruction, pool_check, read_words, text_length, value_to, words, write_text, write_words};
 use pools::{Node, Rng, grow, pool_words};
 
 type Record = [u64; 6];
@@ -201,6 +201,18 @@ fn blocks(rounds: u64, all: &[Record]) {
     }
 }
 
+/// Two pools of half the nodes joined: the mean time of a node of the third.
+fn joins(rounds: u64, all: &[Record]) {
+    let pool = lowered(all);
+    let half = 32767;
+    let mut joined = words(&vec![0; 4 * (2 * half - 31)]);
+    let time = best(rounds, || {
+        let (number, _, count) = black_box(join((&pool, half, 0), (&pool, half, 1), &mut joined));
+        assert_eq!((number, count), (0, 2 * half - 31));
+    });
+    println!("join {:.2}", time / (2 * half - 31) as f64);
+}
+
 /// SQADD 16B on a source that is k cuts of cuts: each lane's cut of each source goes past them all. Microseconds, the pool check with it.
 fn nested(rounds: u64) {
     let mut r = vec![Node { kind: 1, width: 128, operands: [0; 3], data: [1, 0] }];
@@ -252,6 +264,7 @@ fn main() {
     blocks(rounds, &all);
     nested(rounds);
     coding(rounds, &all);
+    joins(rounds, &all);
     // in turn, so that both meet the same machine
     let (mut ours, mut rust) = (f64::MAX, f64::MAX);
     for _ in 0..rounds.div_ceil(4) {

@@ -32,7 +32,7 @@ extern "C" {
 #endif
 
 /* The numbers. The first in order wins: one instruction 1 to 6; text 1, 5, 9; block 8, 6, then record by record 2, 3, 4, 7; value 1, 5,
- * 11; words 12, 9; records as words 2, 3, 4, 7 record by record, then 9. */
+ * 11; words 12, 9; records as words 2, 3, 4, 7 record by record, then 9; join 1, 5, 6. */
 enum neon_number {
     NEON_DONE = 0,
     NEON_BAD_POOL = 1,          /* count above places, or a node breaks a rule */
@@ -152,6 +152,20 @@ uint64_t neon_registers_of(const uint64_t *pool, size_t words, size_t count, siz
  * are more than `allowance`; no more than `allowance` are made. With these `value` and *visits are 0. */
 uint64_t neon_value(const uint64_t *pool, size_t words, size_t count, size_t node, const uint64_t start[NEON_REGISTER_WORDS],
                     uint64_t allowance, uint64_t value[NEON_VALUE], uint64_t *visits);
+
+/* ---- Pools */
+
+/* Two pools as one, in a third buffer. Both begin with v0 to v31 as nodes 0 to 31 and have no further Var, as pools of
+ * neon_lower_block do. The third has
+ *   0 to first_count - 1   the first pool's nodes
+ *   then                   the second's from 32 on, in order; their operands from 32 on rise by first_count - 32 as they do
+ *   last                   the Eq of the first's node a and the second's node b, of 128 bits each: *node
+ * and *count = first_count + second_count - 31 nodes; later words stay. Numbers, the first in order: 1 for the first pool, also where it
+ * does not begin so; 1 for the second; 5 where a or b is not below its count or not 128 wide; 6 where the third has fewer than *count
+ * places. A refusal gives NEON_NO_NODE and the count 0. The two pools may be one and the same. */
+uint64_t neon_join(const uint64_t *first, size_t first_words, size_t first_count, size_t a, const uint64_t *second,
+                   size_t second_words, size_t second_count, size_t b, uint64_t *joined, size_t joined_words, size_t *node,
+                   size_t *count);
 
 #ifdef __cplusplus
 }

@@ -42,7 +42,7 @@ pub fn spoil(r: &mut Rng, records: &mut [Record]) {
     };
 }
 
-fn oracle_record(r: &Record) -> forms::Record {
+pub fn oracle_record(r: &Record) -> forms::Record {
     let [op, arr, imm, d, n, m] = r.map(|x| x as u16);
     forms::Record { op, arr, imm, d, n, m }
 }

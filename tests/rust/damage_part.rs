@@ -33,7 +33,7 @@ const KINDS: usize = 8;
 const DAMAGE: [&str; KINDS] = ["none", "bits", "words", "counts", "lengths", "operands", "widths", "sets"];
 
 /// One way of damage; returns which.
-fn damage(r: &mut Rng, words: &mut Vec<u64>, count: &mut usize) -> usize {
+pub fn damage(r: &mut Rng, words: &mut Vec<u64>, count: &mut usize) -> usize {
     let way = r.below(KINDS as u64) as usize;
     let any = count.saturating_mul(4).min(words.len() & !3) as u64;
     if any == 0 {

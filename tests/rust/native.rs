@@ -16,6 +16,10 @@ unsafe extern "C" {
     fn neon_registers_of(pool: *const u64, words: usize, count: usize, node: usize, set: *mut u64) -> u64;
     fn neon_read_words(bytes: *const u8, length: usize, records: *mut u64, entries: usize, count: *mut usize, position: *mut usize) -> u64;
     fn neon_write_words(records: *const u64, numbers: usize, bytes: *mut u8, length: usize, count: *mut usize, position: *mut usize) -> u64;
+    fn neon_join(
+        first: *const u64, first_words: usize, first_count: usize, a: usize, second: *const u64, second_words: usize, second_count: usize, b: usize,
+        joined: *mut u64, joined_words: usize, node: *mut usize, count: *mut usize,
+    ) -> u64;
 }
 
 const GUARDS: usize = 8;
@@ -157,4 +161,18 @@ pub fn write_words(records: &[u64], bytes: &mut Lent<u8>) -> (u64, usize, usize)
     let number = unsafe { neon_write_words(records.as_ptr(), records.len(), to, length, &mut count, &mut position) };
     bytes.look();
     (number, count, position)
+}
+
+/// A pool's words, its count and a node.
+pub type Chosen<'a> = (&'a [u64], usize, usize);
+
+/// Number, node and count.
+pub fn join((first, c, a): Chosen, (second, d, b): Chosen, joined: &mut Words) -> (u64, usize, usize) {
+    let (at, length) = joined.lend();
+    let (mut node, mut count) = (77, 77);
+    let number = unsafe {
+        neon_join(first.as_ptr(), first.len(), c, a, second.as_ptr(), second.len(), d, b, at, length, &mut node, &mut count)
+    };
+    joined.look();
+    (number, node, count)
 }

@@ -15,6 +15,7 @@
 //! ```
 
 mod encoding;
+mod join;
 mod operation;
 mod raw;
 mod registers;

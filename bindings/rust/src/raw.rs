@@ -48,6 +48,10 @@ unsafe extern "C" {
     fn neon_registers_of(pool: *const u64, words: usize, count: usize, node: usize, set: *mut u64) -> u64;
     fn neon_read_words(bytes: *const u8, length: usize, records: *mut u64, entries: usize, count: *mut usize, position: *mut usize) -> u64;
     fn neon_write_words(records: *const u64, numbers: usize, bytes: *mut u8, length: usize, count: *mut usize, position: *mut usize) -> u64;
+    fn neon_join(
+        first: *const u64, first_words: usize, first_count: usize, a: usize, second: *const u64, second_words: usize, second_count: usize, b: usize,
+        joined: *mut u64, joined_words: usize, node: *mut usize, count: *mut usize,
+    ) -> u64;
 }
 
 pub fn form_code(operation: u64, arrangement: u64) -> u64 {
@@ -119,4 +123,15 @@ pub fn write_words(records: &[u64], bytes: &mut [u8]) -> (u64, usize, usize) {
     let (mut count, mut position) = (0, 0);
     let number = unsafe { neon_write_words(records.as_ptr(), records.len(), bytes.as_mut_ptr(), bytes.len(), &mut count, &mut position) };
     (number, count, position)
+}
+
+/// Number, node and count. A pool comes with its count and a node.
+pub fn join((first, c, a): (&[u64], usize, usize), (second, d, b): (&[u64], usize, usize), joined: &mut [u64]) -> (u64, usize, usize) {
+    let (mut node, mut count) = (0, 0);
+    let number = unsafe {
+        neon_join(
+            first.as_ptr(), first.len(), c, a, second.as_ptr(), second.len(), d, b, joined.as_mut_ptr(), joined.len(), &mut node, &mut count,
+        )
+    };
+    (number, node, count)
 }

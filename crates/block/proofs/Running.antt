@@ -38,7 +38,7 @@ tree-more [] c t = refl
 tree-more (x ∷ cs) c t = tree-more cs c (treeStep x t)
 
 -- a run adds nodes
-lowered-more : (ws : List ℕ) (m : RegisterMap) (t : ℕ → Expr) (cs : List Instruction) (m′ : RegisterMap) → Lowered ws m t cs m′ → m .count ≤ m′ .count
+pub lowered-more : (ws : List ℕ) (m : RegisterMap) (t : ℕ → Expr) (cs : List Instruction) (m′ : RegisterMap) → Lowered ws m t cs m′ → m .count ≤ m′ .count
 lowered-more ws m t [] m′ h = rw h (le-refl (m .count))
 lowered-more ws m t (c ∷ cs) m′ h = le-trans (h .2 .more) (lowered-more ws (written m (c .d) (h .0) (h .1)) (treeStep c t) cs m′ (h .3))
 
@@ -126,7 +126,7 @@ start-none ws = record { grown = grown-refl ws 0; valid = refl; vars = λ r h. a
 pub start-more : {w0 w1 w2 : List ℕ} {k : ℕ} {b : Built} → k < 32 → Room w1 k 1 → Started w0 w1 k → MadeVar w1 k w2 b k → Started w0 w2 (k + 1)
 unfolding kindAt kinds
 start-more {w0} {w1} {w2} {k} {b} l m s d =
-    let a = appended m (d .words) (packed 1 128 (2 ^ k) 0 0 0 k 0 (omega arith) (omega arith) (omega arith) (omega arith)) refl in
+    let a = appended m (d .words) (λ f e. omega arith) (packed 1 128 (2 ^ k) 0 0 0 k 0 (omega arith) (omega arith) (omega arith) (omega arith)) refl in
     let x = d .made (s .valid) l in
     record {
       grown = grown-trans (s .grown) (a .grown);
@@ -158,6 +158,7 @@ all-done {w0} {w1} {w2} {m} {cs} l s r =
       long = long;
       past = λ i h. d .grown .above i h ∙ s .grown .above i (omega (arith, d .grown .more));
       vars = λ x h. cell-kept (d .grown) x h ∙ s .vars x h;
+      plain = λ n f h. d .grown .plain n f f h;
       lowered = d .lowered;
     }
 

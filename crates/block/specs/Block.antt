@@ -8,7 +8,7 @@ use Rattle.terms.specs.Expr.{Expr, Var}
 use Rattle.neon.specs.declared.Instruction.{Instruction}
 use Rattle.neon.specs.Refusal.{reserve, blockRefusal}
 use Rattle.trees.specs.Block.{treeStep, treeRun}
-use Rattle.pool.specs.Node.{var, Cell, cellAt, places}
+use Rattle.pool.specs.Node.{var, Cell, cellAt, kindNumber, places}
 use Rattle.pool.specs.Rules.{Valid, poolOk}
 use Rattle.pool.specs.Growth.{Grown}
 use Rattle.register_map.specs.declared.RegisterMap.{RegisterMap}
@@ -25,13 +25,14 @@ abbrev pub Lowered : List ℕ → RegisterMap → (ℕ → Expr) → List Instru
 Lowered ws m t [] m′ = m′ ≡ m
 Lowered ws m t (c ∷ cs) m′ = (answer : ℕ) × (k : ℕ) × Added ws m t c answer k × Lowered ws (written m (c .d) answer k) (treeStep c t) cs m′
 
--- a block that is accepted
+-- a block that is accepted: nodes 0 to 31 are the registers, and no other is a Var
 pub record Accepted (old : List ℕ) (cs : List Instruction) (new : List ℕ) (m : RegisterMap) : Type 0 where
   pub terms : MapIs new m (treeRun cs Var)
   pub checked : poolOk new (m .count) ≡ true
   pub long : length new ≡ length old
   pub past : (i : ℕ) → 4 * m .count ≤ i → getD new i 0 ≡ getD old i 0
   pub vars : (r : ℕ) → r < 32 → VarAt new r
+  pub plain : (n : ℕ) → 32 ≤ n → n < m .count → kindNumber new n ≡ 1 → ⊥
   pub lowered : Lowered new firstMap Var cs m
 
 -- the answer for every block: its number and position; refused, no node and no word; else all of the above

@@ -18,7 +18,7 @@ use Rattle.pool.specs.Rules.{widthBefore, Valid}
 use Rattle.pool.specs.Unfold.{earlier, unfoldAt}
 use Rattle.pool.specs.Growth.{NodeIs, Room, Made}
 use Rattle.nodes.specs.Builders.{unionAt, Writes, MadeVar, MadeConst, MadeBv, MadeCompare, MadeIte, MadeExtract, MadeConcat, MadeZeroExtend, MadeSignExtend}
-use Rattle.pool.proofs.Laws.{Appended, appended, packed, packed-set, made-of, sized-of}
+use Rattle.pool.proofs.Laws.{Appended, appended, packed, packed-kind, packed-set, made-of, sized-of}
 
 -- an operand, as the rules and the term of a node see it
 seen : {ws : List ℕ} {k n w : ℕ} {t : Expr} → NodeIs ws k n w t → widthBefore ws k n ≡ w
@@ -115,41 +115,43 @@ compare-kind Eq = refl
 compare-kind Ult = refl
 compare-kind Slt = refl
 
-bv-small : (o : BinOp) → bvCode o < 65536
-bv-small Add = omega arith
-bv-small Sub = omega arith
-bv-small Mul = omega arith
-bv-small And = omega arith
-bv-small Or = omega arith
-bv-small Xor = omega arith
-bv-small Shl = omega arith
-bv-small LShr = omega arith
-bv-small AShr = omega arith
+-- their numbers are those of no Var
+bv-code : (o : BinOp) → (3 ≤ bvCode o) × (bvCode o ≤ 11)
+bv-code Add = omega arith
+bv-code Sub = omega arith
+bv-code Mul = omega arith
+bv-code And = omega arith
+bv-code Or = omega arith
+bv-code Xor = omega arith
+bv-code Shl = omega arith
+bv-code LShr = omega arith
+bv-code AShr = omega arith
 
-compare-small : (o : CmpOp) → compareCode o < 65536
-compare-small Eq = omega arith
-compare-small Ult = omega arith
-compare-small Slt = omega arith
+compare-code : (o : CmpOp) → (12 ≤ compareCode o) × (compareCode o ≤ 14)
+compare-code Eq = omega arith
+compare-code Ult = omega arith
+compare-code Slt = omega arith
 
 module _ {old : List ℕ} {k : ℕ} {new : List ℕ} {r : Built} (m : Room old k 1) where
-  -- the node that packed words make
-  node-of : {code w s a b c x y : ℕ} {kind : Kind} → code < 65536 → w < 65536 → a < 65536 → b < 65536 → kindAt code ≡ kind
+  -- the node that packed words make; a Var stands among the first 32
+  node-of : {code w s a b c x y : ℕ} {kind : Kind} → code < 65536 → (32 ≤ k → code ≡ 1 → ⊥) → w < 65536 → a < 65536 → b < 65536 → kindAt code ≡ kind
       → Writes old k new r (kindWord code w s) (operandWord a b c) x y
       → Appended old k new (r .node .0) (r .count) (record { kind = kind; width = w; a = a; b = b; c = c; x = x; y = y }) s
-  node-of {code} {w} {s} {a} {b} {c} {x} {y} h g i j q p = appended m p (rw (← q) (packed code w s a b c x y h g i j)) (packed-set code w s h g)
+  node-of {code} {w} {s} {a} {b} {c} {x} {y} h v g i j q p =
+      appended m p (rw (packed-kind code w s h) v) (rw (← q) (packed code w s a b c x y h g i j)) (packed-set code w s h g)
 
-  pub var-built : {register set w0 : ℕ} → set ≡ 2 ^ register → w0 ≡ kindWord 1 128 set → Writes old k new r w0 0 register 0 → MadeVar old k new r register
+  pub var-built : {register set w0 : ℕ} → k < 32 → set ≡ 2 ^ register → w0 ≡ kindWord 1 128 set → Writes old k new r w0 0 register 0 → MadeVar old k new r register
   unfolding kindAt kinds
-  var-built {register} g e p =
+  var-built {register} l g e p =
       let q : Writes old k new r (kindWord 1 128 (2 ^ register)) 0 register 0 = rw (e, g) at p in
-      let n = node-of {code = 1} {w = 128} {a = 0} {b = 0} {c = 0} (omega arith) (omega arith) (omega arith) (omega arith) refl q in
+      let n = node-of {code = 1} {w = 128} {a = 0} {b = 0} {c = 0} (omega arith) (λ f e. omega arith) (omega arith) (omega arith) (omega arith) refl q in
       record { words = q; sized = sized-of n; made = λ v h. made-var n v h }
 
   pub const-built : {lo hi w w0 : ℕ} → w ≤ 129 → w0 ≡ kindWord 2 w 0 → Writes old k new r w0 0 lo hi → MadeConst old k new r lo hi w
   unfolding kindAt kinds
   const-built {lo} {hi} {w} g e p =
       let q : Writes old k new r (kindWord 2 w 0) 0 lo hi = rw e at p in
-      let n = node-of {code = 2} {w = w} {s = 0} {a = 0} {b = 0} {c = 0} (omega arith) (omega arith) (omega arith) (omega arith) refl q in
+      let n = node-of {code = 2} {w = w} {s = 0} {a = 0} {b = 0} {c = 0} (omega arith) (λ f e. omega (arith, e)) (omega arith) (omega arith) (omega arith) refl q in
       record { words = q; sized = sized-of n; made = λ v l m e h. rw (← e) (made-const n v l m (rw e h)) }
 
   module _ {a b : Node} (ha : a .0 < k) (hb : b .0 < k) where
@@ -158,7 +160,7 @@ module _ {old : List ℕ} {k : ℕ} {new : List ℕ} {r : Built} (m : Room old k
         → MadeBv old k new r o a b
     bv-built {o} {w = w} c d g e f p =
         let q : Writes old k new r (kindWord (bvCode o) (widthAt old (a .0) % 256) (unionAt old (a .0) (b .0))) (operandWord (a .0) (b .0) 0) 0 0 = rw (e, f, c, d, g) at p in
-        let n = node-of {c = 0} (bv-small o) (omega arith) (omega (arith, m .numbers)) (omega (arith, m .numbers)) (bv-kind o) q in
+        let n = node-of {c = 0} (omega (arith, bv-code o)) (λ f e. omega (arith, bv-code o, e)) (omega arith) (omega (arith, m .numbers)) (omega (arith, m .numbers)) (bv-kind o) q in
         record { words = q; sized = sized-of n; made = λ v l h ia ib. made-bv o n (omega (arith, ia .wide)) v l h ia ib }
 
     pub compare-built : {o : CmpOp} {code set w0 w1 : ℕ} → code ≡ compareCode o → set ≡ unionAt old (a .0) (b .0) → w0 ≡ kindWord code 0 set → w1 ≡ operandWord (a .0) (b .0) 0
@@ -166,7 +168,7 @@ module _ {old : List ℕ} {k : ℕ} {new : List ℕ} {r : Built} (m : Room old k
         → MadeCompare old k new r o a b
     compare-built {o} c g e f p =
         let q : Writes old k new r (kindWord (compareCode o) 0 (unionAt old (a .0) (b .0))) (operandWord (a .0) (b .0) 0) 0 0 = rw (e, f, c, g) at p in
-        let n = node-of {w = 0} {c = 0} (compare-small o) (omega arith) (omega (arith, m .numbers)) (omega (arith, m .numbers)) (compare-kind o) q in
+        let n = node-of {w = 0} {c = 0} (omega (arith, compare-code o)) (λ f e. omega (arith, compare-code o, e)) (omega arith) (omega (arith, m .numbers)) (omega (arith, m .numbers)) (compare-kind o) q in
         record { words = q; sized = sized-of n; made = λ v l ia ib. made-compare o n v l ia ib }
 
     pub concat-built : {w u set w0 w1 : ℕ} → w ≡ widthAt old (a .0) % 256 → u ≡ widthAt old (b .0) % 256 → set ≡ unionAt old (a .0) (b .0) → w0 ≡ kindWord 17 (w + u) set
@@ -176,7 +178,7 @@ module _ {old : List ℕ} {k : ℕ} {new : List ℕ} {r : Built} (m : Room old k
     unfolding kindAt kinds
     concat-built c d g e f p =
         let q : Writes old k new r (kindWord 17 (widthAt old (a .0) % 256 + widthAt old (b .0) % 256) (unionAt old (a .0) (b .0))) (operandWord (a .0) (b .0) 0) 0 0 = rw (e, f, c, d, g) at p in
-        let n = node-of {code = 17} {c = 0} (omega arith) (omega arith) (omega (arith, m .numbers)) (omega (arith, m .numbers)) refl q in
+        let n = node-of {code = 17} {c = 0} (omega arith) (λ f e. omega (arith, e)) (omega arith) (omega (arith, m .numbers)) (omega (arith, m .numbers)) refl q in
         record { words = q; sized = sized-of n; made = λ v l l′ e h ia ib. rw (← e) (made-concat n (omega (arith, ia .wide, ib .wide)) v l l′ (omega arith) ia ib) }
 
     pub ite-built : {c : Node} {w set w0 w1 : ℕ} → w ≡ widthAt old (b .0) % 256 → set ≡ bitOr (unionAt old (a .0) (b .0)) (setAt old (c .0)) → w0 ≡ kindWord 15 w set
@@ -185,7 +187,7 @@ module _ {old : List ℕ} {k : ℕ} {new : List ℕ} {r : Built} (m : Room old k
     unfolding kindAt kinds
     ite-built {c} d g e f p =
         let q : Writes old k new r (kindWord 15 (widthAt old (b .0) % 256) (bitOr (unionAt old (a .0) (b .0)) (setAt old (c .0)))) (operandWord (a .0) (b .0) (c .0)) 0 0 = rw (e, f, d, g) at p in
-        let n = node-of {code = 15} {c = c .0} (omega arith) (omega arith) (omega (arith, m .numbers)) (omega (arith, m .numbers)) refl q in
+        let n = node-of {code = 15} {c = c .0} (omega arith) (λ f e. omega (arith, e)) (omega arith) (omega (arith, m .numbers)) (omega (arith, m .numbers)) refl q in
         record { words = q; sized = sized-of n; made = λ v l h ia ib ic. made-ite n (omega (arith, ib .wide)) v l h ia ib ic }
 
   module _ {a : Node} (ha : a .0 < k) where
@@ -194,19 +196,19 @@ module _ {old : List ℕ} {k : ℕ} {new : List ℕ} {r : Built} (m : Room old k
     unfolding kindAt kinds
     extract-built {hi} {lo} l top g e f p =
         let q : Writes old k new r (kindWord 16 (hi - lo + 1) (setAt old (a .0))) (operandWord (a .0) 0 0) hi lo = rw (e, f, g) at p in
-        let n = node-of {code = 16} {b = 0} {c = 0} (omega arith) (omega arith) (omega (arith, m .numbers)) (omega arith) refl q in
+        let n = node-of {code = 16} {b = 0} {c = 0} (omega arith) (λ f e. omega (arith, e)) (omega arith) (omega (arith, m .numbers)) (omega arith) refl q in
         record { words = q; sized = sized-of n; made = λ v h e ia. rw (← e) (made-extract n refl v l h ia) }
 
     pub zext-built : {to set w0 w1 : ℕ} → to ≤ 129 → set ≡ setAt old (a .0) → w0 ≡ kindWord 18 to set → w1 ≡ operandWord (a .0) 0 0 → Writes old k new r w0 w1 0 0 → MadeZeroExtend old k new r a to
     unfolding kindAt kinds
     zext-built {to} top g e f p =
         let q : Writes old k new r (kindWord 18 to (setAt old (a .0))) (operandWord (a .0) 0 0) 0 0 = rw (e, f, g) at p in
-        let n = node-of {code = 18} {b = 0} {c = 0} (omega arith) (omega arith) (omega (arith, m .numbers)) (omega arith) refl q in
+        let n = node-of {code = 18} {b = 0} {c = 0} (omega arith) (λ f e. omega (arith, e)) (omega arith) (omega (arith, m .numbers)) (omega arith) refl q in
         record { words = q; sized = sized-of n; made = λ v l l′ h ia. made-zext n v l l′ h ia }
 
     pub sext-built : {to set w0 w1 : ℕ} → to ≤ 129 → set ≡ setAt old (a .0) → w0 ≡ kindWord 19 to set → w1 ≡ operandWord (a .0) 0 0 → Writes old k new r w0 w1 0 0 → MadeSignExtend old k new r a to
     unfolding kindAt kinds
     sext-built {to} top g e f p =
         let q : Writes old k new r (kindWord 19 to (setAt old (a .0))) (operandWord (a .0) 0 0) 0 0 = rw (e, f, g) at p in
-        let n = node-of {code = 19} {b = 0} {c = 0} (omega arith) (omega arith) (omega (arith, m .numbers)) (omega arith) refl q in
+        let n = node-of {code = 19} {b = 0} {c = 0} (omega arith) (λ f e. omega (arith, e)) (omega arith) (omega (arith, m .numbers)) (omega arith) refl q in
         record { words = q; sized = sized-of n; made = λ v l l′ h ia. made-sext n v l l′ h ia }

@@ -39,10 +39,10 @@ fn operand_word(a: Node, b: Node, c: Node) -> u64
     (a.0 as u64) + 65536 * (b.0 as u64) + 4294967296 * (c.0 as u64)
 }
 
-// A register.
+// A register: one of the first 32 nodes.
 pub fn var(pool: &mut [u64], count: usize, register: u64) -> Built
     requires { ⌜ Room (now pool) count 1 ⌝ }
-    requires { ⌜ register < 32 ⌝ }
+    requires { ⌜ (count < 32) × (register < 32) ⌝ }
     ensures { λ r. ⌜ MadeVar (now (pool .entry)) count (now (pool .exit)) r register ⌝ }
 {
     push(

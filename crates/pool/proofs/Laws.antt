@@ -11,8 +11,9 @@ use lib.ListN.{length, getD, set, length-set}
 use lib.Seq.{getD-set-same, getD-set-other}
 use lib.Dec.{ltb}
 use borrow.Author.Tests.{ltb-true, eq-eqb}
+use Rattle.facts.proofs.Numbers.{before-or-from}
 use Rattle.terms.specs.Expr.{Expr}
-use Rattle.pool.specs.Node.{Cell, kindAt, kindWord, operandWord, decode, cellAt, widthAt, setOf, setAt, writeNode}
+use Rattle.pool.specs.Node.{Cell, kindAt, kindWord, operandWord, kindOf, decode, cellAt, widthAt, setOf, setAt, writeNode}
 use Rattle.pool.specs.Rules.{ifEarlier, widthBefore, setBefore, setRule, okCell, okPool, Valid}
 use Rattle.pool.specs.Unfold.{shape, earlier, unfoldTo, unfoldAt}
 use Rattle.pool.specs.Growth.{operands, Reach, AllReached, Grown, NodeIs, Pushed, Room, Sized, Made}
@@ -20,15 +21,17 @@ use Rattle.pool.specs.Growth.{operands, Reach, AllReached, Grown, NodeIs
 -- ---- growth
 
 pub grown-refl : (ws : List ℕ) (k : ℕ) → Grown ws k ws k
-grown-refl ws k = record { long = refl; more = le-refl k; below = λ i h. refl; above = λ i h. refl }
+grown-refl ws k = record { long = refl; more = le-refl k; below = λ i h. refl; above = λ i h. refl; plain = λ n f l h. absurd (omega arith) }
 
 pub grown-trans : {a b c : List ℕ} {i j k : ℕ} → Grown a i b j → Grown b j c k → Grown a i c k
-grown-trans g h =
+grown-trans {j = j} g h =
     record {
       long = h .long ∙ g .long;
       more = le-trans (g .more) (h .more);
       below = λ n l. h .below n (omega (arith, g .more)) ∙ g .below n l;
       above = λ n l. h .above n l ∙ g .above n (omega (arith, h .more));
+      plain = λ n f l m.
+          ⊎-elim (λ p. subst (λ (w : ℕ). kindOf w ≡ 1 → ⊥) (sym (h .below (4 * n) (omega arith))) (g .plain n f l p)) (λ p. h .plain n f p m) (before-or-from n j);
     }
 
 -- ---- a test that both sides pass or fail together
@@ -156,7 +159,10 @@ packed code w s i j l x y p t q r =
     let e4 : (i + 65536 * j + 4294967296 * l) / 4294967296 ≡ l = omega arith in
     rw (e0, q1, e1, e2, q3, e3, e4)
 
--- and the set
+-- the kind's number and the set
+pub packed-kind : (code w s : ℕ) → code < 65536 → kindOf (kindWord code w s) ≡ code
+packed-kind code w s p = omega arith
+
 pub packed-set : (code w s : ℕ) → code < 65536 → w < 65536 → setOf (kindWord code w s) ≡ s
 packed-set code w s p t = omega arith
 
@@ -191,22 +197,26 @@ module _ (ws : List ℕ) (k w0 w1 x y : ℕ) (room : 4 * (k + 1) ≤ length ws) 
       ∙ getD-set-same ws (4 * k) w0 0 (omega arith) in
       λ i. decode (f0 i) (f1 i) (f2 i) (f3 i)
 
-  write-set : setAt (writeNode ws k w0 w1 x y) k ≡ setOf w0
-  write-set =
+  write-first : getD (writeNode ws k w0 w1 x y) (4 * k) 0 ≡ w0
+  write-first =
       let l1 = set ws (4 * k) w0 in
       let l2 = set l1 (4 * k + 1) w1 in
       let l3 = set l2 (4 * k + 2) x in
-      ap setOf
-      (getD-set-other l3 (4 * k + 3) (4 * k) y 0 (omega arith) ∙ getD-set-other l2 (4 * k + 2) (4 * k) x 0 (omega arith)
-      ∙ getD-set-other l1 (4 * k + 1) (4 * k) w1 0 (omega arith) ∙ getD-set-same ws (4 * k) w0 0 (omega arith))
+      getD-set-other l3 (4 * k + 3) (4 * k) y 0 (omega arith) ∙ getD-set-other l2 (4 * k + 2) (4 * k) x 0 (omega arith)
+      ∙ getD-set-other l1 (4 * k + 1) (4 * k) w1 0 (omega arith)
+      ∙ getD-set-same ws (4 * k) w0 0 (omega arith)
 
-  write-grown : Grown ws k (writeNode ws k w0 w1 x y) (k + 1)
-  write-grown =
+  write-plain : (n : ℕ) → (32 ≤ k → kindOf w0 ≡ 1 → ⊥) → 32 ≤ n → n ≡ k → kindOf (getD (writeNode ws k w0 w1 x y) (4 * n) 0) ≡ 1 → ⊥
+  write-plain n h f e = rw (e, write-first) (h (omega arith))
+
+  write-grown : (32 ≤ k → kindOf w0 ≡ 1 → ⊥) → Grown ws k (writeNode ws k w0 w1 x y) (k + 1)
+  write-grown h =
       record {
         long = simp length-set;
         more = omega arith;
         below = λ i l. write-other ws k w0 w1 x y i (inl l);
         above = λ i l. write-other ws k w0 w1 x y i (inr l);
+        plain = λ n f l m. write-plain n h f (omega arith);
       }
 
 -- one node more, of which the cell and the set are told
@@ -217,16 +227,16 @@ pub record Appended (old : List ℕ) (k : ℕ) (new : List ℕ) (r k′ : ℕ) (
   pub cell-is : cellAt new k ≡ cell
   pub set-is : setAt new k ≡ s
 
-pub appended : {old : List ℕ} {k : ℕ} {new : List ℕ} {r k′ w0 w1 w2 w3 s : ℕ} {cell : Cell} → Room old k 1 → Pushed old k new r k′ w0 w1 w2 w3 → decode w0 w1 w2 w3 ≡ cell
-    → setOf w0 ≡ s
+pub appended : {old : List ℕ} {k : ℕ} {new : List ℕ} {r k′ w0 w1 w2 w3 s : ℕ} {cell : Cell} → Room old k 1 → Pushed old k new r k′ w0 w1 w2 w3
+    → (32 ≤ k → kindOf w0 ≡ 1 → ⊥) → decode w0 w1 w2 w3 ≡ cell → setOf w0 ≡ s
     → Appended old k new r k′ cell s
-appended {old} {k} {w0 = w0} {w1} {w2} {w3} m p e f =
+appended {old} {k} {w0 = w0} {w1} {w2} {w3} m p h e f =
     record {
       at = p .at;
       next = p .next;
-      grown = rw (p .words) (write-grown old k w0 w1 w2 w3 (m .words));
+      grown = rw (p .words) (write-grown old k w0 w1 w2 w3 (m .words) h);
       cell-is = rw (p .words) (write-cell old k w0 w1 w2 w3 (m .words) ∙ e);
-      set-is = rw (p .words) (write-set old k w0 w1 w2 w3 (m .words) ∙ f);
+      set-is = rw (p .words) (ap setOf (write-first old k w0 w1 w2 w3 (m .words)) ∙ f);
     }
 
 -- ---- what one node more makes

@@ -4,7 +4,7 @@ use mathlib.Core.Path.{_≡_}
 use Prim.Native.Nat.{ℕ, _+_, _*_, _≤_, _<_}
 use lib.ListN.{length, getD}
 use Rattle.terms.specs.Expr.{Expr}
-use Rattle.pool.specs.Node.{Kind, bad, var, const, bv, compare, ite, extract, concat, zext, sext, Cell, cellAt, widthAt, writeNode, none}
+use Rattle.pool.specs.Node.{Kind, bad, var, const, bv, compare, ite, extract, concat, zext, sext, Cell, cellAt, kindNumber, widthAt, writeNode, none}
 use Rattle.pool.specs.Rules.{Valid}
 use Rattle.pool.specs.Unfold.{unfoldAt}
 
@@ -36,12 +36,14 @@ AllReached ws r (m ∷ ms) = Reach ws r m × AllReached ws r ms
 
 -- ---- growth
 
--- from old with k nodes to new with k′: the words before node k and those from node k′ on are as they were
+-- from old with k nodes to new with k′: the words before node k and those from node k′ on are as they were, and no node between them is a Var
+-- but among the first 32, where a block has its registers
 pub record Grown (old : List ℕ) (k : ℕ) (new : List ℕ) (k′ : ℕ) : Type 0 where
   pub long : length new ≡ length old
   pub more : k ≤ k′
   pub below : (i : ℕ) → i < 4 * k → getD new i 0 ≡ getD old i 0
   pub above : (i : ℕ) → 4 * k′ ≤ i → getD new i 0 ≡ getD old i 0
+  pub plain : (n : ℕ) → 32 ≤ n → k ≤ n → n < k′ → kindNumber new n ≡ 1 → ⊥
 
 -- node n, of count c, has width w and unfolds to t
 pub record NodeIs (ws : List ℕ) (c n w : ℕ) (t : Expr) : Type 0 where

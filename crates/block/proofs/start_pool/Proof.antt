@@ -26,7 +26,7 @@ loop-holds : tie.Need-loop-holds Inv-loop μ-loop
 loop-holds c = (omega arith, start-none (c .before .args .pool .now))
 
 var-requires : tie.Need-var-requires Inv-loop μ-loop
-var-requires c κs = (room (c .before), c .before .loop-test .taken)
+var-requires c κs = let l = c .before .loop-test .taken in (room (c .before), (omega (arith, l), omega (arith, l)))
 
 abbrev turn : tie.After-slice-known2 Inv-loop μ-loop → tie.In-loop Inv-loop μ-loop
 turn c = c .before .before .before .before

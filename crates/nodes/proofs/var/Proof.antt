@@ -18,14 +18,14 @@ same-length c = search needs
 kind-word-requires : tie.Need-kind-word-requires
 kind-word-requires c κs =
     let st = c .before .before in
-    (omega arith, omega arith, rw (shifted (st .args .register) (omega (arith, st .pre .1))) (pow-lt {i = st .args .register} {j = 32} (st .pre .1)))
+    (omega arith, omega arith, rw (shifted (st .args .register) (omega (arith, st .pre .1 .1))) (pow-lt {i = st .args .register} {j = 32} (st .pre .1 .1)))
 
 returns : tie.Need-returns
 returns c =
     let l-push = c .before .before in
     let l-kind-word = l-push .before in
     let st = l-kind-word .before .before .before in
-    var-built (st .pre .0) (shifted (st .args .register) (omega (arith, st .pre .1))) (l-kind-word .kind-word .ensures) (l-push .push .ensures)
+    var-built (st .pre .0) (st .pre .1 .0) (shifted (st .args .register) (omega (arith, st .pre .1 .1))) (l-kind-word .kind-word .ensures) (l-push .push .ensures)
 
 pub var-spec : {M : Type 1} → statement M
 var-spec =

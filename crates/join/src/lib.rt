@@ -1,0 +1,222 @@
+// Two pools as one, with an Eq of a term of each (document 02, S-11). The Rust has no counterpart.
+use operands::has_a;
+use operands::has_b;
+use operands::has_c;
+use pool::Node;
+use pool::places;
+use pool::push;
+use pool::words::kind_of;
+use pool::words::kind_word;
+use pool::words::set_of;
+use pool::words::width_of;
+use pool_check::pool_check;
+ghost use mathlib.Core.Bool.{_&&_};
+ghost use mathlib.Core.Path.{_≡_};
+ghost use Prim.Native.Nat.{_+_, _-_, _*_, _≤_, _<_};
+ghost use lib.ListN.{length};
+ghost use Rattle.pool.specs.Node.{places, wordAt};
+ghost use Rattle.pool.specs.Rules.{poolOk, Valid};
+ghost use Rattle.join.specs.Starts.{varRule, startsWithRegisters};
+ghost use Rattle.join.specs.Join.{moved, movedIf, movedWord, joinCount, chosenOk, joinNumber, Answered, Half, SecondAt, writeMoved, writeEq};
+
+// The number of document 02, the Eq, and how many nodes there are with it.
+pub struct Joined {
+    pub number: u64,
+    pub node: usize,
+    pub count: usize,
+}
+
+// Whether node n is Var n, or, from 32 on, no Var.
+fn var_rule(pool: &[u64], n: usize) -> bool
+    requires { ⌜ 4 * n + 3 < length (now pool) ⌝ }
+    ensures { λ r. ⌜ r ≡ varRule (now (pool .entry)) n ⌝ }
+{
+    let is_var = kind_of(pool, Node(n)) == 1;
+    let x = pool[4 * n + 2];
+    if n < 32 {
+        return is_var & (x == n as u64);
+    }
+    !is_var
+}
+
+// Whether the pool passes the check, begins with the registers and has no further Var.
+fn starts(pool: &[u64], count: usize) -> bool
+    ensures { λ r. ⌜ r ≡ (poolOk (now (pool .entry)) count && startsWithRegisters (now (pool .entry)) count) ⌝ }
+{
+    if !pool_check(pool, count) {
+        return false;
+    }
+    if count < 32 {
+        return false;
+    }
+    let mut n = 0;
+    while n < count {
+        if !var_rule(pool, n) {
+            return false;
+        }
+        n += 1;
+    }
+    true
+}
+
+// Whether node n is there and has 128 bits.
+fn chosen_ok(pool: &[u64], count: usize, n: usize) -> bool
+    requires { ⌜ 4 * count ≤ length (now pool) ⌝ }
+    ensures { λ r. ⌜ r ≡ chosenOk (now (pool .entry)) count n ⌝ }
+{
+    if n < count {
+        return width_of(pool, Node(n)) == 128;
+    }
+    false
+}
+
+// The number of the second pool's node m, where it is an operand; the first pool has c nodes.
+fn moved_if(there: bool, c: u64, m: u64) -> u64
+    requires { ⌜ (32 ≤ c) × (c ≤ 65535) × (m < 65536) ⌝ }
+    ensures { λ r. ⌜ (r ≡ movedIf there c m) × (r < 131072) ⌝ }
+{
+    if there & (32 <= m) {
+        return m + c - 32;
+    }
+    m
+}
+
+// Word 1 of a node of the second pool, with its operands under their new numbers.
+fn moved_word(c: u64, kind: u64, w1: u64) -> u64
+    requires { ⌜ (32 ≤ c) × (c ≤ 65535) × (w1 < 281474976710656) ⌝ }
+    ensures { λ r. ⌜ r ≡ movedWord c kind w1 ⌝ }
+{
+    let m0 = moved_if(has_a(kind), c, w1 % 65536);
+    let m1 = moved_if(has_b(kind), c, w1 / 65536 % 65536);
+    let m2 = moved_if(has_c(kind), c, w1 / 4294967296);
+    m0 + 65536 * m1 + 4294967296 * m2
+}
+
+// Copies the first pool's nodes.
+fn copy_first(first: &[u64], c: usize, out: &mut [u64])
+    requires { ⌜ (4 * c ≤ length (now first)) × (4 * c ≤ length (now out)) × (c ≤ 65535) ⌝ }
+    ensures { λ r. ⌜ Half (now (first .entry)) (now (out .entry)) (now (out .exit)) (4 * c) ⌝ }
+{
+    let mut i = 0;
+    while i < 4 * c {
+        out[i] = first[i];
+        i += 1;
+    }
+}
+
+// Writes the copy of the second pool's node m.
+fn move_one(second: &[u64], c: usize, m: usize, out: &mut [u64])
+    requires { ⌜ (32 ≤ c) × (c ≤ 65535) × (32 ≤ m) × (m < 65535) ⌝ }
+    requires { ⌜ (4 * m + 3 < length (now second)) × (4 * (m + c) + 4 ≤ length (now out) + 128) × (m + c < 65567) ⌝ }
+    requires { ⌜ wordAt (now second) m 1 < 281474976710656 ⌝ }
+    ensures { λ r. ⌜ now (out .exit) ≡ writeMoved c (now (second .entry)) m (now (out .entry)) ⌝ }
+{
+    let at = 4 * m;
+    let w1 = moved_word(c as u64, kind_of(second, Node(m)), second[at + 1]);
+    push(
+        out,
+        m + c - 32,
+        second[at],
+        w1,
+        second[at + 2],
+        second[at + 3],
+    );
+}
+
+// Copies the second pool's nodes but its registers.
+fn copy_second(
+    first: &[u64],
+    c: usize,
+    second: &[u64],
+    d: usize,
+    x: usize,
+    y: usize,
+    out: &mut [u64],
+)
+    requires { ⌜ (Valid (now second) d) × (4 * d ≤ length (now second)) × (32 ≤ d) ⌝ }
+    requires { ⌜ (4 * c ≤ length (now first)) × (32 ≤ c) ⌝ }
+    requires { ⌜ (4 * joinCount c d ≤ length (now out)) × (joinCount c d ≤ 65535) ⌝ }
+    ensures { λ r. ⌜ SecondAt (now (first .entry)) c (now (second .entry)) d x y (now (out .entry)) (now (out .exit)) (c + d - 32) ⌝ }
+{
+    copy_first(first, c, out);
+    let mut m = 32;
+    while m < d {
+        move_one(second, c, m, out);
+        m += 1;
+    }
+}
+
+// Writes the Eq of the first pool's x and of the second's y.
+fn put_eq(first: &[u64], c: usize, second: &[u64], d: usize, x: usize, y: usize, out: &mut [u64])
+    requires { ⌜ (4 * c ≤ length (now first)) × (4 * d ≤ length (now second)) ⌝ }
+    requires { ⌜ (32 ≤ c) × (32 ≤ d) × (x < c) × (y < d) ⌝ }
+    requires { ⌜ (4 * joinCount c d ≤ length (now out)) × (joinCount c d ≤ 65535) ⌝ }
+    ensures { λ r. ⌜ now (out .exit) ≡ writeEq (now (first .entry)) c (now (second .entry)) d x y (now (out .entry)) ⌝ }
+{
+    let set = set_of(first, Node(x)) | set_of(second, Node(y));
+    let b = moved_if(true, c as u64, y as u64);
+    push(
+        out,
+        c + d - 32,
+        kind_word(12, 0, set),
+        x as u64 + 65536 * b,
+        0,
+        0,
+    );
+}
+
+// The number, 0 where the two are joined: 1 for the first pool, then for the second; 5; 6.
+fn join_number(
+    first: &[u64],
+    c: usize,
+    second: &[u64],
+    d: usize,
+    x: usize,
+    y: usize,
+    out: &[u64],
+) -> u64
+    ensures { λ r. ⌜ r ≡ joinNumber (now (first .entry)) c (now (second .entry)) d x y (now (out .entry)) ⌝ }
+{
+    if !starts(first, c) {
+        return 1;
+    }
+    if !starts(second, d) {
+        return 1;
+    }
+    if !(chosen_ok(first, c, x) & chosen_ok(second, d, y)) {
+        return 5;
+    }
+    if places(out) < c + d - 31 {
+        return 6;
+    }
+    0
+}
+
+// The first pool, the second without its registers, and the Eq of the first's x and of the second's y.
+pub fn join(
+    first: &[u64],
+    c: usize,
+    second: &[u64],
+    d: usize,
+    x: usize,
+    y: usize,
+    out: &mut [u64],
+) -> Joined
+    ensures { λ r. ⌜ Answered (now (first .entry)) c (now (second .entry)) d x y (now (out .entry)) (now (out .exit)) r ⌝ }
+{
+    let number = join_number(first, c, second, d, x, y, out);
+    if 0 < number {
+        return Joined {
+            number,
+            node: 65535,
+            count: 0,
+        };
+    }
+    copy_second(first, c, second, d, x, y, out);
+    put_eq(first, c, second, d, x, y, out);
+    Joined {
+        number,
+        node: c + d - 32,
+        count: c + d - 31,
+    }
+}

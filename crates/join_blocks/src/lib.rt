@@ -1,0 +1,1 @@
+// Demand 3 over a joined pool: proofs/ has the theorem.
