@@ -13,7 +13,7 @@ use std::io::Write;
 use std::process::{Command, Stdio};
 use std::time::Instant;
 
-use native::{bytes, join, lower_block, lower_instruction, pool_check, read_words, text_length, value_to, words, write_text, write_words};
+use native::{bytes, canonical, join, lower_block, lower_instruction, pool_check, read_words, text_length, value_to, words, write_text, write_words};
 use pools::{Node, Rng, grow, pool_words};
 
 type Record = [u64; 6];
@@ -213,6 +213,41 @@ fn joins(rounds: u64, all: &[Record]) {
     println!("join {:.2}", time / (2 * half - 31) as f64);
 }
 
+/// Canonical pools of 65,535 nodes, ns a node: a chain, pairs of equal nodes, random sums, and constants whose keys differ in their last bits alone.
+fn canonicals(rounds: u64) {
+    let var = |r: u64| Node { kind: 1, width: 128, operands: [0; 3], data: [r, 0] };
+    let sum = |a: usize, b: usize| Node { kind: 3, width: 128, operands: [a, b, 0], data: [0; 2] };
+    let mut r = Rng(0x9e37_79b9_7f4a_7c15);
+    let mut some = |n: usize| r.below(n as u64) as usize;
+    let chain = (0..65535).map(|n| if n == 0 { var(0) } else { sum(n - 1, 0) }).collect();
+    let pairs = (0..65535).map(|n| if n < 2 { var(0) } else { sum((n & !1) - 1, (n & !1) - 2) }).collect();
+    let random = (0..65535).map(|n| if n < 32 { var(n as u64) } else { sum(some(n), some(n)) }).collect();
+    for (name, nodes) in [("chain", chain), ("pairs", pairs), ("random", random), ("collide", colliding())] {
+        let pool: Vec<u64> = pool_words(&nodes);
+        let mut out = words(&vec![0; pool.len()]);
+        let time = best(rounds.div_ceil(10), || assert_eq!(black_box(canonical((&pool, nodes.len(), nodes.len() - 1), &mut out)).0, 0));
+        println!("canonical-{name} {:.1}", time / nodes.len() as f64);
+    }
+}
+
+/// The bucket that crates/same_trees has for a constant of 128 bits.
+fn bucket(low: u64, high: u64) -> u64 {
+    let mix = |x: u64| (x % (1 << 32)) * 227832187 + (x >> 32) * 251658257;
+    let start = mix(mix(2 + (128 << 16)));
+    mix(mix(start + low % (1 << 62)) + high % (1 << 62)) / (1 << 20) % 65536
+}
+
+/// Constants of one bucket that differ in their last bits alone, as many as a chain of sums can keep.
+fn colliding() -> Vec<Node> {
+    let constants = (0..).map(|k: u64| k << 24).filter(|&high| bucket(0, high) == bucket(0, 0)).take(32768);
+    let mut nodes: Vec<Node> = constants.map(|high| Node { kind: 2, width: 128, operands: [0; 3], data: [0, high] }).collect();
+    for k in 1..32768 {
+        let last = if k == 1 { 0 } else { nodes.len() - 1 };
+        nodes.push(Node { kind: 3, width: 128, operands: [last, k, 0], data: [0; 2] });
+    }
+    nodes
+}
+
 /// SQADD 16B on a source that is k cuts of cuts: each lane's cut of each source goes past them all. Microseconds, the pool check with it.
 fn nested(rounds: u64) {
     let mut r = vec![Node { kind: 1, width: 128, operands: [0; 3], data: [1, 0] }];
@@ -265,6 +300,7 @@ fn main() {
     nested(rounds);
     coding(rounds, &all);
     joins(rounds, &all);
+    canonicals(rounds);
     // in turn, so that both meet the same machine
     let (mut ours, mut rust) = (f64::MAX, f64::MAX);
     for _ in 0..rounds.div_ceil(4) {

@@ -9,7 +9,8 @@
  *
  * Stack. The two functions on texts call themselves for each level of a term, and take at most 64 bytes a level: 4.2 MB for the
  * deepest pool. A level has 5 characters or more, so a buffer or a ceiling of 140,000 bytes or less needs 1.8 MB at most. The
- * other functions take a few kilobytes. neon_value calls itself too, and takes 80 bytes a level: 5.3 MB for the deepest pool.
+ * other functions take a few kilobytes. neon_value calls itself too, and takes 80 bytes a level: 5.3 MB for the deepest pool;
+ * neon_canonical takes 0.95 MB, whatever the pool.
  *
  * Pool. Four words a node; places = words / 4, or 65,535 if that is less; nodes 0 to count - 1 are in use.
  *   word 0   kind + 65,536 * width + 2^32 * set; the width is 1 to 129 bits, or 0 for a condition; bit r of the set is up
@@ -32,7 +33,8 @@ extern "C" {
 #endif
 
 /* The numbers. The first in order wins: one instruction 1 to 6; text 1, 5, 9; block 8, 6, then record by record 2, 3, 4, 7; value 1, 5,
- * 11; words 12, 9; records as words 2, 3, 4, 7 record by record, then 9; join 1, 5, 6. */
+ * 11; words 12, 9; records as words 2, 3, 4, 7 record by record, then 9; join 1, 5, 6; canonical
+ * 1, 5, 6. */
 enum neon_number {
     NEON_DONE = 0,
     NEON_BAD_POOL = 1,          /* count above places, or a node breaks a rule */
@@ -166,6 +168,13 @@ uint64_t neon_value(const uint64_t *pool, size_t words, size_t count, size_t nod
 uint64_t neon_join(const uint64_t *first, size_t first_words, size_t first_count, size_t a, const uint64_t *second,
                    size_t second_words, size_t second_count, size_t b, uint64_t *joined, size_t joined_words, size_t *node,
                    size_t *count);
+
+/* One order for nodes: writes the canonical pool of a root to the front of `out`, each distinct subtree once, in the order in which a walk
+ * that goes to the left operand first finishes them. *after is its count, and its last node is the root; later words stay. Two roots give
+ * equal words exactly where they unfold to the same tree, so that dumps can be compared byte by byte; a second time nothing changes.
+ * Numbers, the first in order: 1; 5 where root is not below count; 6 where `out` has fewer places than there are distinct subtrees, which is
+ * known before a word is written. A refusal gives *after 0. */
+uint64_t neon_canonical(const uint64_t *pool, size_t words, size_t count, size_t root, uint64_t *out, size_t out_words, size_t *after);
 
 #ifdef __cplusplus
 }

@@ -22,6 +22,7 @@ mod registers;
 mod run;
 
 mod blocks_part;
+mod canonical_part;
 mod damage_part;
 mod evaluate;
 mod evaluate_part;
@@ -74,6 +75,7 @@ const PARTS: &[Part] = &[
     part("evaluate", 10, 10, evaluate_part::main),
     part("words", 1, 0, words_part::main),
     part("join", 10, 10, join_part::main),
+    part("canonical", 10, 10, canonical_part::main),
     part("lines", 5_000, 10, lines_part::main),
     part("solvers", 5_000, 5, solver_part::main),
 ];
@@ -85,7 +87,7 @@ struct Sample {
 }
 
 /// The samples in tests/stored that a judge makes, by name and number of cases; tests/stored/NAME.c reads NAME.in and writes NAME.out.
-const STORED: &[(&str, u64, fn(u64) -> Sample)] = &[("pools", 300, damage_part::stored), ("evaluate", 200, evaluate_part::stored), ("words", 300, words_part::stored), ("join", 60, join_part::stored)];
+const STORED: &[(&str, u64, fn(u64) -> Sample)] = &[("pools", 300, damage_part::stored), ("evaluate", 200, evaluate_part::stored), ("words", 300, words_part::stored), ("join", 60, join_part::stored), ("canonical", 120, canonical_part::stored)];
 
 impl Part {
     /// The library has to make do with 8 MB of stack, whatever this machine gives the first thread.

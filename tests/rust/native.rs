@@ -20,6 +20,7 @@ unsafe extern "C" {
         first: *const u64, first_words: usize, first_count: usize, a: usize, second: *const u64, second_words: usize, second_count: usize, b: usize,
         joined: *mut u64, joined_words: usize, node: *mut usize, count: *mut usize,
     ) -> u64;
+    fn neon_canonical(pool: *const u64, words: usize, count: usize, root: usize, out: *mut u64, out_words: usize, after: *mut usize) -> u64;
 }
 
 const GUARDS: usize = 8;
@@ -175,4 +176,13 @@ pub fn join((first, c, a): Chosen, (second, d, b): Chosen, joined: &mut Words) -
     };
     joined.look();
     (number, node, count)
+}
+
+/// Number and count.
+pub fn canonical((pool, count, root): Chosen, out: &mut Words) -> (u64, usize) {
+    let (at, length) = out.lend();
+    let mut after = 77;
+    let number = unsafe { neon_canonical(pool.as_ptr(), pool.len(), count, root, at, length, &mut after) };
+    out.look();
+    (number, after)
 }

@@ -14,6 +14,7 @@
 //! # Ok::<(), neon_terms::Refusal>(())
 //! ```
 
+mod canonical;
 mod encoding;
 mod join;
 mod operation;
@@ -22,6 +23,7 @@ mod registers;
 mod value;
 mod words;
 
+pub use canonical::Term;
 pub use encoding::Block;
 pub use operation::{Arrangement, Operation};
 pub use registers::Registers;

@@ -52,6 +52,7 @@ unsafe extern "C" {
         first: *const u64, first_words: usize, first_count: usize, a: usize, second: *const u64, second_words: usize, second_count: usize, b: usize,
         joined: *mut u64, joined_words: usize, node: *mut usize, count: *mut usize,
     ) -> u64;
+    fn neon_canonical(pool: *const u64, words: usize, count: usize, root: usize, out: *mut u64, out_words: usize, after: *mut usize) -> u64;
 }
 
 pub fn form_code(operation: u64, arrangement: u64) -> u64 {
@@ -134,4 +135,11 @@ pub fn join((first, c, a): (&[u64], usize, usize), (second, d, b): (&[u64], usiz
         )
     };
     (number, node, count)
+}
+
+/// Number and count. It takes less than 1 MB of stack, which every thread has.
+pub fn canonical(pool: &[u64], count: usize, root: usize, out: &mut [u64]) -> (u64, usize) {
+    let mut after = 0;
+    let number = unsafe { neon_canonical(pool.as_ptr(), pool.len(), count, root, out.as_mut_ptr(), out.len(), &mut after) };
+    (number, after)
 }

@@ -1,5 +1,6 @@
 // Operations that make one pool of others.
 ghost use mathlib.Core.Path.{_≡_};
+ghost use Rattle.canonise.specs.Canonise.{Answered as Canonised};
 ghost use Rattle.join.specs.Join.{Answered as Joined};
 
 // Returns the number; the Eq and the count of the third pool go to `node` and `count`.
@@ -21,4 +22,20 @@ pub extern "C" fn neon_join(
     *node = j.node;
     *count = j.count;
     j.number
+}
+
+// Returns the number; the count of the canonical pool goes to `after`, and its last node is the root.
+#[no_mangle]
+pub extern "C" fn neon_canonical(
+    pool: &[u64],
+    count: usize,
+    root: usize,
+    out: &mut [u64],
+    after: &mut usize,
+) -> u64
+    ensures { λ r. ⌜ Canonised (now (pool .entry)) count root (now (out .entry)) (now (out .exit)) (record { number = r; count = now (after .exit) }) ⌝ }
+{
+    let c = canonise::canonise(pool, count, root, out);
+    *after = c.count;
+    c.number
 }

@@ -1,0 +1,1 @@
+// Exchanging two neighbouring instructions: specs/ has the definitions, proofs/ the theorem.

@@ -1,0 +1,5 @@
+pub mod Lists
+pub mod Trees
+pub mod Good
+pub mod Words
+pub mod Valid

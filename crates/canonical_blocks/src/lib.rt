@@ -1,0 +1,1 @@
+// The canonical pools of a block with two neighbours exchanged: proofs/ has the theorem.

@@ -1,0 +1,10 @@
+use mathlib.Core.Path.{refl}
+use Rattle.canonise.proofs.Arrays.{nones-are}
+use Rattle.canonise.proofs.nones.Statement.{statement}
+use Rattle.canonise.proofs.nones.Tie as tie
+
+returns : tie.Need-returns
+returns c = nones-are 65536 refl
+
+pub nones-spec : {M : Type 1} → statement M
+nones-spec = tie.close (tie.spec returns)

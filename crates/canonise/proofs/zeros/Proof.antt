@@ -1,0 +1,9 @@
+use Rattle.canonise.proofs.Arrays.{zeros-are}
+use Rattle.canonise.proofs.zeros.Statement.{statement}
+use Rattle.canonise.proofs.zeros.Tie as tie
+
+returns : tie.Need-returns
+returns c = zeros-are 65536 .0
+
+pub zeros-spec : {M : Type 1} → statement M
+zeros-spec = tie.close (tie.spec returns)

@@ -1,0 +1,2 @@
+pub mod Canonise
+pub mod Meaning
