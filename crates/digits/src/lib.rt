@@ -66,31 +66,32 @@ fn short_tens(x: u64) -> Tens
     take_tens(two, 1)
 }
 
-// A longer number is halved until it is short, and its tens and ones are doubled again.
-fn long_tens(x: u64) -> Tens
-    ensures { λ r. ⌜ (10 * r .tens + r .ones ≡ x) × (r .ones < 10) ⌝ }
+// The tens of a longer number: it is halved until it is short, and its tens are doubled again.
+fn long_tens(x: u64) -> u64
+    ensures { λ r. ⌜ (10 * r ≤ x) × (x < 10 * r + 10) ⌝ }
 {
     if x < 160 {
-        return short_tens(x);
+        let t = short_tens(x);
+        return t.tens;
     }
-    let half = long_tens(x / 2);
-    let ones = 2 * half.ones + x % 2;
-    if ones < 10 {
-        return Tens {
-            tens: 2 * half.tens,
-            ones,
-        };
+    let twice = 2 * long_tens(x / 2);
+    if x - 10 * twice < 10 {
+        return twice;
     }
-    Tens {
-        tens: 2 * half.tens + 1,
-        ones: ones - 10,
-    }
+    twice + 1
 }
 
 pub fn tens_of(x: u64) -> Tens
     ensures { λ r. ⌜ (10 * r .tens + r .ones ≡ x) × (r .ones < 10) ⌝ }
 {
-    if x < 160 { short_tens(x) } else { long_tens(x) }
+    if x < 160 {
+        return short_tens(x);
+    }
+    let tens = long_tens(x);
+    Tens {
+        tens,
+        ones: x - 10 * tens,
+    }
 }
 
 // How many decimal digits a number below 1,000 has.

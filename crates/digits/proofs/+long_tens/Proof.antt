@@ -1,4 +1,4 @@
--- long_tens: the tens and ones of a number from those of its half.
+-- long_tens: the tens of a number from those of its half.
 use native.Mathlib.Omega.{arith}
 use Prim.Native.Nat.{ℕ, _<_}
 use borrow.Fn.Kinds.{In}
@@ -33,23 +33,20 @@ module _ (t : ℕ) where
   long-tens-requires : long-tens-lts.Need-long-tens-requires (claims t) (long-tens-at t) long-tens.Post
   long-tens-requires c κs = (omega (arith, c .before .pre .0), tt)
 
-  mul-ones : long-tens-lts.Need-mul-ones (claims t) (long-tens-at t) long-tens.Post
-  mul-ones c = omega arith
+  mul-twice : long-tens-lts.Need-mul-twice (claims t) (long-tens-at t) long-tens.Post
+  mul-twice c = omega arith
 
-  add-ones : long-tens-lts.Need-add-ones (claims t) (long-tens-at t) long-tens.Post
-  add-ones c = omega arith
+  mul-if2 : long-tens-lts.Need-mul-if2 (claims t) (long-tens-at t) long-tens.Post
+  mul-if2 c = omega arith
 
-  mul-t7 : long-tens-lts.Need-mul-t7 (claims t) (long-tens-at t) long-tens.Post
-  mul-t7 c = omega arith
+  sub-if2 : long-tens-lts.Need-sub-if2 (claims t) (long-tens-at t) long-tens.Post
+  sub-if2 c = omega arith
 
   returns-2 : long-tens-lts.Need-returns-2 (claims t) (long-tens-at t) long-tens.Post
   returns-2 c = omega arith
 
-  mul-t6 : long-tens-lts.Need-mul-t6 (claims t) (long-tens-at t) long-tens.Post
-  mul-t6 c = omega arith
-
-  add-t5 : long-tens-lts.Need-add-t5 (claims t) (long-tens-at t) long-tens.Post
-  add-t5 c = omega arith
+  add-result : long-tens-lts.Need-add-result (claims t) (long-tens-at t) long-tens.Post
+  add-result c = omega arith
 
   returns-3 : long-tens-lts.Need-returns-3 (claims t) (long-tens-at t) long-tens.Post
   returns-3 c = omega arith
@@ -61,10 +58,9 @@ pub +long-tens-spec : {M : Type 1} → statement M
     (short-tens-requires t)
     (returns t)
     (long-tens-requires t)
-    (mul-ones t)
-    (add-ones t)
-    (mul-t7 t)
+    (mul-twice t)
+    (mul-if2 t)
+    (sub-if2 t)
     (returns-2 t)
-    (mul-t6 t)
-    (add-t5 t)
+    (add-result t)
     (returns-3 t)
