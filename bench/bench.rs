@@ -13,7 +13,7 @@ use std::io::Write;
 use std::process::{Command, Stdio};
 use std::time::Instant;
 
-use native::{bytes, canonical, join, lower_block, lower_instruction, pool_check, read_words, text_length, value_to, words, write_text, write_words};
+use native::{bytes, canonical, join, lower_block, lower_instruction, pool_check, read_words, run_in_place, text_length, value_to, words, write_text, write_words};
 use pools::{Node, Rng, grow, pool_words};
 
 type Record = [u64; 6];
@@ -201,6 +201,42 @@ fn blocks(rounds: u64, all: &[Record]) {
     }
 }
 
+/// The operations of a family, by its first and last.
+const FAMILIES: [(&str, u64, u64); 11] = [
+    ("shifts", 1, 16),
+    ("inserts", 17, 18),
+    ("sums", 19, 26),
+    ("narrows", 27, 37),
+    ("unary", 38, 39),
+    ("multiplies", 40, 41),
+    ("doubling", 42, 53),
+    ("mixed", 54, 55),
+    ("differences", 56, 59),
+    ("bits", 60, 63),
+    ("high", 64, 67),
+];
+
+/// Mean time to run a record, by family and over all forms, in blocks of up to 64: the checks of the records with it.
+fn run(rounds: u64, all: &[Record]) {
+    let mut r = Rng(0x3c6e_f372_fe94_f82b);
+    let mut registers = words(&(0..64).map(|_| r.next()).collect::<Vec<u64>>());
+    let mut results = words(&[0]);
+    let mut time_of = |records: &[Record]| {
+        let blocks: Vec<Vec<u64>> = records.chunks(64).map(<[Record]>::concat).collect();
+        let time = best(rounds, || {
+            for block in &blocks {
+                assert_eq!(black_box(run_in_place(&mut registers, block, &mut results)), 0);
+            }
+        });
+        time / records.len() as f64
+    };
+    for (name, first, last) in FAMILIES {
+        let records: Vec<Record> = all.iter().copied().filter(|record| (first..=last).contains(&record[0])).collect();
+        println!("run-{name} {:.0}", time_of(&records));
+    }
+    println!("run {:.0}", time_of(all));
+}
+
 /// Two pools of half the nodes joined: the mean time of a node of the third.
 fn joins(rounds: u64, all: &[Record]) {
     let pool = lowered(all);
@@ -295,6 +331,7 @@ fn main() {
     let terms = terms(&all);
     text(rounds, &terms);
     value(rounds, &terms);
+    run(rounds.div_ceil(4), &all);
     check(rounds, &all);
     blocks(rounds, &all);
     nested(rounds);

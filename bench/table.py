@@ -59,6 +59,31 @@ print(f"""
 `neon_value` takes {visit:.2f} ns a visit to a node, over the terms of all forms at one start, the pool check with it; the goal is 15,
 {"met" if visit <= 15 else "missed"}. The values take {int(ours["visits"]):,} visits.""")
 
+run = float(ours["run"])
+FAMILIES = {
+    "shifts": "shifts, 1 to 16",
+    "inserts": "SLI, SRI, 17 and 18",
+    "sums": "saturating and halving sums, 19 to 26",
+    "narrows": "narrowing, 27 to 37",
+    "unary": "SQABS, SQNEG, 38 and 39",
+    "multiplies": "SQDMULH, SQRDMULH, 40 and 41",
+    "doubling": "doubling long, 42 to 53",
+    "mixed": "SUQADD, USQADD, 54 and 55",
+    "differences": "absolute differences, 56 to 59",
+    "bits": "CNT, CLZ, CLS, RBIT, 60 to 63",
+    "high": "high halves, 64 to 67",
+}
+print(f"""
+## Runs
+
+`neon_run_block` takes {run:.0f} ns a record, the mean over all forms, the check of the record with it; the goal is 300,
+{"met" if run <= 300 else "missed"}.
+
+| Operations | ns a record |
+|---|---|""")
+for name, words in FAMILIES.items():
+    print(f"| {words} | {float(ours['run-' + name]):.0f} |")
+
 
 def growth(name):
     return {int(k.split("-")[1]): float(v) for k, v in ours.items() if k.startswith(name + "-") and "rust" not in k}

@@ -34,7 +34,7 @@ extern "C" {
 
 /* The numbers. The first in order wins: one instruction 1 to 6; text 1, 5, 9; block 8, 6, then record by record 2, 3, 4, 7; value 1, 5,
  * 11; words 12, 9; records as words 2, 3, 4, 7 record by record, then 9; join 1, 5, 6; canonical
- * 1, 5, 6. */
+ * 1, 5, 6; run 8, then record by record 2, 3, 4, 7. */
 enum neon_number {
     NEON_DONE = 0,
     NEON_BAD_POOL = 1,          /* count above places, or a node breaks a rule */
@@ -89,6 +89,7 @@ enum neon_arrangement { NEON_8B, NEON_16B, NEON_4H, NEON_8H, NEON_2S, NEON_4S, N
 #define NEON_RECORD 6          /* words of a record: operation, arrangement, i, d, n, m */
 #define NEON_REGISTER_WORDS 64 /* words of the 32 registers: two each, the low one first, v0 first */
 #define NEON_VALUE 3           /* words of a value, the lowest first */
+#define NEON_RUN_RESULTS 1     /* words of a run's results: the position */
 #define NEON_RESULTS 34        /* words of a block's results: 32 nodes, the count, the position */
 
 /* Words of a pool that takes a block of k records. */
@@ -154,6 +155,15 @@ uint64_t neon_registers_of(const uint64_t *pool, size_t words, size_t count, siz
  * are more than `allowance`; no more than `allowance` are made. With these `value` and *visits are 0. */
 uint64_t neon_value(const uint64_t *pool, size_t words, size_t count, size_t node, const uint64_t start[NEON_REGISTER_WORDS],
                     uint64_t allowance, uint64_t value[NEON_VALUE], uint64_t *visits);
+
+/* ---- Runs */
+
+/* Runs a block on the registers, in place and without a pool: each then holds what the Arm instructions leave in it. `numbers` counts
+ * words, six a record; words after the last whole record are not read. The records that neon_lower_block takes are taken. Numbers 8, then
+ * record by record 2, 3, 4, 7; results[0] is the position of the first bad record, counted from 0, with 2, 3, 4 and 7, else 0. A block
+ * that is refused leaves the registers as they were. Takes a few kilobytes of stack. */
+uint64_t neon_run_block(uint64_t registers[NEON_REGISTER_WORDS], const uint64_t *records, size_t numbers,
+                        uint64_t results[NEON_RUN_RESULTS]);
 
 /* ---- Pools */
 

@@ -32,7 +32,9 @@ mod judge;
 mod lines_part;
 mod native;
 mod pools;
+mod run_part;
 mod solver_part;
+mod table;
 mod texts_part;
 mod values_part;
 mod words_part;
@@ -73,6 +75,8 @@ const PARTS: &[Part] = &[
     part("texts", 250, 10, texts_part::main),
     part("damage", 1, 0, damage_part::main),
     part("evaluate", 10, 10, evaluate_part::main),
+    part("run", 10, 10, run_part::main),
+    part("run-values", 1, 0, run_part::values),
     part("words", 1, 0, words_part::main),
     part("join", 10, 10, join_part::main),
     part("canonical", 10, 10, canonical_part::main),

@@ -21,6 +21,7 @@ unsafe extern "C" {
         joined: *mut u64, joined_words: usize, node: *mut usize, count: *mut usize,
     ) -> u64;
     fn neon_canonical(pool: *const u64, words: usize, count: usize, root: usize, out: *mut u64, out_words: usize, after: *mut usize) -> u64;
+    fn neon_run_block(registers: *mut u64, records: *const u64, numbers: usize, results: *mut u64) -> u64;
 }
 
 const GUARDS: usize = 8;
@@ -185,4 +186,23 @@ pub fn canonical((pool, count, root): Chosen, out: &mut Words) -> (u64, usize) {
     let number = unsafe { neon_canonical(pool.as_ptr(), pool.len(), count, root, at, length, &mut after) };
     out.look();
     (number, after)
+}
+
+/// Number; the position goes to `results`, of one word, and `registers` has 64.
+pub fn run_in_place(registers: &mut Words, records: &[u64], results: &mut Words) -> u64 {
+    let ((at, many), (to, entries)) = (registers.lend(), results.lend());
+    assert!(many == 64 && entries == 1);
+    let number = unsafe { neon_run_block(at, records.as_ptr(), records.len(), to) };
+    registers.look();
+    results.look();
+    number
+}
+
+/// Number, position and the registers after the block.
+pub fn run_block(start: &[u128; 32], records: &[u64]) -> (u64, u64, [u128; 32]) {
+    let mut registers = words(&register_words(start));
+    let mut results = words(&[77]);
+    let number = run_in_place(&mut registers, records, &mut results);
+    let after = registers.items();
+    (number, results.items()[0], std::array::from_fn(|r| u128::from(after[2 * r + 1]) << 64 | u128::from(after[2 * r])))
 }

@@ -1,7 +1,7 @@
 //! NEON instructions as SMT-LIB bit-vector terms.
 //!
 //! A [`Pool`] owns the words of its terms. [`Pool::from_block`] lowers a block of [`Record`]s and gives the node of each of the 32
-//! registers; [`Pool::lower`] lowers one instruction on nodes that are there already.
+//! registers; [`Pool::lower`] lowers one instruction on nodes that are there already. [`Registers::run`] runs a block on numbers.
 //!
 //! ```
 //! use neon_terms::{Arrangement, Operation, Pool, Record};

@@ -53,6 +53,7 @@ unsafe extern "C" {
         joined: *mut u64, joined_words: usize, node: *mut usize, count: *mut usize,
     ) -> u64;
     fn neon_canonical(pool: *const u64, words: usize, count: usize, root: usize, out: *mut u64, out_words: usize, after: *mut usize) -> u64;
+    fn neon_run_block(registers: *mut u64, records: *const u64, numbers: usize, results: *mut u64) -> u64;
 }
 
 pub fn form_code(operation: u64, arrangement: u64) -> u64 {
@@ -142,4 +143,11 @@ pub fn canonical(pool: &[u64], count: usize, root: usize, out: &mut [u64]) -> (u
     let mut after = 0;
     let number = unsafe { neon_canonical(pool.as_ptr(), pool.len(), count, root, out.as_mut_ptr(), out.len(), &mut after) };
     (number, after)
+}
+
+/// Number and position; the registers are run in place.
+pub fn run_block(registers: &mut [u64; 64], records: &[u64]) -> (u64, usize) {
+    let mut results = [0; 1];
+    let number = unsafe { neon_run_block(registers.as_mut_ptr(), records.as_ptr(), records.len(), results.as_mut_ptr()) };
+    (number, results[0] as usize)
 }

@@ -8,7 +8,7 @@ ghost use Rattle.pool.specs.Node.{places, placesIn};
 ghost use Rattle.block_check.specs.Records.{recordsOf, Refuses};
 
 // The records that a block may have.
-const MOST_RECORDS: usize = 85;
+pub const MOST_RECORDS: usize = 85;
 
 // 0 and 0, or the number and the position that refuse a block.
 pub struct Refused {

@@ -1,6 +1,7 @@
 // The public operations for C and Rust to link, by `rt staticlib exports`; include/neon_terms.h declares them. A slice is a
 // pointer and a length. No call requires anything of its numbers: what it cannot do it refuses by number.
 mod pools;
+mod run;
 mod value;
 mod words;
 

@@ -69,10 +69,18 @@ unfoldable pub recordsRefusal : ℕ → List Instruction → Refusal
 recordsRefusal p [] = refusal 0 0
 recordsRefusal p (c ∷ cs) = cond (eqb (recordNumber c) 0) (recordsRefusal (suc p) cs) (refusal (recordNumber c) p)
 
+-- 8: more records than a block may have; else what follows
+abbrev pub countNumber : (count rest : ℕ) → ℕ
+countNumber count rest = unless (leb count mostRecords) 8 rest
+
 -- 8, 6: more records than a block may have, or than so many places hold; else 0
 unfoldable pub sizeNumber : (places count : ℕ) → ℕ
-sizeNumber places count = unless (leb count mostRecords) 8 (unless (leb (32 + reserve * count) places) 6 0)
+sizeNumber places count = countNumber count (unless (leb (32 + reserve * count) places) 6 0)
+
+-- a block: the number of its size, where that is not 0, else its first bad record
+abbrev pub refusalBy : (size : ℕ) → List Instruction → Refusal
+refusalBy size cs = cond (eqb size 0) (recordsRefusal 0 cs) (refusal size 0)
 
 -- a block for a pool of so many places
 unfoldable pub blockRefusal : ℕ → List Instruction → Refusal
-blockRefusal places cs = let k = sizeNumber places (length cs) in cond (eqb k 0) (recordsRefusal 0 cs) (refusal k 0)
+blockRefusal places cs = refusalBy (sizeNumber places (length cs)) cs

@@ -1,0 +1,13 @@
+use Rattle.exact.proofs.Laws.{scaled-held}
+use borrow.Author.Needs.{needs}
+use Rattle.exact.proofs.scaled.Statement.{statement}
+use Rattle.exact.proofs.scaled.Tie as tie
+
+shl-requires : tie.Need-shl-requires
+shl-requires c κs = search needs
+
+returns : tie.Need-returns
+returns c = scaled-held (c .before .args .k) (c .shl .ensures)
+
+pub scaled-spec : {M : Type 1} → statement M
+scaled-spec = tie.close (tie.spec shl-requires returns)

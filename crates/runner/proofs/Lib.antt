@@ -1,0 +1,4 @@
+pub mod Running
+pub mod Rows
+pub mod Runs
+pub mod Flag

@@ -1,0 +1,15 @@
+use borrow.Author.Needs.{needs}
+use Rattle.runner.proofs.second_at.Statement.{statement}
+use Rattle.runner.proofs.second_at.Tie as tie
+
+add-result : tie.Need-add-result
+add-result c = search needs
+
+returns : tie.Need-returns
+returns c = rw (c .if1 .taken)
+
+returns-2 : tie.Need-returns-2
+returns-2 c = rw (c .if1 .left)
+
+pub second-at-spec : {M : Type 1} → statement M
+second-at-spec = tie.close (tie.spec returns add-result returns-2)

@@ -1,0 +1,172 @@
+-- The value of a block's one-bit term is 1 exactly where some lane of some instruction saturates. Assumes nothing.
+use mathlib.Core.Path.{_≡_, refl, sym, ap, _∙_, fun-ext}
+use mathlib.Core.Bool.{Bool, true, false, cond, _||_, false≢true}
+use mathlib.Core.List.{List, [], _∷_}
+use Prim.Native.Nat.{ℕ, zero, suc, _-_, _≤_, _<_}
+use native.Mathlib.Omega.{arith}
+use Rattle.terms.specs.Expr.{Expr, Var, Const, width}
+use Rattle.terms.specs.Value.{value, bit}
+use Rattle.neon.specs.declared.Instruction.{Instruction}
+use Rattle.neon.specs.Op.{Op, Arrangement, opAt, arrangementAt, laneBits, full, SHL, SQSHLI, UQSHLI, SQSHLU, SSHR, USHR, SRSHR, URSHR, SSHL, USHL, SRSHL, URSHL, SQSHL, UQSHL, SQRSHL, UQRSHL, SLI, SRI, SQADD, UQADD, SQSUB, UQSUB, SHADD, UHADD, SRHADD, URHADD, SQXTN, UQXTN, SQXTUN, SHRN, RSHRN, SQSHRN, SQRSHRN, UQSHRN, UQRSHRN, SQSHRUN, SQRSHRUN, SQABS, SQNEG, SQDMULH, SQRDMULH, SQDMULL, SQDMLAL, SQDMLSL, SQDMULL2, SQDMLAL2, SQDMLSL2, SQDMULLE, SQDMLALE, SQDMLSLE, SQDMULL2E, SQDMLAL2E, SQDMLSL2E, SUQADD, USQADD, SABD, UABD, SABA, UABA, CNT, CLZ, CLS, RBIT, ADDHN, RADDHN, SUBHN, RSUBHN}
+use Rattle.neon.specs.Form.{form, firstFull, secondFull, byElement, sourceBits, least, most, laneCount, firstLane, secondLane}
+use Rattle.neon.specs.Arm.{lane}
+use Rattle.neon.specs.Run.{readBits, armStep, armRun}
+use Rattle.neon.specs.Refusal.{Legal, AllLegal}
+use Rattle.neon.proofs.Legal.{accepted}
+use Rattle.neon.proofs.Geometry.{sized, source-some, filled}
+use Rattle.trees.specs.Simd.{extractLane}
+use Rattle.trees.specs.Neon.{neonOp}
+use Rattle.trees.specs.Block.{readTree, treeStep}
+use Rattle.value.proofs.Is.{Has, has-number}
+use Rattle.value.proofs.Lanes.{is-lane, lane-lt}
+use Rattle.value.proofs.Lane.{sources}
+use Rattle.value.proofs.Block.{read-is, step-is}
+use Rattle.saturation.specs.Saturates.{some, saturatesLane, saturatesAt, saturates, saturatesStep, saturatesRun}
+use Rattle.saturation.specs.Bits.{no, saturable, bitAt, instructionBit, saturationTree, recordBit, bitRun, blockBit}
+use Rattle.saturation.proofs.Some.{instruction-is}
+use Rattle.saturation.proofs.Families.{BitIs, bit-has, bit-is}
+
+-- a family that cannot saturate does not
+unsaturable : (o : Op) (i : ℕ) (u : Bool) → saturable (neonOp o i u) ≡ false → (n d a b : ℕ) → saturatesLane o n i d a b ≡ false
+unfolding saturatesLane
+unsaturable SQSHLI i u e n d a b = absurd (false≢true (sym e))
+unsaturable UQSHLI i u e n d a b = absurd (false≢true (sym e))
+unsaturable SQSHLU i u e n d a b = absurd (false≢true (sym e))
+unsaturable SQSHL i u e n d a b = absurd (false≢true (sym e))
+unsaturable UQSHL i u e n d a b = absurd (false≢true (sym e))
+unsaturable SQRSHL i u e n d a b = absurd (false≢true (sym e))
+unsaturable UQRSHL i u e n d a b = absurd (false≢true (sym e))
+unsaturable SQADD i u e n d a b = absurd (false≢true (sym e))
+unsaturable UQADD i u e n d a b = absurd (false≢true (sym e))
+unsaturable SQSUB i u e n d a b = absurd (false≢true (sym e))
+unsaturable UQSUB i u e n d a b = absurd (false≢true (sym e))
+unsaturable SQXTN i u e n d a b = absurd (false≢true (sym e))
+unsaturable UQXTN i u e n d a b = absurd (false≢true (sym e))
+unsaturable SQXTUN i u e n d a b = absurd (false≢true (sym e))
+unsaturable SQSHRN i u e n d a b = absurd (false≢true (sym e))
+unsaturable SQRSHRN i u e n d a b = absurd (false≢true (sym e))
+unsaturable UQSHRN i u e n d a b = absurd (false≢true (sym e))
+unsaturable UQRSHRN i u e n d a b = absurd (false≢true (sym e))
+unsaturable SQSHRUN i u e n d a b = absurd (false≢true (sym e))
+unsaturable SQRSHRUN i u e n d a b = absurd (false≢true (sym e))
+unsaturable SQABS i u e n d a b = absurd (false≢true (sym e))
+unsaturable SQNEG i u e n d a b = absurd (false≢true (sym e))
+unsaturable SQDMULH i u e n d a b = absurd (false≢true (sym e))
+unsaturable SQRDMULH i u e n d a b = absurd (false≢true (sym e))
+unsaturable SQDMULL i u e n d a b = absurd (false≢true (sym e))
+unsaturable SQDMLAL i u e n d a b = absurd (false≢true (sym e))
+unsaturable SQDMLSL i u e n d a b = absurd (false≢true (sym e))
+unsaturable SQDMULL2 i u e n d a b = absurd (false≢true (sym e))
+unsaturable SQDMLAL2 i u e n d a b = absurd (false≢true (sym e))
+unsaturable SQDMLSL2 i u e n d a b = absurd (false≢true (sym e))
+unsaturable SQDMULLE i u e n d a b = absurd (false≢true (sym e))
+unsaturable SQDMLALE i u e n d a b = absurd (false≢true (sym e))
+unsaturable SQDMLSLE i u e n d a b = absurd (false≢true (sym e))
+unsaturable SQDMULL2E i u e n d a b = absurd (false≢true (sym e))
+unsaturable SQDMLAL2E i u e n d a b = absurd (false≢true (sym e))
+unsaturable SQDMLSL2E i u e n d a b = absurd (false≢true (sym e))
+unsaturable SUQADD i u e n d a b = absurd (false≢true (sym e))
+unsaturable USQADD i u e n d a b = absurd (false≢true (sym e))
+unsaturable SHL i u e n d a b = refl
+unsaturable SSHR i u e n d a b = refl
+unsaturable USHR i u e n d a b = refl
+unsaturable SRSHR i u e n d a b = refl
+unsaturable URSHR i u e n d a b = refl
+unsaturable SSHL i u e n d a b = refl
+unsaturable USHL i u e n d a b = refl
+unsaturable SRSHL i u e n d a b = refl
+unsaturable URSHL i u e n d a b = refl
+unsaturable SLI i u e n d a b = refl
+unsaturable SRI i u e n d a b = refl
+unsaturable SHADD i u e n d a b = refl
+unsaturable UHADD i u e n d a b = refl
+unsaturable SRHADD i u e n d a b = refl
+unsaturable URHADD i u e n d a b = refl
+unsaturable SHRN i u e n d a b = refl
+unsaturable RSHRN i u e n d a b = refl
+unsaturable SABD i u e n d a b = refl
+unsaturable UABD i u e n d a b = refl
+unsaturable SABA i u e n d a b = refl
+unsaturable UABA i u e n d a b = refl
+unsaturable CNT i u e n d a b = refl
+unsaturable CLZ i u e n d a b = refl
+unsaturable CLS i u e n d a b = refl
+unsaturable RBIT i u e n d a b = refl
+unsaturable ADDHN i u e n d a b = refl
+unsaturable RADDHN i u e n d a b = refl
+unsaturable SUBHN i u e n d a b = refl
+unsaturable RSUBHN i u e n d a b = refl
+
+none : (k : ℕ) (f : ℕ → Bool) → ((j : ℕ) → f j ≡ false) → some k f ≡ false
+unfolding some
+none zero f h = refl
+none (suc k) f h = rw (none k f h, h k)
+
+module _ (r : ℕ → ℕ) (o : Op) (v : Arrangement) (i : ℕ) (d a b : Expr) (l : least o ≤ i) (h : i ≤ most o (laneBits v)) where
+  has-lane : (e : Expr) (m j : ℕ) → 0 < m → Has r (extractLane e m j) m (lane m j (value r e))
+  has-lane e m j h = has-number r (lane-lt m j (value r e)) (is-lane r e m j h)
+
+  part : (j : ℕ) → Has r (bitAt o v i d a b j) 1 (bit (saturatesAt o v i (value r d) (value r a) (value r b) j))
+  unfolding bitAt saturatesAt
+  part j =
+      let hm = source-some (form o .lanes) (laneBits v) (sized v .eight) in
+      let hn : 0 < laneBits v = omega (arith, sized v .eight) in
+      bit-has r (bit-is r (laneBits v) i _ _ _ _ _ _ (sized v .eight) (sized v .even) (lane-lt (laneBits v) j (value r d)) (has-lane d (laneBits v) j hn) o l h
+      (sources r hm (lane-lt _ (firstLane (form o .lanes) (laneCount o v) j) (value r a))
+      (lane-lt _ (secondLane (form o .lanes) (byElement o) (laneCount o v) i j) (value r b)) (has-lane a _ (firstLane (form o .lanes) (laneCount o v) j) hm)
+      (has-lane b _ (secondLane (form o .lanes) (byElement o) (laneCount o v) i j) hm)) (full v))
+
+  pub saturation-is : (before : Expr) (t : Bool) → Has r before 1 (bit t)
+      → Has r (saturationTree o v i d a b before) 1 (bit (t || saturates o v i (value r d) (value r a) (value r b)))
+  unfolding saturationTree saturates
+  saturation-is before t p = go (saturable (neonOp o i (full v))) refl
+    where
+      idle : (t : Bool) → t ≡ (t || false)
+      idle true = refl
+      idle false = refl
+
+      go : (s : Bool) → saturable (neonOp o i (full v)) ≡ s
+          → Has r (cond s (instructionBit (laneCount o v) (bitAt o v i d a b) before) before) 1 (bit (t || some (laneCount o v) (saturatesAt o v i (value r d) (value r a) (value r b))))
+      go true e = instruction-is r (laneCount o v) (omega (arith, filled (form o .lanes) v .some)) (bitAt o v i d a b) (saturatesAt o v i (value r d) (value r a) (value r b)) part before t p
+      go false e =
+          record {
+            wide = p .wide;
+            val = p .val ∙ ap bit (idle t ∙ ap (λ (s : Bool). t || s) (sym (none (laneCount o v) (saturatesAt o v i (value r d) (value r a) (value r b)) (λ j. unfold saturatesAt in unsaturable o i (full v) e _ _ _ _))));
+          }
+
+module _ (start : ℕ → ℕ) where
+  record-is : (c : Instruction) → Legal c → (t : ℕ → Expr) (before : Expr) (s : Bool) → Has start before 1 (bit s)
+      → Has start (recordBit c t before) 1 (bit (s || saturatesStep c (λ y. value start (t y))))
+  unfolding recordBit saturatesStep
+  record-is c k t before s p =
+      let o = opAt (c .operation) in
+      let v = arrangementAt (c .arrangement) in
+      let f = accepted c k .form-of in
+      let lanes = form o .lanes in
+      rw (← read-is start (full v) (t (c .d)), ← read-is start (firstFull lanes (full v)) (t (c .n)), ← read-is start (secondFull lanes (byElement o) (full v)) (t (c .m)))
+      (saturation-is start o v (c .i) _ _ _ (f .low) (f .high) before s p)
+
+  or-assoc : (x y z : Bool) → ((x || y) || z) ≡ (x || (y || z))
+  or-assoc true y z = refl
+  or-assoc false y z = refl
+
+  run-is : (cs : List Instruction) → AllLegal cs → (t : ℕ → Expr) (before : Expr) (s : Bool) → Has start before 1 (bit s)
+      → Has start (bitRun cs t before) 1 (bit (s || saturatesRun cs (λ y. value start (t y))))
+  unfolding bitRun saturatesRun
+  run-is [] l t before s p = record { wide = p .wide; val = p .val ∙ ap bit (idle s) }
+    where
+      idle : (t : Bool) → t ≡ (t || false)
+      idle true = refl
+      idle false = refl
+  run-is (c ∷ cs) l t before s p =
+      let q = run-is cs (l .1) (treeStep c t) (recordBit c t before) (s || saturatesStep c (λ y. value start (t y))) (record-is c (l .0) t before s p) in
+      record {
+        wide = q .wide;
+        val = q .val ∙ ap (λ (m : ℕ → ℕ). bit ((s || saturatesStep c (λ y. value start (t y))) || saturatesRun cs m)) (fun-ext (step-is start c (l .0) t))
+            ∙ ap bit (or-assoc s (saturatesStep c (λ y. value start (t y))) (saturatesRun cs (armStep c (λ y. value start (t y)))));
+      }
+
+  -- for every accepted block
+  pub block-bit-is : (cs : List Instruction) → AllLegal cs → Has start (blockBit cs) 1 (bit (saturatesRun cs start))
+  unfolding value
+  block-bit-is cs l = run-is cs l Var no false (record { wide = unfold width in refl; val = refl })

@@ -1,0 +1,3 @@
+pub mod Saturates
+pub mod Bits
+pub mod Family

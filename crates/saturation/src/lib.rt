@@ -1,0 +1,1 @@
+// Whether a lane saturates: definitions in specs/, theorems in proofs/.
