@@ -15,7 +15,7 @@ int main(int argc, char **argv) {
         fprintf(stderr, "usage: dump REGISTER <RECORDS\n");
         return 2;
     }
-    number = neon_lower_block(pool, words, records, numbers, results, NEON_RESULTS);
+    number = neon_lower_block(pool, words, records, numbers, results);
     if (number == NEON_DONE) number = neon_canonical(pool, words, results[32], results[reg], out, words, &after);
     if (number != NEON_DONE) fprintf(stderr, "refused: %" PRIu64 "\n", number);
     for (size_t n = 0; n < after; n++)
