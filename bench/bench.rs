@@ -13,7 +13,7 @@ use std::io::Write;
 use std::process::{Command, Stdio};
 use std::time::Instant;
 
-use native::{bytes, canonical, join, lower_block, lower_instruction, pool_check, read_words, run_in_place, text_length, value_to, words, write_text, write_words};
+use native::{bytes, canonical, join, lower_block, lower_instruction, pool_check, read_words, run_in_place, script_length, text_length, value_to, words, write_script, write_text, write_words};
 use pools::{Node, Rng, grow, pool_words};
 
 type Record = [u64; 6];
@@ -314,6 +314,21 @@ fn coding(rounds: u64, all: &[Record]) {
     println!("write-word {:.1}\nread-word {:.1}", write / all.len() as f64, read / all.len() as f64);
 }
 
+/// A byte of a script and a node of its length, of the terms of instructions and of kinds in random order.
+fn scripts(rounds: u64, all: &[Record]) {
+    for (name, pool) in [("script", lowered(all)), ("script-random", random())] {
+        let count = pool.len() / 4;
+        let wide: Vec<usize> = (0..count).filter(|&n| Node::at(&pool, n).width == 128).collect();
+        let (a, b) = (wide[0], wide[wide.len() - 1]);
+        let length = script_length(&pool, count, a, b).1;
+        let mut buffer = bytes(length);
+        let time = best(rounds, || assert_eq!(black_box(write_script(&pool, count, a, b, &mut buffer)), (0, length)));
+        println!("{name} {:.2}", time / length as f64);
+        let time = best(rounds, || assert_eq!(black_box(script_length(&pool, count, a, b)), (0, length)));
+        println!("{name}-length {:.2}", time / count as f64);
+    }
+}
+
 /// A whole run of a program.
 fn program(rounds: u64, command: &[&str], input: &[u8]) -> f64 {
     best(rounds, || {
@@ -338,6 +353,7 @@ fn main() {
     coding(rounds, &all);
     joins(rounds, &all);
     canonicals(rounds);
+    scripts(rounds.div_ceil(4), &all);
     // in turn, so that both meet the same machine
     let (mut ours, mut rust) = (f64::MAX, f64::MAX);
     for _ in 0..rounds.div_ceil(4) {

@@ -130,3 +130,10 @@ lowering makes has none.
 |---|---|""")
 for count, time in growth("nested").items():
     print(f"| {count:,} | {time:.1f} |")
+
+script, random_script = float(ours["script"]), float(ours["script-random"])
+print(f"""
+## Scripts
+
+`neon_write_script`, the pool check and the length with it, takes {script:.2f} ns a byte on the terms of instructions, {random_script:.2f} where the kinds come in
+random order; the goal is 1, {"met" if script <= 1 else "missed"} on the terms of instructions. `neon_script_length` takes {ours["script-length"]} and {ours["script-random-length"]} ns a node.""")

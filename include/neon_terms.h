@@ -32,7 +32,7 @@
 extern "C" {
 #endif
 
-/* The numbers. The first in order wins: one instruction 1 to 6; text 1, 5, 9; block 8, 6, then record by record 2, 3, 4, 7; value 1, 5,
+/* The numbers. The first in order wins: one instruction 1 to 6; text and script 1, 5, 9; block 8, 6, then record by record 2, 3, 4, 7; value 1, 5,
  * 11; words 12, 9; records as words 2, 3, 4, 7 record by record, then 9; join 1, 5, 6; canonical
  * 1, 5, 6; run 8, then record by record 2, 3, 4, 7. */
 enum neon_number {
@@ -45,7 +45,7 @@ enum neon_number {
     NEON_NO_ROOM = 6,           /* fewer than 768 free places; block of k: fewer than 32 + 768 * k places */
     NEON_REGISTER = 7,          /* above 31, m above 15 for an element of 16 bits, or m not 0 with no second source */
     NEON_LONG_BLOCK = 8,        /* more than 85 records */
-    NEON_SHORT_BUFFER = 9,      /* the text is longer than the buffer; a lent list is too short for the records or words */
+    NEON_SHORT_BUFFER = 9,      /* the text or the script is longer than the buffer; a lent list is too short for the records or words */
     NEON_LINE = 10,             /* of the line program alone */
     NEON_VISITS = 11,           /* the term's value takes more visits than are allowed */
     NEON_WORD = 12              /* a word that encodes no legal form, a broken last word among them */
@@ -185,6 +185,22 @@ uint64_t neon_join(const uint64_t *first, size_t first_words, size_t first_count
  * Numbers, the first in order: 1; 5 where root is not below count; 6 where `out` has fewer places than there are distinct subtrees, which is
  * known before a word is written. A refusal gives *after 0. */
 uint64_t neon_canonical(const uint64_t *pool, size_t words, size_t count, size_t root, uint64_t *out, size_t out_words, size_t *after);
+
+/* Scripts (SMT-LIB 2.6, QF_BV). The script of a pool asks a solver whether two nodes of 128 bits can differ, a command a line:
+ *   (set-logic QF_BV)
+ *   (declare-const r0 (_ BitVec 128))                  and so on to r31: the registers at the start
+ *   (define-fun n40 () (_ BitVec 64) (bvlshr n38 n39)) for each node that is no Var, by number; Bool is a condition's sort
+ *   (assert (distinct n90 n91))                        the nodes a and b
+ *   (check-sat)
+ * A Var is written as its register. A script has at most 192 bytes a node and 1,174 more. Numbers, the first in order: 1; 5 where a or b
+ * is not below the count or not 128 wide; 9. With a refusal *length is 0. Both take a few kilobytes of stack. */
+
+/* Writes the script to the front of `buffer`, with no zero byte after it; later bytes stay. */
+uint64_t neon_write_script(const uint64_t *pool, size_t words, size_t count, size_t a, size_t b, uint8_t *buffer, size_t bytes,
+                           size_t *length);
+
+/* The length of the script alone, so that a buffer can be lent that fits: 1 and 5. */
+uint64_t neon_script_length(const uint64_t *pool, size_t words, size_t count, size_t a, size_t b, size_t *length);
 
 #ifdef __cplusplus
 }

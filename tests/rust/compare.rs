@@ -33,6 +33,7 @@ mod lines_part;
 mod native;
 mod pools;
 mod run_part;
+mod script_part;
 mod solver_part;
 mod table;
 mod texts_part;
@@ -80,6 +81,7 @@ const PARTS: &[Part] = &[
     part("words", 1, 0, words_part::main),
     part("join", 10, 10, join_part::main),
     part("canonical", 10, 10, canonical_part::main),
+    part("scripts", 100, 0, script_part::main),
     part("lines", 5_000, 10, lines_part::main),
     part("solvers", 5_000, 5, solver_part::main),
 ];
@@ -91,7 +93,7 @@ struct Sample {
 }
 
 /// The samples in tests/stored that a judge makes, by name and number of cases; tests/stored/NAME.c reads NAME.in and writes NAME.out.
-const STORED: &[(&str, u64, fn(u64) -> Sample)] = &[("pools", 300, damage_part::stored), ("evaluate", 200, evaluate_part::stored), ("words", 300, words_part::stored), ("join", 60, join_part::stored), ("canonical", 120, canonical_part::stored)];
+const STORED: &[(&str, u64, fn(u64) -> Sample)] = &[("pools", 300, damage_part::stored), ("evaluate", 200, evaluate_part::stored), ("words", 300, words_part::stored), ("join", 60, join_part::stored), ("canonical", 120, canonical_part::stored), ("scripts", 200, script_part::stored)];
 
 impl Part {
     /// The library has to make do with 8 MB of stack, whatever this machine gives the first thread.

@@ -22,6 +22,10 @@ unsafe extern "C" {
     ) -> u64;
     fn neon_canonical(pool: *const u64, words: usize, count: usize, root: usize, out: *mut u64, out_words: usize, after: *mut usize) -> u64;
     fn neon_run_block(registers: *mut u64, records: *const u64, numbers: usize, results: *mut u64) -> u64;
+    fn neon_write_script(
+        pool: *const u64, words: usize, count: usize, a: usize, b: usize, buffer: *mut u8, bytes: usize, length: *mut usize,
+    ) -> u64;
+    fn neon_script_length(pool: *const u64, words: usize, count: usize, a: usize, b: usize, length: *mut usize) -> u64;
 }
 
 const GUARDS: usize = 8;
@@ -205,4 +209,19 @@ pub fn run_block(start: &[u128; 32], records: &[u64]) -> (u64, u64, [u128; 32]) 
     let number = run_in_place(&mut registers, records, &mut results);
     let after = registers.items();
     (number, results.items()[0], std::array::from_fn(|r| u128::from(after[2 * r + 1]) << 64 | u128::from(after[2 * r])))
+}
+
+/// Number and length.
+pub fn write_script(pool: &[u64], count: usize, a: usize, b: usize, buffer: &mut Lent<u8>) -> (u64, usize) {
+    let (at, size) = buffer.lend();
+    let mut length = 77;
+    let number = unsafe { neon_write_script(pool.as_ptr(), pool.len(), count, a, b, at, size, &mut length) };
+    buffer.look();
+    (number, length)
+}
+
+pub fn script_length(pool: &[u64], count: usize, a: usize, b: usize) -> (u64, usize) {
+    let mut length = 77;
+    let number = unsafe { neon_script_length(pool.as_ptr(), pool.len(), count, a, b, &mut length) };
+    (number, length)
 }

@@ -20,6 +20,7 @@ mod join;
 mod operation;
 mod raw;
 mod registers;
+mod script;
 mod value;
 mod words;
 

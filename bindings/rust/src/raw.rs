@@ -54,6 +54,10 @@ unsafe extern "C" {
     ) -> u64;
     fn neon_canonical(pool: *const u64, words: usize, count: usize, root: usize, out: *mut u64, out_words: usize, after: *mut usize) -> u64;
     fn neon_run_block(registers: *mut u64, records: *const u64, numbers: usize, results: *mut u64) -> u64;
+    fn neon_write_script(
+        pool: *const u64, words: usize, count: usize, a: usize, b: usize, buffer: *mut u8, bytes: usize, length: *mut usize,
+    ) -> u64;
+    fn neon_script_length(pool: *const u64, words: usize, count: usize, a: usize, b: usize, length: *mut usize) -> u64;
 }
 
 pub fn form_code(operation: u64, arrangement: u64) -> u64 {
@@ -150,4 +154,18 @@ pub fn run_block(registers: &mut [u64; 64], records: &[u64]) -> (u64, usize) {
     let mut results = [0; 1];
     let number = unsafe { neon_run_block(registers.as_mut_ptr(), records.as_ptr(), records.len(), results.as_mut_ptr()) };
     (number, results[0] as usize)
+}
+
+/// Number and length.
+pub fn write_script(pool: &[u64], count: usize, [a, b]: [usize; 2], buffer: &mut [u8]) -> (u64, usize) {
+    let mut length = 0;
+    let number = unsafe { neon_write_script(pool.as_ptr(), pool.len(), count, a, b, buffer.as_mut_ptr(), buffer.len(), &mut length) };
+    (number, length)
+}
+
+/// Number and length.
+pub fn script_length(pool: &[u64], count: usize, [a, b]: [usize; 2]) -> (u64, usize) {
+    let mut length = 0;
+    let number = unsafe { neon_script_length(pool.as_ptr(), pool.len(), count, a, b, &mut length) };
+    (number, length)
 }

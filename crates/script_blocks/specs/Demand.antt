@@ -1,0 +1,40 @@
+-- Demand 3 of document 01 over scripts (document 02, S-1: "the value rule now speaks of scripts too"). The Arm run is fed a start and the
+-- records, the reader of scripts a model and bytes; neither knows anything of the pool.
+use mathlib.Core.Bool.{true}
+use mathlib.Core.List.{List}
+use mathlib.Core.Logic.{_↔_}
+use mathlib.Core.Option.{some}
+use mathlib.Core.Path.{_≡_}
+use Prim.Native.Nat.{ℕ, _<_}
+use lib.ListN.{take}
+use Rattle.neon.specs.declared.Instruction.{Instruction}
+use Rattle.neon.specs.Run.{armRun}
+use Rattle.register_map.specs.Map.{nodeOf}
+use Rattle.block.specs.declared.BlockAnswer.{BlockAnswer}
+use Rattle.block.specs.Block as block
+use Rattle.script_meaning.specs.Meaning.{Script, meant}
+use Rattle.script_meaning.specs.Demand.{ModelOf}
+use Rattle.script_length.specs.Answer.{scriptNumber}
+use Rattle.scripts.specs.Answer as scripts
+
+-- the registers of an accepted block may be chosen: their script is refused for want of room alone
+abbrev pub RegistersChosen : Type 0
+RegistersChosen =
+    (old : List ℕ) (cs : List Instruction) (new : List ℕ) (a : BlockAnswer) → block.Answered old cs new a → a .number ≡ 0
+    → (r r′ rest : ℕ) → r < 32 → r′ < 32
+    → scriptNumber new (a .map .count) (nodeOf (a .map) r) (nodeOf (a .map) r′) rest ≡ rest
+
+-- the bytes are a script that the reader takes, and its assertion holds
+abbrev pub Holds : (List ℕ → ℕ) → List ℕ → Type 0
+Holds model bytes = (s : Script) × (meant model bytes ≡ some s) × (s .holds ≡ true)
+
+-- for every start and every accepted block: two registers after the Arm run differ exactly when the assertion of their script holds in
+-- the start's model
+abbrev pub DifferWhenScriptHolds : Type 0
+DifferWhenScriptHolds =
+    (old : List ℕ) (cs : List Instruction) (new : List ℕ) (a : BlockAnswer) → block.Answered old cs new a → a .number ≡ 0
+    → (r r′ : ℕ) → r < 32 → r′ < 32
+    → (buffer : List ℕ) (len : ℕ) (out : List ℕ)
+    → scripts.Answered new (a .map .count) (nodeOf (a .map) r) (nodeOf (a .map) r′) buffer 0 len out
+    → (start : ℕ → ℕ) (model : List ℕ → ℕ) → ModelOf start model
+    → (armRun cs start r ≡ armRun cs start r′ → ⊥) ↔ Holds model (take len out)

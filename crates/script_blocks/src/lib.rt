@@ -1,0 +1,1 @@
+// Demand 3 over scripts: specs/ has the statements, proofs/ the theorems.

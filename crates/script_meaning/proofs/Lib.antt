@@ -1,0 +1,9 @@
+pub mod Reading
+pub mod Numbers
+pub mod Vars
+pub mod Terms
+pub mod Names
+pub mod Run
+pub mod Fine
+pub mod Script
+pub mod Example

@@ -1,0 +1,1 @@
+// A pool as an SMT-LIB script.

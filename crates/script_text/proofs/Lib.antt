@@ -1,0 +1,5 @@
+pub mod Chunks
+pub mod Bits
+pub mod Spelling
+pub mod Nodes
+pub mod Whole

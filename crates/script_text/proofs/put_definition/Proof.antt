@@ -1,0 +1,207 @@
+use Rattle.digits.proofs.Laws.{room-front, room-step, room-as, wrote-then, wrote-as}
+use mathlib.Core.Path.{_≡_, sym, _∙_}
+use native.Mathlib.Omega.{arith}
+use Prim.Native.Nat.{ℕ, _≤_}
+use Rattle.script_text.proofs.Nodes.{kind-above}
+use Rattle.script_text.proofs.Spelling.{no-line, line-with}
+use Rattle.digits.proofs.Laws.{wrote-none}
+use borrow.Author.Needs.{needs}
+use Rattle.script_text.proofs.put_definition.Statement.{statement}
+use Rattle.script_text.proofs.put_definition.Tie as tie
+use Rattle.script_text.proofs.put_definition.Reads as reads
+use Rattle.script_text.proofs.put_definition.Lts as lts
+use Rattle.digits.proofs.put.Reads as put-reads
+use Rattle.pool.proofs.words.kind_of.Reads as kind-of-reads
+use Rattle.pool.proofs.words.width_of.Reads as width-of-reads
+use Rattle.script_text.proofs.put_node_name.Reads as put-node-name-reads
+use Rattle.script_text.proofs.put_sort.Reads as put-sort-reads
+use Rattle.script_text.proofs.put_term.Reads as put-term-reads
+
+from-two : (k : ℕ) → 1 ≤ k → (k ≡ 1 → ⊥) → 2 ≤ k
+from-two k h f = omega arith
+
+-- src/lib.rt:221:9
+kind-of-requires : tie.Need-kind-of-requires
+kind-of-requires c κs = search needs
+
+-- src/lib.rt:223:9
+returns : tie.Need-returns
+returns c =
+    let at-kind-of = c .before in
+    let st = at-kind-of .before .before .before in
+    wrote-as (no-line (st .args .p .now) (st .args .n .0) (sym (at-kind-of .kind-of .ensures) ∙ c .if1 .taken)) (wrote-none (st .args .buf .now) (st .args .at))
+
+-- src/lib.rt:225:9
+width-of-requires : tie.Need-width-of-requires
+width-of-requires c κs = search needs
+
+-- src/lib.rt:226:17
+slice-aggregate-put : tie.Need-slice-aggregate-put
+slice-aggregate-put c = search needs
+
+-- src/lib.rt:226:9
+put-requires : tie.Need-put-requires
+put-requires c κs =
+    let at-width-of = c .before .before in
+    let at-if1 = at-width-of .before in
+    let at-kind-of = at-if1 .before in
+    let st = at-kind-of .before .before .before in
+    (room-front _
+    (room-as (line-with (st .args .p .now) (st .args .n .0) (at-kind-of .kind-of .result) (at-width-of .width-of .result) (at-kind-of .kind-of .ensures)
+    (at-if1 .if1 .left) (at-width-of .width-of .ensures .0)) (st .pre .1)))
+
+-- src/lib.rt:227:9
+put-node-name-requires : tie.Need-put-node-name-requires
+put-node-name-requires c κs =
+    let at-put = c .before .before .before in
+    let at-width-of = at-put .before .before .before in
+    let at-if1 = at-width-of .before in
+    let at-kind-of = at-if1 .before in
+    let st = at-kind-of .before .before .before in
+    (room-front _ (room-step (at-put .put .ensures)
+    (room-as (line-with (st .args .p .now) (st .args .n .0) (at-kind-of .kind-of .result) (at-width-of .width-of .result) (at-kind-of .kind-of .ensures)
+    (at-if1 .if1 .left) (at-width-of .width-of .ensures .0)) (st .pre .1))))
+
+-- src/lib.rt:228:17
+slice-aggregate-put-2 : tie.Need-slice-aggregate-put-2
+slice-aggregate-put-2 c = search needs
+
+-- src/lib.rt:228:9
+put-requires-2 : tie.Need-put-requires-2
+put-requires-2 c κs =
+    let at-put-node-name = c .before .before .before .before in
+    let at-put = at-put-node-name .before .before .before .before in
+    let at-width-of = at-put .before .before .before in
+    let at-if1 = at-width-of .before in
+    let at-kind-of = at-if1 .before in
+    let st = at-kind-of .before .before .before in
+    (room-front _ (room-step (at-put-node-name .put-node-name .ensures) (room-step (at-put .put .ensures)
+    (room-as (line-with (st .args .p .now) (st .args .n .0) (at-kind-of .kind-of .result) (at-width-of .width-of .result) (at-kind-of .kind-of .ensures)
+    (at-if1 .if1 .left) (at-width-of .width-of .ensures .0)) (st .pre .1)))))
+
+-- src/lib.rt:229:9
+put-sort-requires : tie.Need-put-sort-requires
+put-sort-requires c κs =
+    let at-put2 = c .before .before .before in
+    let at-put-node-name = at-put2 .before .before .before .before .before in
+    let at-put = at-put-node-name .before .before .before .before in
+    let at-width-of = at-put .before .before .before in
+    let at-if1 = at-width-of .before in
+    let at-kind-of = at-if1 .before in
+    let st = at-kind-of .before .before .before in
+    (room-front _ (room-step (at-put2 .put2 .ensures) (room-step (at-put-node-name .put-node-name .ensures)
+    (room-step (at-put .put .ensures)
+    (room-as (line-with (st .args .p .now) (st .args .n .0) (at-kind-of .kind-of .result) (at-width-of .width-of .result) (at-kind-of .kind-of .ensures)
+    (at-if1 .if1 .left) (at-width-of .width-of .ensures .0)) (st .pre .1))))))
+
+-- src/lib.rt:230:17
+slice-aggregate-put-3 : tie.Need-slice-aggregate-put-3
+slice-aggregate-put-3 c = search needs
+
+-- src/lib.rt:230:9
+put-requires-3 : tie.Need-put-requires-3
+put-requires-3 c κs =
+    let at-put-sort = c .before .before .before .before in
+    let at-put2 = at-put-sort .before .before .before .before in
+    let at-put-node-name = at-put2 .before .before .before .before .before in
+    let at-put = at-put-node-name .before .before .before .before in
+    let at-width-of = at-put .before .before .before in
+    let at-if1 = at-width-of .before in
+    let at-kind-of = at-if1 .before in
+    let st = at-kind-of .before .before .before in
+    (room-front _ (room-step (at-put-sort .put-sort .ensures) (room-step (at-put2 .put2 .ensures)
+    (room-step (at-put-node-name .put-node-name .ensures) (room-step (at-put .put .ensures)
+    (room-as (line-with (st .args .p .now) (st .args .n .0) (at-kind-of .kind-of .result) (at-width-of .width-of .result) (at-kind-of .kind-of .ensures)
+    (at-if1 .if1 .left) (at-width-of .width-of .ensures .0)) (st .pre .1)))))))
+
+-- src/lib.rt:231:9
+put-term-requires : tie.Need-put-term-requires
+put-term-requires c κs =
+    let at-put3 = c .before .before .before in
+    let at-put-sort = at-put3 .before .before .before .before .before in
+    let at-put2 = at-put-sort .before .before .before .before in
+    let at-put-node-name = at-put2 .before .before .before .before .before in
+    let at-put = at-put-node-name .before .before .before .before in
+    let at-width-of = at-put .before .before .before in
+    let at-if1 = at-width-of .before in
+    let at-kind-of = at-if1 .before in
+    let st = at-kind-of .before .before .before in (
+      (
+        st .pre .0,
+        at-kind-of .kind-of .ensures,
+        from-two (at-kind-of .kind-of .result) (kind-above (st .args .p .now) (st .args .n .0) (st .pre .0)
+            (at-kind-of .kind-of .result) (at-kind-of .kind-of .ensures)) (at-if1 .if1 .left),
+      ),
+      (room-front _
+          (room-step (at-put3 .put3 .ensures) (room-step (at-put-sort .put-sort .ensures) (room-step (at-put2 .put2 .ensures)
+          (room-step (at-put-node-name .put-node-name .ensures) (room-step (at-put .put .ensures)
+          (room-as (line-with (st .args .p .now) (st .args .n .0) (at-kind-of .kind-of .result) (at-width-of .width-of .result) (at-kind-of .kind-of .ensures)
+          (at-if1 .if1 .left) (at-width-of .width-of .ensures .0)) (st .pre .1)))))))),
+    )
+
+-- src/lib.rt:232:9
+slice-aggregate-put-4 : tie.Need-slice-aggregate-put-4
+slice-aggregate-put-4 c = search needs
+
+-- src/lib.rt:232:5
+put-requires-4 : tie.Need-put-requires-4
+put-requires-4 c κs =
+    let at-put-term = c .before .before .before .before in
+    let at-put3 = at-put-term .before .before .before .before in
+    let at-put-sort = at-put3 .before .before .before .before .before in
+    let at-put2 = at-put-sort .before .before .before .before in
+    let at-put-node-name = at-put2 .before .before .before .before .before in
+    let at-put = at-put-node-name .before .before .before .before in
+    let at-width-of = at-put .before .before .before in
+    let at-if1 = at-width-of .before in
+    let at-kind-of = at-if1 .before in
+    let st = at-kind-of .before .before .before in
+    (room-step (at-put-term .put-term .ensures) (room-step (at-put3 .put3 .ensures) (room-step (at-put-sort .put-sort .ensures)
+    (room-step (at-put2 .put2 .ensures) (room-step (at-put-node-name .put-node-name .ensures) (room-step (at-put .put .ensures)
+    (room-as (line-with (st .args .p .now) (st .args .n .0) (at-kind-of .kind-of .result) (at-width-of .width-of .result) (at-kind-of .kind-of .ensures)
+    (at-if1 .if1 .left) (at-width-of .width-of .ensures .0)) (st .pre .1))))))))
+
+-- src/lib.rt:216:1
+same-length : tie.Need-same-length
+same-length c = search needs
+
+-- src/lib.rt:216:1
+returns-2 : tie.Need-returns-2
+returns-2 c =
+    let at-put4 = c .before .before in
+    let at-put-term = at-put4 .before .before .before .before .before in
+    let at-put3 = at-put-term .before .before .before .before in
+    let at-put-sort = at-put3 .before .before .before .before .before in
+    let at-put2 = at-put-sort .before .before .before .before in
+    let at-put-node-name = at-put2 .before .before .before .before .before in
+    let at-put = at-put-node-name .before .before .before .before in
+    let at-width-of = at-put .before .before .before in
+    let at-if1 = at-width-of .before in
+    let at-kind-of = at-if1 .before in
+    let st = at-kind-of .before .before .before in
+    wrote-as (line-with (st .args .p .now) (st .args .n .0) (at-kind-of .kind-of .result) (at-width-of .width-of .result) (at-kind-of .kind-of .ensures)
+    (at-if1 .if1 .left) (at-width-of .width-of .ensures .0))
+    (wrote-then (at-put .put .ensures) (wrote-then (at-put-node-name .put-node-name .ensures) (wrote-then (at-put2 .put2 .ensures)
+    (wrote-then (at-put-sort .put-sort .ensures) (wrote-then (at-put3 .put3 .ensures)
+    (wrote-then (at-put-term .put-term .ensures) (at-put4 .put4 .ensures)))))))
+
+pub put-definition-spec : {M : Type 1} → statement M
+put-definition-spec =
+    tie.close
+    (tie.spec
+    kind-of-requires
+    returns
+    width-of-requires
+    slice-aggregate-put
+    put-requires
+    put-node-name-requires
+    slice-aggregate-put-2
+    put-requires-2
+    put-sort-requires
+    slice-aggregate-put-3
+    put-requires-3
+    put-term-requires
+    slice-aggregate-put-4
+    put-requires-4
+    same-length
+    returns-2)

@@ -1,0 +1,81 @@
+use Rattle.digits.proofs.Laws.{room-front, room-step, room-as, wrote-then, wrote-as}
+use Rattle.script_text.proofs.Whole.{script-lines}
+use borrow.Author.Needs.{needs}
+use Rattle.script_text.proofs.put_script.Statement.{statement}
+use Rattle.script_text.proofs.put_script.Tie as tie
+use Rattle.script_text.proofs.put_script.Reads as reads
+use Rattle.script_text.proofs.put_script.Lts as lts
+use Rattle.digits.proofs.put.Reads as put-reads
+use Rattle.script_text.proofs.put_claim.Reads as put-claim-reads
+use Rattle.script_text.proofs.put_declarations.Reads as put-declarations-reads
+use Rattle.script_text.proofs.put_definitions.Reads as put-definitions-reads
+
+-- src/lib.rt:293:17
+slice-aggregate-put : tie.Need-slice-aggregate-put
+slice-aggregate-put c = search needs
+
+-- src/lib.rt:293:9
+put-requires : tie.Need-put-requires
+put-requires c κs =
+    let st = c .before .before .before .before in
+    (room-front _ (room-as (script-lines (st .args .p .now) (st .args .count) (st .args .x .0) (st .args .y .0)) (st .pre .1)))
+
+-- src/lib.rt:294:9
+put-declarations-requires : tie.Need-put-declarations-requires
+put-declarations-requires c κs =
+    let at-put = c .before .before .before in
+    let st = at-put .before .before .before .before .before in
+    (room-front _ (room-step (at-put .put .ensures)
+    (room-as (script-lines (st .args .p .now) (st .args .count) (st .args .x .0) (st .args .y .0)) (st .pre .1))))
+
+-- src/lib.rt:295:9
+put-definitions-requires : tie.Need-put-definitions-requires
+put-definitions-requires c κs =
+    let at-put-declarations = c .before .before .before in
+    let at-put = at-put-declarations .before .before .before .before in
+    let st = at-put .before .before .before .before .before in (
+      st .pre .0 .0,
+      (room-front _ (room-step (at-put-declarations .put-declarations .ensures) (room-step (at-put .put .ensures)
+          (room-as (script-lines (st .args .p .now) (st .args .count) (st .args .x .0) (st .args .y .0)) (st .pre .1))))),
+    )
+
+-- src/lib.rt:296:5
+put-claim-requires : tie.Need-put-claim-requires
+put-claim-requires c κs =
+    let at-put-definitions = c .before .before .before in
+    let at-put-declarations = at-put-definitions .before .before .before .before in
+    let at-put = at-put-declarations .before .before .before .before in
+    let st = at-put .before .before .before .before .before in (
+      (st .pre .0 .1, st .pre .0 .2),
+      (room-step (at-put-definitions .put-definitions .ensures)
+          (room-step (at-put-declarations .put-declarations .ensures) (room-step (at-put .put .ensures)
+          (room-as (script-lines (st .args .p .now) (st .args .count) (st .args .x .0) (st .args .y .0)) (st .pre .1))))),
+    )
+
+-- src/lib.rt:288:1
+same-length : tie.Need-same-length
+same-length c = search needs
+
+-- src/lib.rt:288:1
+returns : tie.Need-returns
+returns c =
+    let at-put-claim = c .before .before in
+    let at-put-definitions = at-put-claim .before .before .before .before in
+    let at-put-declarations = at-put-definitions .before .before .before .before in
+    let at-put = at-put-declarations .before .before .before .before in
+    let st = at-put .before .before .before .before .before in
+    wrote-as (script-lines (st .args .p .now) (st .args .count) (st .args .x .0) (st .args .y .0)) (wrote-then (at-put .put .ensures)
+    (wrote-then (at-put-declarations .put-declarations .ensures)
+    (wrote-then (at-put-definitions .put-definitions .ensures) (at-put-claim .put-claim .ensures))))
+
+pub put-script-spec : {M : Type 1} → statement M
+put-script-spec =
+    tie.close
+    (tie.spec
+    slice-aggregate-put
+    put-requires
+    put-declarations-requires
+    put-definitions-requires
+    put-claim-requires
+    same-length
+    returns)
