@@ -5,19 +5,17 @@ use mathlib.Core.Bool.{Bool, true, false, cond, _&&_}
 use Prim.Native.Nat.{ℕ, _-_, _/_, _≤_}
 use native.Mathlib.Omega.{arith}
 use lib.Dec.{eqb}
-use borrow.Author.Tests.{eqb-true, eq-eqb}
-use Rattle.facts.proofs.Tests.{and-both}
 use Rattle.neon.specs.declared.Instruction.{Instruction}
 use Rattle.neon.specs.Op.{Op, opAt, Arrangement, B8, B16, H4, H8, S2, S4, D2, arrangementAt, laneBits}
 use Rattle.neon.specs.Form.{form, hasSecond, byElement}
-use Rattle.neon.specs.Refusal.{mostM, recordNumber, Legal}
+use Rattle.neon.specs.Refusal.{mostM, Legal}
 use Rattle.neon.proofs.Legal.{Accepted, accepted}
 use Rattle.encoding.specs.declared.Decoded.the-variants.{Record}
 use Rattle.encoding.specs.Encoding.{encoding}
 use Rattle.encoding.specs.Word.{Qof, encodeOf, encode}
-use Rattle.encoding.specs.Decode.{bits, classNumber, operationAt, sizeAt, arrangementOf, secondAt, fieldsOf, decodedIf, decode}
+use Rattle.encoding.specs.Decode.{bits, classNumber, operationAt, sizeAt, arrangementOf, secondAt, fieldsOf, decodedIf, isWordOf, decode}
 use Rattle.encoding.specs.Inverse.{DecodedWhere, DecodeEncode, OneWord, WordFits}
-use Rattle.encoding.proofs.Decoding.{by-operation, by-arrangement}
+use Rattle.encoding.proofs.Decoding.{word-of, read-as, by-operation, by-arrangement}
 use Rattle.encoding.proofs.Reading.{Q-fits, Q-upper, second, most, ReadBack, read-back}
 use Rattle.encoding.proofs.Operations.{found, secondIs, Tied, tied-at, arranged-at, element-at}
 
@@ -103,10 +101,7 @@ module _ (c : Instruction) (legal : Legal c) where
 
   -- going and returning
   back-again : decode (encode c) ≡ Record c
-  unfolding decode
-  back-again =
-      ap (λ (x : Instruction). decodedIf (eqb (recordNumber x) 0 && eqb (encode x) (encode c)) x) fields-back
-      ∙ rw (eq-eqb (recordNumber c) 0 legal, eq-eqb (encode c) (encode c) refl)
+  back-again = sym (read-as (encode c) c fields-back legal refl)
 
 pub decode-encode : DecodeEncode
 decode-encode c h = back-again c h
@@ -117,13 +112,12 @@ word-fits c h = whole c h .common .fits
 -- a word is decoded only to a legal record, whose word it is
 decoded : (w : ℕ) (c : Instruction) → decode w ≡ Record c → Legal c × (encode c ≡ w)
 unfolding decode
-decoded w c e = go (eqb (recordNumber (fieldsOf w)) 0 && eqb (encode (fieldsOf w)) w) refl e
+decoded w c e = go (isWordOf w (fieldsOf w)) refl e
   where
-    go : (b : Bool) → (eqb (recordNumber (fieldsOf w)) 0 && eqb (encode (fieldsOf w)) w) ≡ b → decodedIf b (fieldsOf w) ≡ Record c → Legal c × (encode c ≡ w)
+    go : (b : Bool) → isWordOf w (fieldsOf w) ≡ b → decodedIf b (fieldsOf w) ≡ Record c → Legal c × (encode c ≡ w)
     go true h q =
         let s : fieldsOf w ≡ c = cc in
-        let p = and-both (eqb (recordNumber (fieldsOf w)) 0) (eqb (encode (fieldsOf w)) w) h in
-        (subst (λ (x : Instruction). Legal x) s (eqb-true _ _ (p .0)), ap encode (sym s) ∙ eqb-true _ _ (p .1))
+        rw s at (word-of (fieldsOf w) w h)
     go false h q = let z : _≡_ {A = ℕ} 0 1 = cc in absurd (omega arith)
 
 pub decoded-where : DecodedWhere

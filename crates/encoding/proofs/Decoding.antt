@@ -4,7 +4,8 @@ use mathlib.Core.Bool.{Bool, true, false, _&&_}
 use Prim.Native.Nat.{ℕ, suc, _%_, _≤_}
 use native.Mathlib.Omega.{arith}
 use lib.Dec.{eqb}
-use borrow.Author.Tests.{eq-eqb, ne-eqb, le-leb}
+use borrow.Author.Tests.{eq-eqb, eqb-true, le-leb}
+use Rattle.facts.proofs.Tests.{and-both}
 use Rattle.neon.specs.declared.Instruction.{Instruction}
 use Rattle.neon.specs.Op.{opAt, arrangementAt, isArrangement, laneBits}
 use Rattle.neon.specs.Form.{form, hasForm, formCodeAt}
@@ -14,7 +15,7 @@ use Rattle.record_check.specs.Record.{instruction}
 use Rattle.encoding.specs.declared.Decoded.the-variants.{Record, Nothing}
 use Rattle.encoding.specs.Encoding.{encoding}
 use Rattle.encoding.specs.Word.{encode}
-use Rattle.encoding.specs.Decode.{bits, operationAt, sizeAt, arrangementOf, immediateAt, secondAt, fieldsOf, decodedIf, decode}
+use Rattle.encoding.specs.Decode.{bits, operationAt, sizeAt, arrangementOf, immediateAt, secondAt, fieldsOf, decodedIf, isWordOf, decode}
 
 number-2 : (c : Instruction) → c .operation ≡ 0 → recordNumber c ≡ 2
 unfolding recordNumber
@@ -25,24 +26,39 @@ number-3 : (c : Instruction) → 1 ≤ c .operation → c .operation ≤ 67 → 
 unfolding recordNumber
 number-3 c l h e = rw (le-leb 1 (c .operation) l, le-leb (c .operation) 67 h, e)
 
+-- ---- the test
+
+module _ (c : Instruction) (w : ℕ) where
+  word-legal : isWordOf w c ≡ true → Legal c
+  word-legal h = eqb-true (recordNumber c) 0 (and-both (eqb (recordNumber c) 0) (eqb (encode c) w) h .0)
+
+  pub word-of : isWordOf w c ≡ true → Legal c × (encode c ≡ w)
+  word-of h = (word-legal h, eqb-true (encode c) w (and-both (eqb (recordNumber c) 0) (eqb (encode c) w) h .1))
+
+  pub its-word : Legal c → encode c ≡ w → isWordOf w c ≡ true
+  its-word l q = rw (eq-eqb (recordNumber c) 0 l, eq-eqb (encode c) w q)
+
+  no-word : (Legal c × (encode c ≡ w) → ⊥) → isWordOf w c ≡ false
+  no-word n = go (isWordOf w c) refl
+    where
+      go : (b : Bool) → isWordOf w c ≡ b → b ≡ false
+      go true h = absurd (n (word-of h))
+      go false h = refl
+
 -- the record that the fields name is c
 module _ (w : ℕ) (c : Instruction) (e : fieldsOf w ≡ c) where
-  by-fields : decode w ≡ decodedIf (eqb (recordNumber c) 0 && eqb (encode c) w) c
+  by-test : {b : Bool} → isWordOf w c ≡ b → decodedIf b c ≡ decode w
   unfolding decode
-  by-fields = ap (λ (x : Instruction). decodedIf (eqb (recordNumber x) 0 && eqb (encode x) w) x) e
+  by-test h = ap (λ (t : Bool). decodedIf t c) (sym h) ∙ ap (λ (x : Instruction). decodedIf (isWordOf w x) x) (sym e)
 
   pub refused : (k : ℕ) → recordNumber c ≡ suc k → Nothing ≡ decode w
-  refused k q = sym (by-fields ∙ rw (ne-eqb (recordNumber c) 0 (λ z. omega (arith, q, z))))
+  refused k q = by-test (no-word c w (λ p. omega (arith, p .0, q)))
 
-  pub accepted : Legal c → encode c ≡ w → Record c ≡ decode w
-  accepted l q = sym (by-fields ∙ rw (eq-eqb (recordNumber c) 0 l, eq-eqb (encode c) w q))
+  pub read-as : Legal c → encode c ≡ w → Record c ≡ decode w
+  read-as l q = by-test (its-word c w l q)
 
   pub other-word : (encode c ≡ w → ⊥) → Nothing ≡ decode w
-  other-word q = sym (by-fields ∙ go (eqb (recordNumber c) 0) (ne-eqb (encode c) w q))
-    where
-      go : (b : Bool) {t : Bool} → t ≡ false → decodedIf (b && t) c ≡ Nothing
-      go true f = rw f
-      go false f = refl
+  other-word q = by-test (no-word c w (λ p. q (p .1)))
 
 pub no-operation : (w : ℕ) → operationAt w ≡ 0 → Nothing ≡ decode w
 unfolding fieldsOf

@@ -99,6 +99,10 @@ abbrev pub decodedIf : Bool → Instruction → Decoded
 decodedIf true c = Record c
 decodedIf false c = Nothing
 
--- that record, if it is legal and w is its word: each field that it does not carry is then what the manual fixes
+-- w is the word of the legal record c: each field that c does not carry is then what the manual fixes
+abbrev pub isWordOf : ℕ → Instruction → Bool
+isWordOf w c = eqb (recordNumber c) 0 && eqb (encode c) w
+
+-- the record that the fields name, where w is its word
 unfoldable pub decode : ℕ → Decoded
-decode w = decodedIf (eqb (recordNumber (fieldsOf w)) 0 && eqb (encode (fieldsOf w)) w) (fieldsOf w)
+decode w = decodedIf (isWordOf w (fieldsOf w)) (fieldsOf w)

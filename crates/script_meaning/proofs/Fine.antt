@@ -86,7 +86,7 @@ module _ (ws : List ℕ) (count : ℕ) (valid : Valid ws count) where
   unfolding fine
   fine-definition n h = rw (decimal-plain n, fine-sort (sortWidth ws n), h)
 
-  fine-definitions : (k n : ℕ) (rest : Items) → n + k ≡ count → fineAll rest ≡ true → fineAll (definitions ws k n rest) ≡ true
+  fine-definitions : (k n : ℕ) (rest : Items) → n + k ≤ count → fineAll rest ≡ true → fineAll (definitions ws k n rest) ≡ true
   unfolding definitions decode
   fine-definitions zero n rest e h = h
   fine-definitions (suc k) n rest e h =
@@ -103,4 +103,4 @@ module _ (ws : List ℕ) (count : ℕ) (valid : Valid ws count) where
   pub fine-script : (x y : ℕ) → fineAll (commandsOf ws count x y) ≡ true
   unfolding commandsOf fine
   fine-script x y =
-      fine-declarations 32 0 _ (fine-definitions count 0 _ (omega arith) (rw (plain-at x, plain-at y)))
+      fine-declarations 32 0 _ (fine-definitions _ 0 _ (omega arith) (rw (plain-at x, plain-at y)))

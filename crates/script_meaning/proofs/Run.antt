@@ -251,7 +251,7 @@ module _ (ws : List ℕ) (count : ℕ) (valid : Valid ws count) (regs : ℕ → 
     pub values : (n : ℕ) → n < count → find names (nameOf ws n) ≡ some (meaningAt ws count valid regs n)
     pub ran : run model xs (script [] true) ≡ some (script names (differ x y))
 
-  abbrev claim : ℕ → ℕ → Items
+  abbrev pub claim : ℕ → ℕ → Items
   claim x y = list (word (bytes "assert") ⨾ apply2 (bytes "distinct") (nameOf ws x) (nameOf ws y) ⨾ stop) ⨾ list (word (bytes "check-sat") ⨾ stop) ⨾ stop
 
   pub run-script : (x y : ℕ) → x < count → y < count → widthAt ws x ≡ widthAt ws y → ((r : ℕ) → r < 32 → regs r < 2 ^ 128)

@@ -11,7 +11,7 @@ use Rattle.form.proofs.Parts.{with-form}
 use Rattle.encoding.specs.Encoding.{encoding}
 use Rattle.encoding.specs.Decode.{bits, operationAt, sizeAt, arrangementOf, immediateAt, secondAt, fieldsOf}
 use Rattle.encoding.proofs.Lookup.{class-is}
-use Rattle.encoding.proofs.Decoding.{refused, accepted, other-word, no-operation, no-form, all-fields}
+use Rattle.encoding.proofs.Decoding.{refused, read-as, other-word, no-operation, no-form, all-fields}
 use borrow.Author.Needs.{needs}
 use Rattle.encoding.proofs.decode.decode_word.Statement.{statement}
 use Rattle.encoding.proofs.decode.decode_word.Tie as tie
@@ -131,7 +131,7 @@ returns-4 c =
     let s = c .before .before .before .before in
     let w = s .before .before .before .before .before .before .before .before .before .before .args .w in
     let again : e .result ≡ w = omega (arith, c .if4 .taken) in
-    accepted _ (read s) (fields s) (sym (n .ensures) ∙ omega (arith, c .before .before .if3 .left)) (sym (e .ensures) ∙ again)
+    read-as _ (read s) (fields s) (sym (n .ensures) ∙ omega (arith, c .before .before .if3 .left)) (sym (e .ensures) ∙ again)
 
 returns-5 : tie.Need-returns-5
 returns-5 c =
