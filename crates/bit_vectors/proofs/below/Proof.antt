@@ -1,3 +1,4 @@
+-- `below` is the test that the number is less than w: then it is one word.
 use native.Mathlib.Omega.{arith}
 use Rattle.bit_vectors.proofs.Laws.{below-is}
 use Rattle.bit_vectors.proofs.below.Statement.{statement}

@@ -1,3 +1,4 @@
+-- `bv_add` gives `bvadd w`: the sum modulo 2^192, cut to w bits.
 use native.Mathlib.Omega.{arith}
 use mathlib.Core.Path.{_∙_}
 use Rattle.bit_vectors.proofs.Laws.{add-at}

@@ -1,3 +1,4 @@
+-- `bv_concat` gives a * 2^w + b: the shift loses no bit, and the sum does not wrap.
 use mathlib.Core.Path.{_∙_}
 use Rattle.bit_vectors.proofs.Laws.{concat-is}
 use borrow.Author.Needs.{needs}

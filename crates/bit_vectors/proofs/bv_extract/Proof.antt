@@ -1,3 +1,4 @@
+-- `bv_extract` gives bits hi to lo: a shift to the right, cut to hi - lo + 1 bits.
 use native.Mathlib.Numerals.{add-one}
 use mathlib.Core.Path.{_∙_}
 use borrow.Author.Needs.{needs}

@@ -1,3 +1,4 @@
+-- `bv_not` gives `bvnot w`: each word inverted, cut to w bits.
 use native.Mathlib.Omega.{arith}
 use mathlib.Core.Path.{_∙_}
 use Rattle.bit_vectors.proofs.Laws.{not-at, not-words}

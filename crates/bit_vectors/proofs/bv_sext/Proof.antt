@@ -1,3 +1,4 @@
+-- `bv_sext` gives `bvsext m w`: as it is, or inverted in m bits and back in w.
 use native.Mathlib.Omega.{arith}
 use mathlib.Core.Path.{sym, _∙_}
 use Rattle.bit_vectors.proofs.Laws.{sext-plain, sext-signed, not-small}

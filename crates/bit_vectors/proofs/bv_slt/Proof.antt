@@ -1,3 +1,4 @@
+-- `bv_slt` gives `bvslt w`, from the two top bits and the unsigned test.
 use Rattle.terms.specs.Value.{bvslt}
 use borrow.Author.Needs.{needs}
 use Rattle.bit_vectors.proofs.bv_slt.Statement.{statement}

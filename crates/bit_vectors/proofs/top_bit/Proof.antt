@@ -1,3 +1,4 @@
+-- `top_bit` gives `msb w`: the lowest bit after a shift by w - 1.
 use Rattle.bit_vectors.proofs.Laws.{msb-is}
 use borrow.Author.Needs.{needs}
 use Rattle.bit_vectors.proofs.top_bit.Statement.{statement}

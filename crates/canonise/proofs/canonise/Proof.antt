@@ -1,3 +1,4 @@
+-- `canonise` meets its contract: 1, 5, and else what `canonise_root` answers.
 use mathlib.Core.Bool.{true}
 use mathlib.Core.Path.{_≡_, sym, _∙_}
 use native.Mathlib.Omega.{arith}

@@ -1,3 +1,4 @@
+-- `canonise_root` answers for a root of a good pool: 6 and nothing written where the subtrees have no room, else all their nodes.
 use native.Mathlib.Omega.{arith}
 use Rattle.canonise.proofs.Arrays.{no-room, all-written}
 use borrow.Author.Needs.{needs}

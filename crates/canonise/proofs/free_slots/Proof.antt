@@ -1,3 +1,4 @@
+-- `free_slots` gives 196,608 slots without links.
 use Rattle.canonise.proofs.Arrays.{zeros-are}
 use Rattle.canonise.proofs.free_slots.Statement.{statement}
 use Rattle.canonise.proofs.free_slots.Tie as tie

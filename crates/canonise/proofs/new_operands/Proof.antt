@@ -1,3 +1,4 @@
+-- `new_operands` gives `newOperands`: word 1 with the new number of each operand that the kind has.
 use Rattle.canonise.proofs.Words.{operands-made}
 use borrow.Author.Needs.{needs}
 use Rattle.canonise.proofs.new_operands.Statement.{statement}

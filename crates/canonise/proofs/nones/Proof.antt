@@ -1,3 +1,4 @@
+-- `nones` gives an array that has no number for any node.
 use mathlib.Core.Path.{refl}
 use Rattle.canonise.proofs.Arrays.{nones-are}
 use Rattle.canonise.proofs.nones.Statement.{statement}

@@ -1,3 +1,4 @@
+-- `number_if` gives `numberIf`: the new number of a node's class, or 0 where there is no such operand.
 use lib.ListN.{getD}
 use Prim.Native.Nat.{ℕ}
 use mathlib.Core.Path.{_∙_, ap}

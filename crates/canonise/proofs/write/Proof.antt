@@ -1,3 +1,4 @@
+-- `write`: at j the first j nodes of the canonical pool are written, and no word past them (`Written`).
 use Rattle.canonise.proofs.Words.{written-none, written-more}
 use Rattle.canonise.specs.Canonise.{Written}
 use Prim.Native.Nat.{_≤_, _-_}

@@ -1,3 +1,4 @@
+-- `write_one` writes the four words of node j of the canonical pool, and nothing else (`OneMore`).
 use Rattle.canonise.proofs.Words.{one-more, new-operands, new-word0, new-word2, new-word3}
 use Rattle.canonise.specs.Canonise.{newOperands}
 use lib.ListN.{getD}

@@ -1,3 +1,4 @@
+-- `zeros` gives an array of 65,536 entries.
 use Rattle.canonise.proofs.Arrays.{zeros-are}
 use Rattle.canonise.proofs.zeros.Statement.{statement}
 use Rattle.canonise.proofs.zeros.Tie as tie

@@ -1,3 +1,4 @@
+-- `put_2` writes `padded 2`: the digit of the tens and what is left.
 use mathlib.Core.Path.{_≡_, refl, sym, ap, _∙_}
 use native.Mathlib.Omega.{arith}
 use lib.ListN.{length, length-set, length-append}
@@ -6,49 +7,36 @@ use Rattle.decimals.proofs.Digits.{first-2, wrote-first, length-2, wrot
 use borrow.Author.Needs.{needs}
 use Rattle.decimals.proofs.put_2.Statement.{statement}
 use Rattle.decimals.proofs.put_2.Tie as tie
-use Rattle.decimals.proofs.put_2.Reads as reads
-use Rattle.decimals.proofs.put_2.Lts as lts
-use Rattle.decimals.proofs.figure.Reads as figure-reads
-use Rattle.decimals.proofs.place_of.Reads as place-of-reads
 
--- src/lib.rt:54:9
 place-of-requires : tie.Need-place-of-requires
 place-of-requires c κs = search needs
 
--- src/lib.rt:55:15
 figure-requires : tie.Need-figure-requires
 figure-requires c κs = search needs
 
--- src/lib.rt:55:5
 slice-write-buf : tie.Need-slice-write-buf
 slice-write-buf c =
     let at3 = c .before .before .before in
     let st = at3 in omega (arith, st .pre .1 .room, length-2 (st .args .x))
 
--- src/lib.rt:56:19
 figure-requires-2 : tie.Need-figure-requires-2
 figure-requires-2 c κs = search needs
 
--- src/lib.rt:56:9
 add-buf : tie.Need-add-buf
 add-buf c = search needs
 
--- src/lib.rt:56:5
 slice-write-buf-2 : tie.Need-slice-write-buf-2
 slice-write-buf-2 c =
     let at-figure = c .before in
     let at4 = at-figure .before .before .before in
     let st = at4 in omega (arith, st .pre .1 .room, length-2 (st .args .x), length-set (st .args .buf .now) (st .args .at) (at-figure .figure .result))
 
--- src/lib.rt:57:5
 add-result : tie.Need-add-result
 add-result c = search needs
 
--- src/lib.rt:49:1
 same-length : tie.Need-same-length
 same-length c = search needs
 
--- src/lib.rt:49:1
 returns : tie.Need-returns
 returns c =
     let at-figure = c .before in

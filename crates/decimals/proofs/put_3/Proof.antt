@@ -1,3 +1,4 @@
+-- `put_3` writes `padded 3`: the digit of the hundreds, then `put_2` of what is left.
 use mathlib.Core.Path.{_≡_, refl, sym, ap, _∙_}
 use native.Mathlib.Omega.{arith}
 use lib.ListN.{length, length-set, length-append}
@@ -6,21 +7,13 @@ use Rattle.decimals.proofs.Digits.{first-3, wrote-first, room-rest, roo
 use borrow.Author.Needs.{needs}
 use Rattle.decimals.proofs.put_3.Statement.{statement}
 use Rattle.decimals.proofs.put_3.Tie as tie
-use Rattle.decimals.proofs.put_3.Reads as reads
-use Rattle.decimals.proofs.put_3.Lts as lts
-use Rattle.decimals.proofs.figure.Reads as figure-reads
-use Rattle.decimals.proofs.place_of.Reads as place-of-reads
-use Rattle.decimals.proofs.put_2.Reads as put-2-reads
 
--- src/lib.rt:65:9
 place-of-requires : tie.Need-place-of-requires
 place-of-requires c κs = search needs
 
--- src/lib.rt:66:15
 figure-requires : tie.Need-figure-requires
 figure-requires c κs = search needs
 
--- src/lib.rt:66:5
 slice-write-buf : tie.Need-slice-write-buf
 slice-write-buf c =
     let at-place-of = c .before in
@@ -28,11 +21,9 @@ slice-write-buf c =
     let p = at-place-of .place-of in
     room-one (first-3 (st .args .x) _ _ (p .ensures .0) (p .ensures .1)) (st .pre .1)
 
--- src/lib.rt:67:24
 add-put-2 : tie.Need-add-put-2
 add-put-2 c = search needs
 
--- src/lib.rt:67:5
 put-2-requires : tie.Need-put-2-requires
 put-2-requires c κs =
     let at-place-of = c .before .before in
@@ -40,7 +31,6 @@ put-2-requires c κs =
     let p = at-place-of .place-of in
     (p .ensures .1, room-rest _ (first-3 (st .args .x) _ _ (p .ensures .0) (p .ensures .1)) (st .pre .1))
 
--- src/lib.rt:60:1
 same-length : tie.Need-same-length
 same-length c =
     let at-put-2 = c .before .before in
@@ -48,7 +38,6 @@ same-length c =
     let st = at-figure .before .before .before in
     wrote-length (at-put-2 .put-2 .ensures) ∙ length-set (st .args .buf .now) (st .args .at) (at-figure .figure .result)
 
--- src/lib.rt:60:1
 returns : tie.Need-returns
 returns c =
     let at-put-2 = c .before .before in

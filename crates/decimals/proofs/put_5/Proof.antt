@@ -1,3 +1,4 @@
+-- `put_5` writes `padded 5`: the digit of the ten thousands, then `put_4` of what is left.
 use mathlib.Core.Path.{_≡_, refl, sym, ap, _∙_}
 use native.Mathlib.Omega.{arith}
 use lib.ListN.{length, length-set, length-append}
@@ -6,21 +7,13 @@ use Rattle.decimals.proofs.Digits.{first-5, wrote-first, room-rest, roo
 use borrow.Author.Needs.{needs}
 use Rattle.decimals.proofs.put_5.Statement.{statement}
 use Rattle.decimals.proofs.put_5.Tie as tie
-use Rattle.decimals.proofs.put_5.Reads as reads
-use Rattle.decimals.proofs.put_5.Lts as lts
-use Rattle.decimals.proofs.figure.Reads as figure-reads
-use Rattle.decimals.proofs.place_of.Reads as place-of-reads
-use Rattle.decimals.proofs.put_4.Reads as put-4-reads
 
--- src/lib.rt:85:9
 place-of-requires : tie.Need-place-of-requires
 place-of-requires c κs = search needs
 
--- src/lib.rt:86:15
 figure-requires : tie.Need-figure-requires
 figure-requires c κs = search needs
 
--- src/lib.rt:86:5
 slice-write-buf : tie.Need-slice-write-buf
 slice-write-buf c =
     let at-place-of = c .before in
@@ -28,11 +21,9 @@ slice-write-buf c =
     let p = at-place-of .place-of in
     room-one (first-5 (st .args .x) _ _ (p .ensures .0) (p .ensures .1)) (st .pre .1)
 
--- src/lib.rt:87:24
 add-put-4 : tie.Need-add-put-4
 add-put-4 c = search needs
 
--- src/lib.rt:87:5
 put-4-requires : tie.Need-put-4-requires
 put-4-requires c κs =
     let at-place-of = c .before .before in
@@ -40,7 +31,6 @@ put-4-requires c κs =
     let p = at-place-of .place-of in
     (p .ensures .1, room-rest _ (first-5 (st .args .x) _ _ (p .ensures .0) (p .ensures .1)) (st .pre .1))
 
--- src/lib.rt:80:1
 same-length : tie.Need-same-length
 same-length c =
     let at-put-4 = c .before .before in
@@ -48,7 +38,6 @@ same-length c =
     let st = at-figure .before .before .before in
     wrote-length (at-put-4 .put-4 .ensures) ∙ length-set (st .args .buf .now) (st .args .at) (at-figure .figure .result)
 
--- src/lib.rt:80:1
 returns : tie.Need-returns
 returns c =
     let at-put-4 = c .before .before in

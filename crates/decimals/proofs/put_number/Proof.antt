@@ -1,3 +1,4 @@
+-- `put_number` writes the decimal text: a number of k digits has no zeros before it, so `padded k` is its text.
 use mathlib.Core.Path.{_≡_, refl, sym, ap, _∙_}
 use native.Mathlib.Omega.{arith}
 use lib.ListN.{length}
@@ -7,20 +8,10 @@ use Rattle.decimals.proofs.Digits.{decimal-2, decimal-3, decimal-4, dec
 use borrow.Author.Needs.{needs}
 use Rattle.decimals.proofs.put_number.Statement.{statement}
 use Rattle.decimals.proofs.put_number.Tie as tie
-use Rattle.decimals.proofs.put_number.Reads as reads
-use Rattle.decimals.proofs.put_number.Lts as lts
-use Rattle.decimals.proofs.figure.Reads as figure-reads
-use Rattle.decimals.proofs.put_2.Reads as put-2-reads
-use Rattle.decimals.proofs.put_3.Reads as put-3-reads
-use Rattle.decimals.proofs.put_4.Reads as put-4-reads
-use Rattle.decimals.proofs.put_5.Reads as put-5-reads
-use Rattle.digits.proofs.put_decimal.Reads as put-decimal-reads
 
--- src/lib.rt:97:23
 figure-requires : tie.Need-figure-requires
 figure-requires c κs = search needs
 
--- src/lib.rt:97:13
 slice-write-buf : tie.Need-slice-write-buf
 unfolding decimal
 slice-write-buf c =
@@ -28,15 +19,12 @@ slice-write-buf c =
     let at4 = at-if2 .before .before .before in
     let st = at4 in omega (arith, ap length (digits-one 10 (st .args .x) (at-if2 .if2 .taken)), st .pre)
 
--- src/lib.rt:98:20
 add-result : tie.Need-add-result
 add-result c = search needs
 
--- src/lib.rt:98:13
 same-length : tie.Need-same-length
 same-length c = search needs
 
--- src/lib.rt:98:13
 returns : tie.Need-returns
 unfolding decimal
 returns c =
@@ -44,7 +32,6 @@ returns c =
     let at-args = at-if2 .before .before .before in
     let a = at-args .args in wrote-one 10 (a .buf .now) (a .at) (a .x) _ (at-if2 .if2 .taken) (c .figure .ensures)
 
--- src/lib.rt:100:9
 put-2-requires : tie.Need-put-2-requires
 put-2-requires c κs =
     let at-if2 = c .before in
@@ -52,11 +39,9 @@ put-2-requires c κs =
     let at4 = at-if1 .before .before in
     let st = at4 in (at-if1 .if1 .taken, room-as (decimal-2 (st .args .x) (at-if2 .if2 .left) (at-if1 .if1 .taken)) (st .pre))
 
--- src/lib.rt:100:9
 same-length-2 : tie.Need-same-length-2
 same-length-2 c = search needs
 
--- src/lib.rt:100:9
 returns-2 : tie.Need-returns-2
 returns-2 c =
     let at-put-2 = c .before .before in
@@ -65,7 +50,6 @@ returns-2 c =
     let at7 = at-if1 .before .before in
     let st = at7 in wrote-as (decimal-2 (st .args .x) (at-if2 .if2 .left) (at-if1 .if1 .taken)) (at-put-2 .put-2 .ensures)
 
--- src/lib.rt:103:9
 put-3-requires : tie.Need-put-3-requires
 put-3-requires c κs =
     let at-if3 = c .before in
@@ -73,11 +57,9 @@ put-3-requires c κs =
     let at4 = at-if1 .before .before in
     let st = at4 in (at-if3 .if3 .taken, room-as (decimal-3 (st .args .x) (at-if1 .if1 .left) (at-if3 .if3 .taken)) (st .pre))
 
--- src/lib.rt:103:9
 same-length-3 : tie.Need-same-length-3
 same-length-3 c = search needs
 
--- src/lib.rt:103:9
 returns-3 : tie.Need-returns-3
 returns-3 c =
     let at-put-3 = c .before .before in
@@ -86,7 +68,6 @@ returns-3 c =
     let at7 = at-if1 .before .before in
     let st = at7 in wrote-as (decimal-3 (st .args .x) (at-if1 .if1 .left) (at-if3 .if3 .taken)) (at-put-3 .put-3 .ensures)
 
--- src/lib.rt:106:9
 put-4-requires : tie.Need-put-4-requires
 put-4-requires c κs =
     let at-if4 = c .before in
@@ -94,11 +75,9 @@ put-4-requires c κs =
     let at5 = at-if3 .before .before .before in
     let st = at5 in (at-if4 .if4 .taken, room-as (decimal-4 (st .args .x) (at-if3 .if3 .left) (at-if4 .if4 .taken)) (st .pre))
 
--- src/lib.rt:106:9
 same-length-4 : tie.Need-same-length-4
 same-length-4 c = search needs
 
--- src/lib.rt:106:9
 returns-4 : tie.Need-returns-4
 returns-4 c =
     let at-put-4 = c .before .before in
@@ -107,7 +86,6 @@ returns-4 c =
     let at8 = at-if3 .before .before .before in
     let st = at8 in wrote-as (decimal-4 (st .args .x) (at-if3 .if3 .left) (at-if4 .if4 .taken)) (at-put-4 .put-4 .ensures)
 
--- src/lib.rt:109:9
 put-5-requires : tie.Need-put-5-requires
 put-5-requires c κs =
     let at-if5 = c .before in
@@ -115,11 +93,9 @@ put-5-requires c κs =
     let at6 = at-if4 .before .before .before .before in
     let st = at6 in (at-if5 .if5 .taken, room-as (decimal-5 (st .args .x) (at-if4 .if4 .left) (at-if5 .if5 .taken)) (st .pre))
 
--- src/lib.rt:109:9
 same-length-5 : tie.Need-same-length-5
 same-length-5 c = search needs
 
--- src/lib.rt:109:9
 returns-5 : tie.Need-returns-5
 returns-5 c =
     let at-put-5 = c .before .before in
@@ -128,15 +104,12 @@ returns-5 c =
     let at9 = at-if4 .before .before .before .before in
     let st = at9 in wrote-as (decimal-5 (st .args .x) (at-if4 .if4 .left) (at-if5 .if5 .taken)) (at-put-5 .put-5 .ensures)
 
--- src/lib.rt:111:5
 put-decimal-requires : tie.Need-put-decimal-requires
 put-decimal-requires c κs = search needs
 
--- src/lib.rt:91:1
 same-length-6 : tie.Need-same-length-6
 same-length-6 c = search needs
 
--- src/lib.rt:91:1
 returns-6 : tie.Need-returns-6
 returns-6 c = search needs
 

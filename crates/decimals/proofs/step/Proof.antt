@@ -1,24 +1,19 @@
+-- `step` takes d units off the rest where it has them: digit and rest together stay what they were.
 use native.Mathlib.Omega.{arith}
 use native.Mathlib.Nat.{mul-le-mul}
 use borrow.Author.Needs.{needs}
 use Rattle.decimals.proofs.step.Statement.{statement}
 use Rattle.decimals.proofs.step.Tie as tie
-use Rattle.decimals.proofs.step.Reads as reads
-use Rattle.decimals.proofs.step.Lts as lts
 
--- src/lib.rt:21:16
 mul-size : tie.Need-mul-size
 mul-size c = omega (arith, mul-le-mul (c .pre .0 .0) (c .pre .0 .1))
 
--- src/lib.rt:23:9
 returns : tie.Need-returns
 returns c = search needs
 
--- src/lib.rt:26:16
 add-t6 : tie.Need-add-t6
 add-t6 c = search needs
 
--- src/lib.rt:16:1
 returns-2 : tie.Need-returns-2
 returns-2 c = search needs
 

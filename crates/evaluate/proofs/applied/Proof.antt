@@ -1,3 +1,4 @@
+-- `applied` gives `appliedAt`: `apply` is asked with the widths of the operands that the kind has.
 use mathlib.Core.List.{List}
 use mathlib.Core.Path.{_≡_, sym, _∙_}
 use Prim.Native.Nat.{ℕ, _<_}

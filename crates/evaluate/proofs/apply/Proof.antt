@@ -1,3 +1,4 @@
+-- `apply` gives `nodeValue` of each kind from 3 on but Ite, by the contract of the operation that it calls.
 use mathlib.Core.Path.{_≡_, sym, ap, _∙_, subst}
 use Prim.Native.Nat.{ℕ, suc, _+_, _*_, _^_, _≤_, _<_}
 use native.Mathlib.Omega.{arith}

@@ -1,3 +1,4 @@
+-- `bit` gives `bitOf`: 1 for true, 0 for false.
 use Rattle.wide.specs.Number.{words}
 use Rattle.evaluate.proofs.bit.Statement.{statement}
 use Rattle.evaluate.proofs.bit.Tie as tie

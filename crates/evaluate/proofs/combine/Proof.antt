@@ -1,3 +1,4 @@
+-- `combine` leaves the node's value in a: that of a leaf, or `applied` to the values of its operands.
 use mathlib.Core.Path.{_≡_, sym, _∙_}
 use Prim.Native.Nat.{_≤_}
 use Rattle.pool.specs.Node.{kindNumber}

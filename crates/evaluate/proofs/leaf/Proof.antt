@@ -1,3 +1,4 @@
+-- `leaf` gives the value of a Var, the register's two words at the start, or of a Const, words 2 and 3.
 use native.Mathlib.Omega.{arith}
 use mathlib.Core.Path.{sym, _∙_}
 use Prim.Native.Nat.{_<_}

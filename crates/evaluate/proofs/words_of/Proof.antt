@@ -1,3 +1,4 @@
+-- `words_of`: each entry of a slice is a word (`InWords`), whatever the function gives.
 use Rattle.evaluate.proofs.Answers.{empty-ok}
 use native.Mathlib.Omega.{arith}
 use borrow.Author.Needs.{needs}

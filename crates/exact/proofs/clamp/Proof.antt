@@ -1,3 +1,4 @@
+-- `clamp` answers `clampZ low high` of the integer in n bits, and whether it was outside.
 use mathlib.Core.Path.{sym, _∙_}
 use Rattle.exact.proofs.Laws.{less-is, clamp-low, clamp-high, clamp-none}
 use borrow.Author.Needs.{needs}

@@ -1,3 +1,4 @@
+-- `clamp_signed`: its two ends hold -2^(n-1) and 2^(n-1) - 1, so `clamp` clamps into the signed range of n bits.
 use Rattle.exact.proofs.Laws.{low-held, word-held, half-lt}
 use Prim.Native.Nat.{ℕ, _-_}
 use Rattle.neon.specs.Arm.{cS}

@@ -1,3 +1,4 @@
+-- `clamp_to` answers `clampTo` and `beyondTo` of each range; a signed number into the unsigned range has the unsigned ends.
 use borrow.Author.Needs.{needs}
 use Rattle.exact.proofs.clamp_to.Statement.{statement}
 use Rattle.exact.proofs.clamp_to.Tie as tie

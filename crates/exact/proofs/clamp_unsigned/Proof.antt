@@ -1,3 +1,4 @@
+-- `clamp_unsigned`: its two ends hold 0 and 2^n - 1, so `clamp` clamps into the unsigned range of n bits.
 use Rattle.exact.proofs.Laws.{word-held}
 use Rattle.neon.specs.Arm.{cU}
 use Rattle.saturation.specs.Saturates.{beyondU}

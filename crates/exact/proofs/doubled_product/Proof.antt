@@ -1,3 +1,4 @@
+-- `doubled_product` holds twice the product of two signed lanes, which fits 129 bits.
 use native.Mathlib.Omega.{arith}
 use Rattle.exact.proofs.Laws.{doubled-held}
 use borrow.Author.Needs.{needs}

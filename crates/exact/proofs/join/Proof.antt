@@ -1,3 +1,4 @@
+-- `join` holds the difference for Sub and else the sum, in one bit more.
 use Rattle.exact.proofs.Laws.{sum-held, less-held, joined-sum, joined-less}
 use mathlib.Core.Path.{sym, _∙_}
 use borrow.Author.Needs.{needs}

@@ -1,3 +1,4 @@
+-- `keep` gives `wrap n` of the integer that is held.
 use native.Mathlib.Omega.{arith}
 use Rattle.exact.proofs.Laws.{keep-is}
 use borrow.Author.Needs.{needs}

@@ -1,3 +1,4 @@
+-- `largest` gives 2^k - 1, for k of 64 too.
 use lib.Pow.{pow-pos}
 use native.Mathlib.Omega.{arith}
 use borrow.Author.Needs.{needs}

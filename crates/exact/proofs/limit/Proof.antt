@@ -1,3 +1,4 @@
+-- `limit` answers `limited` and `beyondLimit`: clamped into a range, or n bits that never saturate.
 use mathlib.Core.Path.{refl}
 use borrow.Author.Needs.{needs}
 use Rattle.exact.proofs.limit.Statement.{statement}

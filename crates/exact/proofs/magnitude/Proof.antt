@@ -1,3 +1,4 @@
+-- `magnitude` holds the integer's magnitude, in one bit more.
 use mathlib.Core.Path.{sym, _∙_}
 use native.Mathlib.Omega.{arith}
 use Rattle.exact.proofs.Laws.{less-is, fitting, magnitude-low, magnitude-high}

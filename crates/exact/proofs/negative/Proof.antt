@@ -1,3 +1,4 @@
+-- `negative` holds the integer negated, in one bit more.
 use Rattle.exact.proofs.Laws.{negative-held}
 use borrow.Author.Needs.{needs}
 use Rattle.exact.proofs.negative.Statement.{statement}

@@ -1,3 +1,4 @@
+-- `read` holds `readZ` of a lane, signed or unsigned, in 65 bits.
 use native.Mathlib.Omega.{arith}
 use Rattle.exact.proofs.Laws.{fitting}
 use borrow.Author.Needs.{needs}

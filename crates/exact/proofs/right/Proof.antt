@@ -1,3 +1,4 @@
+-- `right` holds `rightZ`: the integer over 2^k, floored, after half of 2^k was added where it rounds.
 use native.Mathlib.Omega.{arith}
 use Rattle.exact.proofs.Laws.{floor-held, round-held}
 use Rattle.wide.proofs.Words.{num-lt}

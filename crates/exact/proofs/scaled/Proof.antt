@@ -1,3 +1,4 @@
+-- `scaled` holds the integer times 2^k, in k bits more.
 use Rattle.exact.proofs.Laws.{scaled-held}
 use borrow.Author.Needs.{needs}
 use Rattle.exact.proofs.scaled.Statement.{statement}

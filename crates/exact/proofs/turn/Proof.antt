@@ -1,3 +1,4 @@
+-- `turn` holds `turnZ` by the signed low byte: to the left below 128, else to the right by 256 less it.
 use native.Mathlib.Omega.{arith}
 use Rattle.exact.proofs.Laws.{turn-left, turn-right}
 use borrow.Author.Needs.{needs}

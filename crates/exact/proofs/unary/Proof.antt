@@ -1,3 +1,4 @@
+-- `unary` holds the negative or the magnitude, as the flag says.
 use borrow.Author.Needs.{needs}
 use Rattle.exact.proofs.unary.Statement.{statement}
 use Rattle.exact.proofs.unary.Tie as tie

@@ -1,3 +1,4 @@
+-- `unsigned` holds a word as the number it is, in 65 bits.
 use native.Mathlib.Omega.{arith}
 use Rattle.exact.proofs.Laws.{unsigned-is}
 use Rattle.exact.proofs.unsigned.Statement.{statement}

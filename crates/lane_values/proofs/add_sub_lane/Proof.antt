@@ -1,3 +1,4 @@
+-- `add_sub_lane` answers `saturatingLaneZ` and `saturatingBeyond` of AddSub: the exact sum or difference, clamped.
 use native.Mathlib.Omega.{arith}
 use Rattle.exact.proofs.Laws.{fitting}
 use borrow.Author.Needs.{needs}

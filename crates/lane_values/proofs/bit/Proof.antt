@@ -1,3 +1,4 @@
+-- `bit` gives `bitAt j`, which is 0 or 1.
 use native.Mathlib.Omega.{arith}
 use mathlib.Core.Path.{ap}
 use lib.Pow.{pow-pos}

@@ -1,3 +1,4 @@
+-- `bits_lane` gives `bitsLaneZ` of each of the four kinds.
 use mathlib.Core.Path.{ap, _∙_}
 use Prim.Native.Nat.{ℕ, _-_}
 use Rattle.neon.specs.Arm.{equalRun}

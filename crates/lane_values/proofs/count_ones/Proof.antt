@@ -1,3 +1,4 @@
+-- `count_ones` gives `ones k`: at j the loop has counted the ones of the j low bits.
 use native.Mathlib.Omega.{arith}
 use mathlib.Core.Path.{_≡_, refl, sym, ap, _∙_}
 use Rattle.lane_values.proofs.Counts.{ones-more}

@@ -1,3 +1,4 @@
+-- `difference_lane` gives the magnitude of the exact difference, added to d where it accumulates, in n bits; it never saturates.
 use native.Mathlib.Omega.{arith}
 use Rattle.exact.proofs.Laws.{fitting}
 use borrow.Author.Needs.{needs}

@@ -1,3 +1,4 @@
+-- `doubling_lane` answers `doublingLaneZ` and `doublingBeyond`: the product is clamped, then the sum with it, and either may saturate.
 use native.Mathlib.Omega.{arith}
 use Rattle.exact.proofs.Laws.{fitting}
 use Rattle.lane_values.proofs.Lanes.{bits-lt, again, both}

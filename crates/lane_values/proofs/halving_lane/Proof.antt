@@ -1,3 +1,4 @@
+-- `halving_lane` answers `saturatingLaneZ` of Halving: the exact sum over 2, floored or rounded.
 use native.Mathlib.Omega.{arith}
 use Rattle.exact.proofs.Laws.{fitting}
 use borrow.Author.Needs.{needs}

@@ -1,3 +1,4 @@
+-- `insert_lane` gives `insertLaneZ` of SLI and SRI: the shifted bits and the bits of d that stay do not meet.
 use native.Mathlib.Omega.{arith}
 use mathlib.Core.Path.{_∙_, subst}
 use Rattle.lane_values.proofs.Counts.{word, left-fits, right-fits, right-is}

@@ -1,3 +1,4 @@
+-- `lane_at` answers `familyLane` and `familyBeyond`: each family's function by its own contract.
 use mathlib.Core.Path.{refl, subst}
 use Prim.Native.Nat.{_<_, _^_}
 use Rattle.trees.specs.declared.NeonOp.{NeonOp}

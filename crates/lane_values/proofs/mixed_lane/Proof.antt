@@ -1,3 +1,4 @@
+-- `mixed_lane` answers `mixedLaneZ` and `mixedBeyond`: the exact sum of a signed and an unsigned lane, clamped as d is read.
 use native.Mathlib.Omega.{arith}
 use Rattle.exact.proofs.Laws.{fitting}
 use borrow.Author.Needs.{needs}

@@ -1,3 +1,4 @@
+-- `multiply_high_lane` answers `saturatingLaneZ` of DoublingMultiplyHigh: the doubled product over 2^n, clamped.
 use native.Mathlib.Omega.{arith}
 use Rattle.exact.proofs.Laws.{fitting}
 use borrow.Author.Needs.{needs}

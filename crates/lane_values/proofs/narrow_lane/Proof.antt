@@ -1,3 +1,4 @@
+-- `narrow_lane` answers `saturatingLaneZ` of Narrow: a lane of twice n bits, clamped into n.
 use native.Mathlib.Omega.{arith}
 use Rattle.exact.proofs.Laws.{fitting}
 use borrow.Author.Needs.{needs}

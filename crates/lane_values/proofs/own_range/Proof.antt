@@ -1,3 +1,4 @@
+-- `own_range` gives `ownRange`: the range of a shift by a register is that of its sign, or none.
 use borrow.Author.Needs.{needs}
 use Rattle.lane_values.proofs.own_range.Statement.{statement}
 use Rattle.lane_values.proofs.own_range.Tie as tie

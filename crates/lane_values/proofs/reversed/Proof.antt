@@ -1,3 +1,4 @@
+-- `reversed` gives the n bits in the other order: at j the loop has placed the j highest.
 use native.Mathlib.Omega.{arith}
 use mathlib.Core.Path.{_≡_, refl, ap, _∙_}
 use Rattle.lane_values.proofs.Counts.{reversed-more, times-bit, next-power}

@@ -1,3 +1,4 @@
+-- `run_of` gives `equalRun`: at j the loop has met k - j bits that are t, and what is left is the run from bit j - 1 down.
 use native.Mathlib.Omega.{arith}
 use mathlib.Core.Path.{_≡_, refl, ap, _∙_}
 use Rattle.lane_values.proofs.Counts.{run-stop, run-more}

@@ -1,3 +1,4 @@
+-- `saturating_lane` answers `saturatingLaneZ` and `saturatingBeyond` of each of the six kinds.
 use native.Mathlib.Omega.{arith}
 use mathlib.Core.Path.{subst}
 use Rattle.trees.specs.declared.SaturatingKind.{SaturatingKind}

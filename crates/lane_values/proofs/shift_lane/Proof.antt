@@ -1,3 +1,4 @@
+-- `shift_lane` answers `shiftLaneZ` and `shiftBeyond` of each of the three kinds: the exact shift, clamped or cut.
 use native.Mathlib.Omega.{arith}
 use mathlib.Core.Path.{subst}
 use Rattle.exact.proofs.Laws.{fitting}

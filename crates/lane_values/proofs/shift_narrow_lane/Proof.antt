@@ -1,3 +1,4 @@
+-- `shift_narrow_lane` answers `saturatingLaneZ` of ShiftNarrow: a lane of twice n bits, shifted to the right, then clamped or cut.
 use native.Mathlib.Omega.{arith}
 use Rattle.exact.proofs.Laws.{fitting}
 use borrow.Author.Needs.{needs}

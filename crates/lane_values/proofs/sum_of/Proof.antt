@@ -1,3 +1,4 @@
+-- `sum_of` holds `highZ`, the exact sum or difference of two unsigned lanes, in 66 bits.
 use native.Mathlib.Omega.{arith}
 use borrow.Author.Needs.{needs}
 use Rattle.lane_values.proofs.sum_of.Statement.{statement}

@@ -1,3 +1,4 @@
+-- `unary_lane` answers `saturatingLaneZ` of Unary: the negative or the magnitude, clamped into the signed range.
 use native.Mathlib.Omega.{arith}
 use Rattle.exact.proofs.Laws.{fitting}
 use borrow.Author.Needs.{needs}

@@ -1,3 +1,4 @@
+-- `next_open` gives `nextOpen`: the first of A, B and C that is there and has no number yet.
 use Rattle.node_order.proofs.Lists.{open-made}
 use borrow.Author.Needs.{needs}
 use Rattle.node_order.proofs.next_open.Statement.{statement}

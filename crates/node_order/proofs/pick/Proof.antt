@@ -1,3 +1,4 @@
+-- `pick` gives `pick`: m where it is an operand without a number, else what was found before.
 use Prim.Native.Nat.{ℕ}
 use lib.Dec.{eqb}
 use mathlib.Core.Bool.{_&&_}

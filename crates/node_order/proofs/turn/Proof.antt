@@ -1,3 +1,4 @@
+-- `turn` makes one turn of the walk (`Stepped`): the top of the stack gets its number, or an operand without one goes on the stack.
 use Rattle.node_order.proofs.Turns.{turn-done, turn-less, turn-more}
 use Prim.Native.Nat.{_-_}
 use native.Mathlib.Omega.{arith}

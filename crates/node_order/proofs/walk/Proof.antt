@@ -1,3 +1,4 @@
+-- `walk` numbers every class beneath the root (`Numbered`): the loop keeps `Walking`, and each turn numbers a node or goes to a lower one.
 use Rattle.node_order.proofs.Ends.{started, ended}
 use Rattle.node_order.specs.Walk.{Walking, work}
 use Prim.Native.Nat.{ℕ}

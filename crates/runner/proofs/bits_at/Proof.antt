@@ -1,3 +1,4 @@
+-- `bits_at` gives the n bits from bit `at` on, of the word in which they stand.
 use mathlib.Core.Path.{_∙_}
 use native.Mathlib.Omega.{arith}
 use Rattle.runner.proofs.Running.{low-lane, high-lane}

@@ -1,3 +1,4 @@
+-- `halve` gives `readBits`: the number, or its low 64 bits.
 use native.Mathlib.Omega.{arith}
 use Rattle.runner.proofs.Running.{low-half}
 use Rattle.runner.proofs.halve.Statement.{statement}

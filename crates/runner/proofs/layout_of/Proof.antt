@@ -1,3 +1,4 @@
+-- `layout_of` gives `layoutOf` of each family.
 use borrow.Author.Needs.{needs}
 use Rattle.runner.proofs.layout_of.Statement.{statement}
 use Rattle.runner.proofs.layout_of.Tie as tie

@@ -1,3 +1,4 @@
+-- `place` puts the new bits above the low half of d in a narrowing 2 form, and else leaves them (`Placed`).
 use native.Mathlib.Omega.{arith}
 use mathlib.Core.Path.{refl}
 use Rattle.runner.proofs.Running.{above-is}

@@ -1,3 +1,4 @@
+-- `result_of` makes `armResult` and `saturates` (`ResultOf`): it runs the lanes of the shape on sources read as the form reads them.
 use Rattle.facts.proofs.Tests.{and-both}
 use Rattle.neon.specs.Op.{opAt, arrangementAt}
 use Rattle.runner.proofs.Rows.{row, n-le, asked, narrow-lt, result-is}

@@ -1,3 +1,4 @@
+-- `run` meets both its contracts: 8 first, then the first bad record, else the Arm run and whether a lane saturated.
 use native.Mathlib.Omega.{arith}
 use mathlib.Core.Path.{sym, _∙_}
 use Rattle.block_check.specs.Records.{recordsOf}

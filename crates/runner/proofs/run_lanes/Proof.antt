@@ -1,3 +1,4 @@
+-- `run_lanes` puts the lanes together: at j the sum so far has j lanes, and the flag says whether one of them saturated.
 use Prim.Native.Nat.{ℕ, _+_, _-_, _*_, _/_, _%_, _^_, _≤_, _<_}
 use native.Mathlib.Nat.{mod-lt}
 use lib.Pow.{pow-pos}

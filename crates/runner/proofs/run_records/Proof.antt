@@ -1,3 +1,4 @@
+-- `run_records`: at record j the registers and the flag are those of the Arm run of the first j records.
 use native.Mathlib.Omega.{arith}
 use mathlib.Core.Path.{_≡_, refl}
 use Prim.Native.Nat.{_-_, _/_, _≤_, _<_}

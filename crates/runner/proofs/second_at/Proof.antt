@@ -1,3 +1,4 @@
+-- `second_at` gives `secondAt`: the element's index, or lane j after the skipped ones.
 use borrow.Author.Needs.{needs}
 use Rattle.runner.proofs.second_at.Statement.{statement}
 use Rattle.runner.proofs.second_at.Tie as tie

@@ -1,3 +1,4 @@
+-- `second_by` gives `secondBy`: whether the second source is read whole.
 use borrow.Author.Needs.{needs}
 use Rattle.runner.proofs.second_by.Statement.{statement}
 use Rattle.runner.proofs.second_by.Tie as tie

@@ -1,3 +1,4 @@
+-- `source_by` gives `sourceBy`: the bits of a source lane, twice, half or as many as the result's.
 use borrow.Author.Needs.{needs}
 use Rattle.runner.proofs.source_by.Statement.{statement}
 use Rattle.runner.proofs.source_by.Tie as tie

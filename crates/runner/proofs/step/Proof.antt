@@ -1,3 +1,4 @@
+-- `step` makes one step of the Arm run: register d becomes the result, the others stay (`SteppedBy`).
 use Rattle.neon.proofs.Legal.{accepted}
 use Rattle.runner.proofs.Runs.{registers-in, stepped}
 use Rattle.runner.proofs.step.Statement.{statement}

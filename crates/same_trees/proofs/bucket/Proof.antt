@@ -1,3 +1,4 @@
+-- `bucket` gives `bucketOf`: no sum on the way overflows a word, and the number is below 65,536.
 use native.Mathlib.Omega.{arith}
 use Rattle.same_trees.specs.Key.{bucketOf}
 use borrow.Author.Needs.{needs}

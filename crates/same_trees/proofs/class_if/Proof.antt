@@ -1,3 +1,4 @@
+-- `class_if` gives `classIf`: the class of a node, or 0 where there is no such operand.
 use borrow.Author.Needs.{needs}
 use Rattle.same_trees.proofs.class_if.Statement.{statement}
 use Rattle.same_trees.proofs.class_if.Tie as tie

@@ -1,3 +1,4 @@
+-- `class_one` keeps `Kept` for one node more: a known tree's class, or a class of its own in the slot that `find` gave.
 use native.Mathlib.Omega.{arith}
 use Prim.Native.Nat.{ℕ, _+_, _-_, _<_}
 use lib.ListN.{getD}

@@ -1,3 +1,4 @@
+-- `classes`: at n the loop has the classes of the nodes below n (`Kept`); at the end `Classes`.
 use Rattle.same_trees.proofs.Steps.{kept-first, valid-le}
 use Rattle.same_trees.specs.Class.{Kept}
 use mathlib.Core.Path.{_≡_}

@@ -1,3 +1,4 @@
+-- `find` gives the node with the same key, or the free slot where the search for that key ends (`Found`); links rise, so it ends.
 use mathlib.Core.List.{List}
 use mathlib.Core.Bool.{false}
 use mathlib.Core.Path.{_≡_, sym, ap, _∙_, subst}

@@ -1,3 +1,4 @@
+-- `key_of` gives `keyOf`, and the three classes in it are below 65,536.
 use Rattle.same_trees.proofs.Search.{key-made}
 use borrow.Author.Needs.{needs}
 use Rattle.same_trees.proofs.key_of.Statement.{statement}

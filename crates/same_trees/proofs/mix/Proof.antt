@@ -1,3 +1,4 @@
+-- `mix` gives `mixOf`, which is below 2^61.
 use native.Mathlib.Omega.{arith}
 use mathlib.Core.Path.{refl}
 use Rattle.same_trees.specs.Key.{mixOf}

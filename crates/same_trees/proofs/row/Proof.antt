@@ -1,3 +1,4 @@
+-- `row` gives `rowOf`: the 64 bits of the key in which a level stands.
 use native.Mathlib.Omega.{arith}
 use borrow.Author.Tests.{lt-ltb, le-ltb}
 use borrow.Author.Needs.{needs}

@@ -1,3 +1,4 @@
+-- `cut_length` gives the length of ((_ extract hi lo) a).
 use mathlib.Core.Path.{_≡_, refl, sym, ap, _∙_, subst}
 use native.Mathlib.Omega.{arith}
 use Rattle.script_length.proofs.Sizes.{size-cut}
@@ -5,36 +6,25 @@ use Rattle.script_meaning.specs.Script.{nameOf}
 use borrow.Author.Needs.{needs}
 use Rattle.script_length.proofs.cut_length.Statement.{statement}
 use Rattle.script_length.proofs.cut_length.Tie as tie
-use Rattle.script_length.proofs.cut_length.Reads as reads
-use Rattle.script_length.proofs.cut_length.Lts as lts
-use Rattle.decimals.proofs.number_length.Reads as number-length-reads
-use Rattle.script_length.proofs.name_length.Reads as name-length-reads
 
--- src/lib.rt:85:5
 number-length-requires : tie.Need-number-length-requires
 number-length-requires c κs = search needs
 
--- src/lib.rt:85:25
 number-length-requires-2 : tie.Need-number-length-requires-2
 number-length-requires-2 c κs = search needs
 
--- src/lib.rt:85:5
 add-result : tie.Need-add-result
 add-result c = search needs
 
--- src/lib.rt:85:45
 name-length-requires : tie.Need-name-length-requires
 name-length-requires c κs = search needs
 
--- src/lib.rt:85:5
 add-result-2 : tie.Need-add-result-2
 add-result-2 c = search needs
 
--- src/lib.rt:85:5
 add-result-3 : tie.Need-add-result-3
 add-result-3 c = search needs
 
--- src/lib.rt:81:1
 returns : tie.Need-returns
 returns c =
     let at-number-length2 = c .before in

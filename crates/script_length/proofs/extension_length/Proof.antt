@@ -1,3 +1,4 @@
+-- `extension_length` gives the length of ((_ f by) a), f the function of the kind.
 use mathlib.Core.Path.{_≡_, refl, sym, ap, _∙_, subst}
 use native.Mathlib.Omega.{arith}
 use Rattle.script_length.proofs.Sizes.{size-extension}
@@ -6,37 +7,25 @@ use Rattle.pool.specs.Node.{kindAt}
 use borrow.Author.Needs.{needs}
 use Rattle.script_length.proofs.extension_length.Statement.{statement}
 use Rattle.script_length.proofs.extension_length.Tie as tie
-use Rattle.script_length.proofs.extension_length.Reads as reads
-use Rattle.script_length.proofs.extension_length.Lts as lts
-use Rattle.decimals.proofs.number_length.Reads as number-length-reads
-use Rattle.script_length.proofs.function_length.Reads as function-length-reads
-use Rattle.script_length.proofs.name_length.Reads as name-length-reads
 
--- src/lib.rt:93:5
 function-length-requires : tie.Need-function-length-requires
 function-length-requires c κs = search needs
 
--- src/lib.rt:93:26
 number-length-requires : tie.Need-number-length-requires
 number-length-requires c κs = search needs
 
--- src/lib.rt:93:5
 add-result : tie.Need-add-result
 add-result c = search needs
 
--- src/lib.rt:93:46
 name-length-requires : tie.Need-name-length-requires
 name-length-requires c κs = search needs
 
--- src/lib.rt:93:5
 add-result-2 : tie.Need-add-result-2
 add-result-2 c = search needs
 
--- src/lib.rt:93:5
 add-result-3 : tie.Need-add-result-3
 add-result-3 c = search needs
 
--- src/lib.rt:89:1
 returns : tie.Need-returns
 returns c =
     let at-number-length = c .before in

@@ -1,3 +1,4 @@
+-- `line_length` gives the length of a node's line, 0 for a Var, at most 192.
 use mathlib.Core.Path.{_≡_, refl, sym, ap, _∙_, subst}
 use native.Mathlib.Omega.{arith}
 use lib.ListN.{length}
@@ -8,19 +9,10 @@ use Rattle.script_length.proofs.Sizes.{size-line}
 use borrow.Author.Needs.{needs}
 use Rattle.script_length.proofs.line_length.Statement.{statement}
 use Rattle.script_length.proofs.line_length.Tie as tie
-use Rattle.script_length.proofs.line_length.Reads as reads
-use Rattle.script_length.proofs.line_length.Lts as lts
-use Rattle.decimals.proofs.number_length.Reads as number-length-reads
-use Rattle.pool.proofs.words.kind_of.Reads as kind-of-reads
-use Rattle.pool.proofs.words.width_of.Reads as width-of-reads
-use Rattle.script_length.proofs.sort_length.Reads as sort-length-reads
-use Rattle.script_length.proofs.term_length.Reads as term-length-reads
 
--- src/lib.rt:122:9
 kind-of-requires : tie.Need-kind-of-requires
 kind-of-requires c κs = search needs
 
--- src/lib.rt:124:9
 returns : tie.Need-returns
 returns c =
     let at-kind-of = c .before in
@@ -28,26 +20,21 @@ returns c =
     let z = ap length (no-line (st .args .p .now) (st .args .n .0) (sym (at-kind-of .kind-of .ensures) ∙ c .if1 .taken)) in
     (sym z, omega arith)
 
--- src/lib.rt:126:9
 width-of-requires : tie.Need-width-of-requires
 width-of-requires c κs = search needs
 
--- src/lib.rt:127:5
 number-length-requires : tie.Need-number-length-requires
 number-length-requires c κs = search needs
 
--- src/lib.rt:127:33
 sort-length-requires : tie.Need-sort-length-requires
 sort-length-requires c κs =
     let at-width-of = c .before in
     let st = at-width-of .before .before .before .before in
     omega (arith, at-width-of .width-of .ensures .0, width-small (st .args .p .now) (st .args .n .0) (st .pre .ready) _ refl)
 
--- src/lib.rt:127:5
 add-result : tie.Need-add-result
 add-result c = search needs
 
--- src/lib.rt:127:50
 term-length-requires : tie.Need-term-length-requires
 term-length-requires c κs =
     let at-if1 = c .before .before .before in
@@ -56,15 +43,12 @@ term-length-requires c κs =
     let e = at-kind-of .kind-of in
     (st .pre, e .ensures, above _ 1 (kind-above (st .args .p .now) (st .args .n .0) (st .pre .ready) _ (e .ensures)) (at-if1 .if1 .left))
 
--- src/lib.rt:127:5
 add-result-2 : tie.Need-add-result-2
 add-result-2 c = search needs
 
--- src/lib.rt:127:5
 add-result-3 : tie.Need-add-result-3
 add-result-3 c = search needs
 
--- src/lib.rt:118:1
 returns-2 : tie.Need-returns-2
 returns-2 c =
     let at-sort-length = c .before in

@@ -1,3 +1,4 @@
+-- `lines_length` gives the length of the lines of the nodes below count: at n the sum is that of the first n.
 use mathlib.Core.Path.{_≡_, refl, sym, ap, _∙_, subst}
 use native.Mathlib.Omega.{arith}
 use Prim.Native.Nat.{ℕ, _+_, _-_, _*_, _≤_, _<_}
@@ -7,9 +8,6 @@ use Rattle.script_text.specs.Lines.{lineAt}
 use Rattle.script_length.proofs.Sizes.{next-line, no-lines}
 use Rattle.script_length.proofs.lines_length.Statement.{statement}
 use Rattle.script_length.proofs.lines_length.Tie as tie
-use Rattle.script_length.proofs.lines_length.Reads as reads
-use Rattle.script_length.proofs.lines_length.Lts as lts
-use Rattle.script_length.proofs.line_length.Reads as line-length-reads
 
 abbrev Inv-loop : tie.InvT-loop
 Inv-loop p count n₀ sum₀ n sum = (sum ≡ length (upTo n (lineAt p))) × (sum ≤ 192 * n) × (n ≤ count)
@@ -17,15 +15,12 @@ Inv-loop p count n₀ sum₀ n sum = (sum ≡ length (upTo n (lineAt p))) × (su
 abbrev μ-loop : tie.MeasureT-loop
 μ-loop p count n₀ sum₀ n sum = count - n
 
--- src/lib.rt:137:5
 loop-holds : tie.Need-loop-holds Inv-loop μ-loop
 loop-holds c = (sym (no-lines _), omega arith, omega arith)
 
--- src/lib.rt:138:16
 line-length-requires : tie.Need-line-length-requires Inv-loop μ-loop
 line-length-requires c κs = c .before .before .before .pre .0 (c .before .loop .n) (c .loop-test .taken)
 
--- src/lib.rt:138:9
 add-sum : tie.Need-add-sum Inv-loop μ-loop
 add-sum c =
     let at-loop-test = c .before in
@@ -34,15 +29,12 @@ add-sum c =
     let l = at-loop .loop in
     omega (arith, l .inv .1, c .line-length .ensures .1, at-loop-test .loop-test .taken, at-pre .pre .1)
 
--- src/lib.rt:139:9
 add-n : tie.Need-add-n Inv-loop μ-loop
 add-n c = omega (arith, c .before .loop-test .taken, c .before .before .before .before .pre .1)
 
--- src/lib.rt:137:5
 loop-less : tie.Need-loop-less Inv-loop μ-loop
 loop-less c = omega (arith, c .before .loop-test .taken)
 
--- src/lib.rt:137:5
 loop-again : tie.Need-loop-again Inv-loop μ-loop
 loop-again c =
     let at-loop-test = c .before in
@@ -55,7 +47,6 @@ loop-again c =
           (arith, at-loop-test .loop-test .taken),
     )
 
--- src/lib.rt:131:1
 returns : tie.Need-returns Inv-loop μ-loop
 returns c =
     let at-loop = c .before in

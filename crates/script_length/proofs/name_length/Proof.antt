@@ -1,3 +1,4 @@
+-- `name_length` gives the length of a node's name, at most 6.
 use Prim.Native.Nat.{ℕ}
 use lib.ListN.{length}
 use Rattle.terms.specs.Display.{decimal}
@@ -8,21 +9,13 @@ use Rattle.text_parts.proofs.Operands.{register-small}
 use borrow.Author.Needs.{needs}
 use Rattle.script_length.proofs.name_length.Statement.{statement}
 use Rattle.script_length.proofs.name_length.Tie as tie
-use Rattle.script_length.proofs.name_length.Reads as reads
-use Rattle.script_length.proofs.name_length.Lts as lts
-use Rattle.decimals.proofs.number_length.Reads as number-length-reads
-use Rattle.node_fields.proofs.low.Reads as low-reads
-use Rattle.pool.proofs.words.kind_of.Reads as kind-of-reads
 
--- src/lib.rt:31:8
 kind-of-requires : tie.Need-kind-of-requires
 kind-of-requires c κs = search needs
 
--- src/lib.rt:32:30
 low-requires : tie.Need-low-requires
 low-requires c κs = search needs
 
--- src/lib.rt:32:16
 number-length-requires : tie.Need-number-length-requires
 number-length-requires c κs =
     let at-if1 = c .before in
@@ -30,11 +23,9 @@ number-length-requires c κs =
     let st = at-kind-of .before .before in
     omega (arith, c .low .ensures, register-small (st .args .p .now) (st .args .n .0) (st .pre .ready) _ refl (sym (at-kind-of .kind-of .ensures) ∙ at-if1 .if1 .taken))
 
--- src/lib.rt:32:16
 add-result : tie.Need-add-result
 add-result c = search needs
 
--- src/lib.rt:32:9
 returns : tie.Need-returns
 returns c =
     let at-low = c .before in
@@ -47,15 +38,12 @@ returns c =
           (arith, c .number-length .ensures .1),
     )
 
--- src/lib.rt:34:5
 number-length-requires-2 : tie.Need-number-length-requires-2
 number-length-requires-2 c κs = search needs
 
--- src/lib.rt:34:5
 add-result-2 : tie.Need-add-result-2
 add-result-2 c = search needs
 
--- src/lib.rt:27:1
 returns-2 : tie.Need-returns-2
 returns-2 c =
     let at-if1 = c .before in

@@ -1,23 +1,17 @@
+-- `script_length` meets its contract: 1 and 5 with length 0, else the length of the script.
 use mathlib.Core.Path.{_≡_, refl, sym, ap, _∙_, subst}
 use native.Mathlib.Omega.{arith}
 use Rattle.script_length.proofs.Answers.{good, few, all-named, below, unmeasured, measured}
 use borrow.Author.Needs.{needs}
 use Rattle.script_length.proofs.script_length.Statement.{statement}
 use Rattle.script_length.proofs.script_length.Tie as tie
-use Rattle.script_length.proofs.script_length.Reads as reads
-use Rattle.script_length.proofs.script_length.Lts as lts
-use Rattle.script_length.proofs.measure.Reads as measure-reads
-use Rattle.script_length.proofs.script_number.Reads as script-number-reads
 
--- src/lib.rt:194:9
 script-number-requires : tie.Need-script-number-requires
 script-number-requires c κs = search needs
 
--- src/lib.rt:196:9
 returns : tie.Need-returns
 returns c = let st = c .before .before .before in unmeasured (st .args .pool .now) (st .args .count) (st .args .a) (st .args .b) (c .before .script-number .ensures) (c .if1 .taken)
 
--- src/lib.rt:203:17
 measure-requires : tie.Need-measure-requires
 measure-requires c κs =
     let at-script-number = c .before in
@@ -28,7 +22,6 @@ measure-requires c κs =
     let n = st .args .count in
     (all-named ws n (g .pool), few ws n (g .pool), below ws n (st .args .a) (g .first), below ws n (st .args .b) (g .second))
 
--- src/lib.rt:191:1
 returns-2 : tie.Need-returns-2
 returns-2 c =
     let at-if1 = c .before in

@@ -1,3 +1,4 @@
+-- `script_number` gives `scriptNumber`: 1, then 5 for either node.
 use mathlib.Core.Path.{_≡_, refl, sym, ap, _∙_, subst}
 use native.Mathlib.Omega.{arith}
 use borrow.Author.Tests.{not-true, not-false}
@@ -5,27 +6,19 @@ use Rattle.script_length.proofs.Answers.{bad-pool, bad-first, bad-secon
 use borrow.Author.Needs.{needs}
 use Rattle.script_length.proofs.script_number.Statement.{statement}
 use Rattle.script_length.proofs.script_number.Tie as tie
-use Rattle.script_length.proofs.script_number.Reads as reads
-use Rattle.script_length.proofs.script_number.Lts as lts
-use Rattle.pool_check.proofs.pool_check.Reads as pool-check-reads
-use Rattle.script_length.proofs.is_chosen.Reads as is-chosen-reads
 
--- src/lib.rt:168:9
 pool-check-requires : tie.Need-pool-check-requires
 pool-check-requires c κs = search needs
 
--- src/lib.rt:169:9
 returns : tie.Need-returns
 returns c =
     let at-pool-check = c .before in
     let st = at-pool-check .before .before in
     sym (bad-pool (st .args .pool .now) (st .args .count) (st .args .a) (st .args .b) 0 (sym (at-pool-check .pool-check .ensures) ∙ not-true _ (c .if1 .taken)))
 
--- src/lib.rt:171:9
 is-chosen-requires : tie.Need-is-chosen-requires
 is-chosen-requires c κs = (sym (c .before .pool-check .ensures) ∙ not-false _ (c .if1 .left))
 
--- src/lib.rt:172:9
 returns-2 : tie.Need-returns-2
 returns-2 c =
     let at-is-chosen = c .before in
@@ -35,11 +28,9 @@ returns-2 c =
     sym (bad-first (st .args .pool .now) (st .args .count) (st .args .a) (st .args .b) 0 (sym (at-pool-check .pool-check .ensures) ∙ not-false _ (at-if1 .if1 .left))
     (sym (at-is-chosen .is-chosen .ensures) ∙ not-true _ (c .if2 .taken)))
 
--- src/lib.rt:174:9
 is-chosen-requires-2 : tie.Need-is-chosen-requires-2
 is-chosen-requires-2 c κs = (sym (c .before .before .before .pool-check .ensures) ∙ not-false _ (c .before .before .if1 .left))
 
--- src/lib.rt:175:9
 returns-3 : tie.Need-returns-3
 returns-3 c =
     let at-is-chosen2 = c .before in
@@ -51,7 +42,6 @@ returns-3 c =
     sym (bad-second (st .args .pool .now) (st .args .count) (st .args .a) (st .args .b) 0 (sym (at-pool-check .pool-check .ensures) ∙ not-false _ (at-if1 .if1 .left))
     (sym (at-is-chosen .is-chosen .ensures) ∙ not-false _ (at-if2 .if2 .left)) (sym (at-is-chosen2 .is-chosen2 .ensures) ∙ not-true _ (c .if3 .taken)))
 
--- src/lib.rt:165:1
 returns-4 : tie.Need-returns-4
 returns-4 c =
     let at-is-chosen2 = c .before in

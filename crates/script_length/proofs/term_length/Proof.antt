@@ -1,3 +1,4 @@
+-- `term_length` gives the length of a node's term, by its kind, at most 131.
 use mathlib.Core.Path.{_≡_, refl, sym, ap, _∙_, subst}
 use native.Mathlib.Omega.{arith}
 use Prim.Native.Nat.{ℕ, _-_, _≤_, _<_}
@@ -12,28 +13,13 @@ use Rattle.script_length.proofs.Sizes.{named-as, size-constant}
 use borrow.Author.Needs.{needs}
 use Rattle.script_length.proofs.term_length.Statement.{statement}
 use Rattle.script_length.proofs.term_length.Tie as tie
-use Rattle.script_length.proofs.term_length.Reads as reads
-use Rattle.script_length.proofs.term_length.Lts as lts
-use Rattle.node_fields.proofs.first.Reads as first-reads
-use Rattle.node_fields.proofs.high.Reads as high-reads
-use Rattle.node_fields.proofs.low.Reads as low-reads
-use Rattle.node_fields.proofs.second.Reads as second-reads
-use Rattle.node_fields.proofs.third.Reads as third-reads
-use Rattle.pool.proofs.words.width_of.Reads as width-of-reads
-use Rattle.script_length.proofs.cut_length.Reads as cut-length-reads
-use Rattle.script_length.proofs.extension_length.Reads as extension-length-reads
-use Rattle.script_length.proofs.three_length.Reads as three-length-reads
-use Rattle.script_length.proofs.two_length.Reads as two-length-reads
 
--- src/lib.rt:102:17
 width-of-requires : tie.Need-width-of-requires
 width-of-requires c κs = search needs
 
--- src/lib.rt:102:16
 add-result : tie.Need-add-result
 add-result c = search needs
 
--- src/lib.rt:102:9
 returns : tie.Need-returns
 returns c =
     let at-if1 = c .before in
@@ -49,19 +35,15 @@ returns c =
     let z = ap length (h .1) ∙ size-constant (widthAt ws n) (wide (wordAt ws n 2) (wordAt ws n 3)) in
     (omega (arith, e, z), omega (arith, e, h .0))
 
--- src/lib.rt:105:32
 first-requires : tie.Need-first-requires
 first-requires c κs = search needs
 
--- src/lib.rt:105:45
 second-requires : tie.Need-second-requires
 second-requires c κs = search needs
 
--- src/lib.rt:105:59
 third-requires : tie.Need-third-requires
 third-requires c κs = search needs
 
--- src/lib.rt:105:9
 three-length-requires : tie.Need-three-length-requires
 three-length-requires c κs =
     let at-second = c .before in
@@ -77,7 +59,6 @@ three-length-requires c κs =
     let t = three-of ws n r k is-k (at-if2 .if2 .taken) in
     (named-as R (t .0) (at-first .first .ensures), named-as R (t .1) (at-second .second .ensures), named-as R (t .2) (c .third .ensures))
 
--- src/lib.rt:105:9
 returns-2 : tie.Need-returns-2
 returns-2 c =
     let at-third = c .before in
@@ -97,19 +78,15 @@ returns-2 c =
       c .three-length .ensures .1,
     )
 
--- src/lib.rt:108:30
 first-requires-2 : tie.Need-first-requires-2
 first-requires-2 c κs = search needs
 
--- src/lib.rt:108:43
 low-requires : tie.Need-low-requires
 low-requires c κs = search needs
 
--- src/lib.rt:108:54
 high-requires : tie.Need-high-requires
 high-requires c κs = search needs
 
--- src/lib.rt:108:9
 cut-length-requires : tie.Need-cut-length-requires
 cut-length-requires c κs =
     let at-low = c .before in
@@ -127,7 +104,6 @@ cut-length-requires c κs =
     let s = range-small ws n r k is-k i in
     (named-as R (t .0) (at-first2 .first2 .ensures), omega (arith, at-low .low .ensures, s .0), omega (arith, c .high .ensures, s .1))
 
--- src/lib.rt:108:9
 returns-3 : tie.Need-returns-3
 returns-3 c =
     let at-high = c .before in
@@ -147,15 +123,12 @@ returns-3 c =
       c .cut-length .ensures .1,
     )
 
--- src/lib.rt:111:33
 first-requires-3 : tie.Need-first-requires-3
 first-requires-3 c κs = search needs
 
--- src/lib.rt:111:46
 second-requires-2 : tie.Need-second-requires-2
 second-requires-2 c κs = search needs
 
--- src/lib.rt:111:9
 two-length-requires : tie.Need-two-length-requires
 two-length-requires c κs =
     let at-first3 = c .before in
@@ -173,7 +146,6 @@ two-length-requires c κs =
     let t = two-of ws n r k is-k (omega (arith, st .pre .2, at-if1 .if1 .left)) (at-if4 .if4 .taken) (at-if2 .if2 .left) (at-if3 .if3 .left) in
     (omega (arith, st .pre .2, at-if1 .if1 .left), kind-below ws n r k is-k, named-as R (t .less-a) (at-first3 .first3 .ensures), named-as R (t .less-b) (c .second2 .ensures))
 
--- src/lib.rt:111:9
 returns-4 : tie.Need-returns-4
 returns-4 c =
     let at-second2 = c .before in
@@ -195,15 +167,12 @@ returns-4 c =
       c .two-length .ensures .1,
     )
 
--- src/lib.rt:113:14
 width-of-requires-2 : tie.Need-width-of-requires-2
 width-of-requires-2 c κs = search needs
 
--- src/lib.rt:113:43
 first-requires-4 : tie.Need-first-requires-4
 first-requires-4 c κs = search needs
 
--- src/lib.rt:113:31
 width-of-requires-3 : tie.Need-width-of-requires-3
 width-of-requires-3 c κs =
     let at-if4 = c .before .before in
@@ -217,7 +186,6 @@ width-of-requires-3 c κs =
     let h = extension-of ws n r k is-k (at-if4 .if4 .left) in
     omega (arith, c .first4 .ensures, h .less-a, r .inside)
 
--- src/lib.rt:113:14
 sub-by : tie.Need-sub-by
 sub-by c =
     let at-first4 = c .before in
@@ -234,11 +202,9 @@ sub-by c =
     let e = c .width-of3 .ensures .0 ∙ ap (widthAt ws) (at-first4 .first4 .ensures) in
     omega (arith, e, at-width-of2 .width-of2 .ensures .0, h .longer)
 
--- src/lib.rt:114:32
 first-requires-5 : tie.Need-first-requires-5
 first-requires-5 c κs = search needs
 
--- src/lib.rt:114:5
 extension-length-requires : tie.Need-extension-length-requires
 extension-length-requires c κs =
     let at-width-of2 = c .before .before .before in
@@ -254,7 +220,6 @@ extension-length-requires c κs =
     let h = extension-of ws n r k is-k l in
     (omega (arith, l), kind-below ws n r k is-k, named-as R (h .less-a) (c .first5 .ensures), omega (arith, at-width-of2 .width-of2 .ensures .0, width-small ws n r k is-k))
 
--- src/lib.rt:97:1
 returns-5 : tie.Need-returns-5
 returns-5 c =
     let at-first5 = c .before in

@@ -1,3 +1,4 @@
+-- `three_length` gives the length of (ite a b c).
 use mathlib.Core.Path.{_≡_, refl, sym, ap, _∙_, subst}
 use native.Mathlib.Omega.{arith}
 use Rattle.script_length.proofs.Sizes.{size-3}
@@ -5,35 +6,25 @@ use Rattle.script_meaning.specs.Script.{nameOf}
 use borrow.Author.Needs.{needs}
 use Rattle.script_length.proofs.three_length.Statement.{statement}
 use Rattle.script_length.proofs.three_length.Tie as tie
-use Rattle.script_length.proofs.three_length.Reads as reads
-use Rattle.script_length.proofs.three_length.Lts as lts
-use Rattle.script_length.proofs.name_length.Reads as name-length-reads
 
--- src/lib.rt:77:5
 name-length-requires : tie.Need-name-length-requires
 name-length-requires c κs = search needs
 
--- src/lib.rt:77:25
 name-length-requires-2 : tie.Need-name-length-requires-2
 name-length-requires-2 c κs = search needs
 
--- src/lib.rt:77:5
 add-result : tie.Need-add-result
 add-result c = search needs
 
--- src/lib.rt:77:45
 name-length-requires-3 : tie.Need-name-length-requires-3
 name-length-requires-3 c κs = search needs
 
--- src/lib.rt:77:5
 add-result-2 : tie.Need-add-result-2
 add-result-2 c = search needs
 
--- src/lib.rt:77:5
 add-result-3 : tie.Need-add-result-3
 add-result-3 c = search needs
 
--- src/lib.rt:73:1
 returns : tie.Need-returns
 returns c =
     let at-name-length2 = c .before in

@@ -1,3 +1,4 @@
+-- `two_length` gives the length of (f a b), f the function of the kind.
 use mathlib.Core.Path.{_≡_, refl, sym, ap, _∙_, subst}
 use native.Mathlib.Omega.{arith}
 use Rattle.script_length.proofs.Sizes.{size-2}
@@ -6,36 +7,25 @@ use Rattle.pool.specs.Node.{kindAt}
 use borrow.Author.Needs.{needs}
 use Rattle.script_length.proofs.two_length.Statement.{statement}
 use Rattle.script_length.proofs.two_length.Tie as tie
-use Rattle.script_length.proofs.two_length.Reads as reads
-use Rattle.script_length.proofs.two_length.Lts as lts
-use Rattle.script_length.proofs.function_length.Reads as function-length-reads
-use Rattle.script_length.proofs.name_length.Reads as name-length-reads
 
--- src/lib.rt:69:5
 function-length-requires : tie.Need-function-length-requires
 function-length-requires c κs = search needs
 
--- src/lib.rt:69:26
 name-length-requires : tie.Need-name-length-requires
 name-length-requires c κs = search needs
 
--- src/lib.rt:69:5
 add-result : tie.Need-add-result
 add-result c = search needs
 
--- src/lib.rt:69:46
 name-length-requires-2 : tie.Need-name-length-requires-2
 name-length-requires-2 c κs = search needs
 
--- src/lib.rt:69:5
 add-result-2 : tie.Need-add-result-2
 add-result-2 c = search needs
 
--- src/lib.rt:69:5
 add-result-3 : tie.Need-add-result-3
 add-result-3 c = search needs
 
--- src/lib.rt:65:1
 returns : tie.Need-returns
 returns c =
     let at-name-length = c .before in

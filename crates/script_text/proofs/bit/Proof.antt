@@ -1,3 +1,4 @@
+-- `bit` gives the character of bit k of two words, 0 for bit 128.
 use mathlib.Core.Path.{_≡_, sym, ap, _∙_}
 use Prim.Native.Nat.{ℕ, _+_, _-_, _/_, _%_, _^_}
 use native.Mathlib.Omega.{arith}
@@ -6,46 +7,35 @@ use Rattle.script_text.proofs.Bits.{low-bit, high-part, top-bit}
 use borrow.Author.Needs.{needs}
 use Rattle.script_text.proofs.bit.Statement.{statement}
 use Rattle.script_text.proofs.bit.Tie as tie
-use Rattle.script_text.proofs.bit.Reads as reads
-use Rattle.script_text.proofs.bit.Lts as lts
 
--- src/lib.rt:20:23
 shr-result : tie.Need-shr-result
 shr-result c = search needs
 
--- src/lib.rt:20:17
 add-result : tie.Need-add-result
 add-result c = search needs
 
--- src/lib.rt:20:16
 cast-result : tie.Need-cast-result
 cast-result c = search needs
 
--- src/lib.rt:20:9
 returns : tie.Need-returns
 returns c =
     let a = c .before .args in ap (λ (x : ℕ). 48 + x) (sym (low-bit (a .low) (a .high) (a .k) (c .if1 .taken)))
 
--- src/lib.rt:23:23
 shr-result-2 : tie.Need-shr-result-2
 shr-result-2 c = search needs
 
--- src/lib.rt:23:17
 add-result-2 : tie.Need-add-result-2
 add-result-2 c = search needs
 
--- src/lib.rt:23:16
 cast-result-2 : tie.Need-cast-result-2
 cast-result-2 c = search needs
 
--- src/lib.rt:23:9
 returns-2 : tie.Need-returns-2
 returns-2 c =
     let at-if1 = c .before in
     let at-args = at-if1 .before in
     let a = at-args .args in ap (λ (x : ℕ). 48 + x % 2) (sym (high-part (a .low) (a .high) (a .k) (at-args .pre .2) (at-if1 .if1 .left)))
 
--- src/lib.rt:14:1
 returns-3 : tie.Need-returns-3
 returns-3 c =
     let a = c .before .before .args in

@@ -1,3 +1,4 @@
+-- `put_binary` writes `binary`: at k the digits of the k low bits are still to be written.
 use mathlib.Core.List.{List}
 use mathlib.Core.Path.{_≡_, refl, sym, ap, _∙_}
 use Prim.Native.Nat.{ℕ, suc, _+_, _-_, _≤_, _<_}
@@ -12,9 +13,6 @@ use Rattle.script_meaning.proofs.Numbers.{binary-length}
 use Rattle.script_text.proofs.Bits.{next-bit}
 use Rattle.script_text.proofs.put_binary.Statement.{statement}
 use Rattle.script_text.proofs.put_binary.Tie as tie
-use Rattle.script_text.proofs.put_binary.Reads as reads
-use Rattle.script_text.proofs.put_binary.Lts as lts
-use Rattle.script_text.proofs.bit.Reads as bit-reads
 
 abbrev Inv-loop : tie.InvT-loop
 Inv-loop low high width buf₀ at k₀ i₀ buf k i =
@@ -23,24 +21,20 @@ Inv-loop low high width buf₀ at k₀ i₀ buf k i =
 abbrev μ-loop : tie.MeasureT-loop
 μ-loop low high width buf₀ at k₀ i₀ buf k i = k
 
--- src/lib.rt:36:5
 loop-holds : tie.Need-loop-holds Inv-loop μ-loop
 loop-holds c =
     (refl, refl, omega arith, refl)
 
--- src/lib.rt:37:9
 sub-k : tie.Need-sub-k Inv-loop μ-loop
 sub-k c =
     omega (arith, c .loop-test .taken)
 
--- src/lib.rt:38:18
 bit-requires : tie.Need-bit-requires Inv-loop μ-loop
 bit-requires c κs =
     let l = c .before in
     let st = l .before .before in
     (omega (arith, l .loop .inv .2, st .pre .0, c .loop-test .taken), omega arith, omega arith)
 
--- src/lib.rt:38:9
 slice-write-buf : tie.Need-slice-write-buf Inv-loop μ-loop
 slice-write-buf c =
     let at-loop-test = c .before in
@@ -49,7 +43,6 @@ slice-write-buf c =
     let st = l .before .before in
     omega (arith, l .loop .inv .1, l .loop .inv .3, at-loop-test .loop-test .taken, st .pre .1 .room, binary-length (st .args .width) (wide (st .args .low) (st .args .high)))
 
--- src/lib.rt:39:9
 add-i : tie.Need-add-i Inv-loop μ-loop
 add-i c =
     let at-loop-test = c .before in
@@ -58,12 +51,10 @@ add-i c =
     let st = l .before .before in
     omega (arith, l .loop .inv .1, l .loop .inv .3, at-loop-test .loop-test .taken, st .pre .1 .room, binary-length (st .args .width) (wide (st .args .low) (st .args .high)))
 
--- src/lib.rt:36:5
 loop-less : tie.Need-loop-less Inv-loop μ-loop
 loop-less c =
     omega (arith, c .before .loop-test .taken)
 
--- src/lib.rt:36:5
 loop-again : tie.Need-loop-again Inv-loop μ-loop
 loop-again c =
     let at-loop-test = c .before in
@@ -77,12 +68,10 @@ loop-again c =
       simp length-set (l .loop .inv .3),
     )
 
--- src/lib.rt:29:1
 same-length : tie.Need-same-length Inv-loop μ-loop
 same-length c =
     c .before .loop .inv .3
 
--- src/lib.rt:29:1
 returns : tie.Need-returns Inv-loop μ-loop
 unfolding binary
 returns c =

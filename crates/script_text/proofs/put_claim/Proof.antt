@@ -1,24 +1,18 @@
+-- `put_claim` writes the last two lines, which name both nodes.
 use Rattle.digits.proofs.Laws.{room-front, room-step, room-as, wrote-then, wrote-as}
 use Rattle.script_text.proofs.Whole.{claim-is}
 use borrow.Author.Needs.{needs}
 use Rattle.script_text.proofs.put_claim.Statement.{statement}
 use Rattle.script_text.proofs.put_claim.Tie as tie
-use Rattle.script_text.proofs.put_claim.Reads as reads
-use Rattle.script_text.proofs.put_claim.Lts as lts
-use Rattle.digits.proofs.put.Reads as put-reads
-use Rattle.script_text.proofs.put_name.Reads as put-name-reads
 
--- src/lib.rt:280:17
 slice-aggregate-put : tie.Need-slice-aggregate-put
 slice-aggregate-put c = search needs
 
--- src/lib.rt:280:9
 put-requires : tie.Need-put-requires
 put-requires c κs =
     let st = c .before .before .before .before in
     (room-front _ (room-as (claim-is (st .args .p .now) (st .args .x .0) (st .args .y .0)) (st .pre .1)))
 
--- src/lib.rt:281:9
 put-name-requires : tie.Need-put-name-requires
 put-name-requires c κs =
     let at-put = c .before .before .before in
@@ -28,11 +22,9 @@ put-name-requires c κs =
           (room-as (claim-is (st .args .p .now) (st .args .x .0) (st .args .y .0)) (st .pre .1)))),
     )
 
--- src/lib.rt:282:17
 slice-aggregate-put-2 : tie.Need-slice-aggregate-put-2
 slice-aggregate-put-2 c = search needs
 
--- src/lib.rt:282:9
 put-requires-2 : tie.Need-put-requires-2
 put-requires-2 c κs =
     let at-put-name = c .before .before .before .before in
@@ -41,7 +33,6 @@ put-requires-2 c κs =
     (room-front _ (room-step (at-put-name .put-name .ensures) (room-step (at-put .put .ensures)
     (room-as (claim-is (st .args .p .now) (st .args .x .0) (st .args .y .0)) (st .pre .1)))))
 
--- src/lib.rt:283:9
 put-name-requires-2 : tie.Need-put-name-requires-2
 put-name-requires-2 c κs =
     let at-put2 = c .before .before .before in
@@ -53,11 +44,9 @@ put-name-requires-2 c κs =
           (room-step (at-put .put .ensures) (room-as (claim-is (st .args .p .now) (st .args .x .0) (st .args .y .0)) (st .pre .1)))))),
     )
 
--- src/lib.rt:284:9
 slice-aggregate-put-3 : tie.Need-slice-aggregate-put-3
 slice-aggregate-put-3 c = search needs
 
--- src/lib.rt:284:5
 put-requires-3 : tie.Need-put-requires-3
 put-requires-3 c κs =
     let at-put-name2 = c .before .before .before .before in
@@ -68,11 +57,9 @@ put-requires-3 c κs =
     (room-step (at-put-name2 .put-name2 .ensures) (room-step (at-put2 .put2 .ensures) (room-step (at-put-name .put-name .ensures)
     (room-step (at-put .put .ensures) (room-as (claim-is (st .args .p .now) (st .args .x .0) (st .args .y .0)) (st .pre .1))))))
 
--- src/lib.rt:275:1
 same-length : tie.Need-same-length
 same-length c = search needs
 
--- src/lib.rt:275:1
 returns : tie.Need-returns
 returns c =
     let at-put3 = c .before .before in

@@ -1,35 +1,27 @@
+-- `put_declaration` writes the line that declares a register.
 use Rattle.digits.proofs.Laws.{room-front, room-step, room-as, wrote-then, wrote-as}
 use Rattle.script_text.proofs.Whole.{declaration-is}
 use borrow.Author.Needs.{needs}
 use Rattle.script_text.proofs.put_declaration.Statement.{statement}
 use Rattle.script_text.proofs.put_declaration.Tie as tie
-use Rattle.script_text.proofs.put_declaration.Reads as reads
-use Rattle.script_text.proofs.put_declaration.Lts as lts
-use Rattle.digits.proofs.put.Reads as put-reads
-use Rattle.script_text.proofs.put_register_name.Reads as put-register-name-reads
 
--- src/lib.rt:241:17
 slice-aggregate-put : tie.Need-slice-aggregate-put
 slice-aggregate-put c = search needs
 
--- src/lib.rt:241:9
 put-requires : tie.Need-put-requires
 put-requires c κs =
     let st = c .before .before .before in
     (room-front _ (room-as (declaration-is (st .args .r)) (st .pre)))
 
--- src/lib.rt:242:9
 put-register-name-requires : tie.Need-put-register-name-requires
 put-register-name-requires c κs =
     let at-put = c .before .before .before in
     let st = at-put .before .before .before .before in
     (room-front _ (room-step (at-put .put .ensures) (room-as (declaration-is (st .args .r)) (st .pre))))
 
--- src/lib.rt:243:9
 slice-aggregate-put-2 : tie.Need-slice-aggregate-put-2
 slice-aggregate-put-2 c = search needs
 
--- src/lib.rt:243:5
 put-requires-2 : tie.Need-put-requires-2
 put-requires-2 c κs =
     let at-put-register-name = c .before .before .before .before in
@@ -38,11 +30,9 @@ put-requires-2 c κs =
     (room-step (at-put-register-name .put-register-name .ensures) (room-step (at-put .put .ensures)
     (room-as (declaration-is (st .args .r)) (st .pre))))
 
--- src/lib.rt:237:1
 same-length : tie.Need-same-length
 same-length c = search needs
 
--- src/lib.rt:237:1
 returns : tie.Need-returns
 returns c =
     let at-put2 = c .before .before in

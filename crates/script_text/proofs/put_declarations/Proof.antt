@@ -1,3 +1,4 @@
+-- `put_declarations` writes the lines of the 32 registers: at r the loop has written those of the first r.
 use mathlib.Core.Path.{_≡_, refl, _∙_, subst}
 use Prim.Native.Nat.{ℕ, _+_, _-_, _≤_, _<_}
 use native.Mathlib.Omega.{arith}
@@ -9,9 +10,6 @@ use Rattle.series.proofs.Texts.{room-next, wrote-next, wrote-first}
 use Rattle.script_text.specs.Lines.{lineAt, declarationLine}
 use Rattle.script_text.proofs.put_declarations.Statement.{statement}
 use Rattle.script_text.proofs.put_declarations.Tie as tie
-use Rattle.script_text.proofs.put_declarations.Reads as reads
-use Rattle.script_text.proofs.put_declarations.Lts as lts
-use Rattle.script_text.proofs.put_declaration.Reads as put-declaration-reads
 
 abbrev Inv-loop : tie.InvT-loop
 Inv-loop buf₀ at r₀ end₀ buf r end = Wrote buf₀ at (upTo r declarationLine) end buf × (r ≤ 32) × (length buf ≡ length buf₀)
@@ -19,12 +17,10 @@ Inv-loop buf₀ at r₀ end₀ buf r end = Wrote buf₀ at (upTo r declarationLi
 abbrev μ-loop : tie.MeasureT-loop
 μ-loop buf₀ at r₀ end₀ buf r end = 32 - r
 
--- src/lib.rt:252:5
 loop-holds : tie.Need-loop-holds Inv-loop μ-loop
 loop-holds c =
     let st = c .before in (wrote-first declarationLine (st .args .buf .now) (st .args .at), omega arith, refl)
 
--- src/lib.rt:253:9
 put-declaration-requires : tie.Need-put-declaration-requires Inv-loop μ-loop
 put-declaration-requires c κs =
     let at-loop-test = c .before in
@@ -34,19 +30,16 @@ put-declaration-requires c κs =
     let t = at-loop-test .loop-test .taken in
     room-next declarationLine 32 (l .r) t (st .pre) (l .inv .0)
 
--- src/lib.rt:254:9
 add-r : tie.Need-add-r Inv-loop μ-loop
 add-r c =
     let at-loop-test = c .before .before .before .before in
     omega (arith, at-loop-test .loop-test .taken)
 
--- src/lib.rt:252:5
 loop-less : tie.Need-loop-less Inv-loop μ-loop
 loop-less c =
     let at-loop-test = c .before .before .before .before in
     omega (arith, at-loop-test .loop-test .taken)
 
--- src/lib.rt:252:5
 loop-again : tie.Need-loop-again Inv-loop μ-loop
 loop-again c =
     let at-put-declaration = c .before .before in
@@ -56,12 +49,10 @@ loop-again c =
     let w = at-put-declaration .put-declaration .ensures in
     (wrote-next declarationLine (l .r) (l .inv .0) w, omega (arith, at-loop-test .loop-test .taken), wrote-length w ∙ l .inv .2)
 
--- src/lib.rt:246:1
 same-length : tie.Need-same-length Inv-loop μ-loop
 same-length c =
     c .before .loop .inv .2
 
--- src/lib.rt:246:1
 returns : tie.Need-returns Inv-loop μ-loop
 returns c =
     let at-loop = c .before in

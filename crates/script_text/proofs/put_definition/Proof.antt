@@ -1,3 +1,4 @@
+-- `put_definition` writes the line of a node, and nothing for a Var.
 use Rattle.digits.proofs.Laws.{room-front, room-step, room-as, wrote-then, wrote-as}
 use mathlib.Core.Path.{_≡_, sym, _∙_}
 use native.Mathlib.Omega.{arith}
@@ -8,38 +9,25 @@ use Rattle.digits.proofs.Laws.{wrote-none}
 use borrow.Author.Needs.{needs}
 use Rattle.script_text.proofs.put_definition.Statement.{statement}
 use Rattle.script_text.proofs.put_definition.Tie as tie
-use Rattle.script_text.proofs.put_definition.Reads as reads
-use Rattle.script_text.proofs.put_definition.Lts as lts
-use Rattle.digits.proofs.put.Reads as put-reads
-use Rattle.pool.proofs.words.kind_of.Reads as kind-of-reads
-use Rattle.pool.proofs.words.width_of.Reads as width-of-reads
-use Rattle.script_text.proofs.put_node_name.Reads as put-node-name-reads
-use Rattle.script_text.proofs.put_sort.Reads as put-sort-reads
-use Rattle.script_text.proofs.put_term.Reads as put-term-reads
 
 from-two : (k : ℕ) → 1 ≤ k → (k ≡ 1 → ⊥) → 2 ≤ k
 from-two k h f = omega arith
 
--- src/lib.rt:221:9
 kind-of-requires : tie.Need-kind-of-requires
 kind-of-requires c κs = search needs
 
--- src/lib.rt:223:9
 returns : tie.Need-returns
 returns c =
     let at-kind-of = c .before in
     let st = at-kind-of .before .before .before in
     wrote-as (no-line (st .args .p .now) (st .args .n .0) (sym (at-kind-of .kind-of .ensures) ∙ c .if1 .taken)) (wrote-none (st .args .buf .now) (st .args .at))
 
--- src/lib.rt:225:9
 width-of-requires : tie.Need-width-of-requires
 width-of-requires c κs = search needs
 
--- src/lib.rt:226:17
 slice-aggregate-put : tie.Need-slice-aggregate-put
 slice-aggregate-put c = search needs
 
--- src/lib.rt:226:9
 put-requires : tie.Need-put-requires
 put-requires c κs =
     let at-width-of = c .before .before in
@@ -50,7 +38,6 @@ put-requires c κs =
     (room-as (line-with (st .args .p .now) (st .args .n .0) (at-kind-of .kind-of .result) (at-width-of .width-of .result) (at-kind-of .kind-of .ensures)
     (at-if1 .if1 .left) (at-width-of .width-of .ensures .0)) (st .pre .1)))
 
--- src/lib.rt:227:9
 put-node-name-requires : tie.Need-put-node-name-requires
 put-node-name-requires c κs =
     let at-put = c .before .before .before in
@@ -62,11 +49,9 @@ put-node-name-requires c κs =
     (room-as (line-with (st .args .p .now) (st .args .n .0) (at-kind-of .kind-of .result) (at-width-of .width-of .result) (at-kind-of .kind-of .ensures)
     (at-if1 .if1 .left) (at-width-of .width-of .ensures .0)) (st .pre .1))))
 
--- src/lib.rt:228:17
 slice-aggregate-put-2 : tie.Need-slice-aggregate-put-2
 slice-aggregate-put-2 c = search needs
 
--- src/lib.rt:228:9
 put-requires-2 : tie.Need-put-requires-2
 put-requires-2 c κs =
     let at-put-node-name = c .before .before .before .before in
@@ -79,7 +64,6 @@ put-requires-2 c κs =
     (room-as (line-with (st .args .p .now) (st .args .n .0) (at-kind-of .kind-of .result) (at-width-of .width-of .result) (at-kind-of .kind-of .ensures)
     (at-if1 .if1 .left) (at-width-of .width-of .ensures .0)) (st .pre .1)))))
 
--- src/lib.rt:229:9
 put-sort-requires : tie.Need-put-sort-requires
 put-sort-requires c κs =
     let at-put2 = c .before .before .before in
@@ -94,11 +78,9 @@ put-sort-requires c κs =
     (room-as (line-with (st .args .p .now) (st .args .n .0) (at-kind-of .kind-of .result) (at-width-of .width-of .result) (at-kind-of .kind-of .ensures)
     (at-if1 .if1 .left) (at-width-of .width-of .ensures .0)) (st .pre .1))))))
 
--- src/lib.rt:230:17
 slice-aggregate-put-3 : tie.Need-slice-aggregate-put-3
 slice-aggregate-put-3 c = search needs
 
--- src/lib.rt:230:9
 put-requires-3 : tie.Need-put-requires-3
 put-requires-3 c κs =
     let at-put-sort = c .before .before .before .before in
@@ -114,7 +96,6 @@ put-requires-3 c κs =
     (room-as (line-with (st .args .p .now) (st .args .n .0) (at-kind-of .kind-of .result) (at-width-of .width-of .result) (at-kind-of .kind-of .ensures)
     (at-if1 .if1 .left) (at-width-of .width-of .ensures .0)) (st .pre .1)))))))
 
--- src/lib.rt:231:9
 put-term-requires : tie.Need-put-term-requires
 put-term-requires c κs =
     let at-put3 = c .before .before .before in
@@ -139,11 +120,9 @@ put-term-requires c κs =
           (at-if1 .if1 .left) (at-width-of .width-of .ensures .0)) (st .pre .1)))))))),
     )
 
--- src/lib.rt:232:9
 slice-aggregate-put-4 : tie.Need-slice-aggregate-put-4
 slice-aggregate-put-4 c = search needs
 
--- src/lib.rt:232:5
 put-requires-4 : tie.Need-put-requires-4
 put-requires-4 c κs =
     let at-put-term = c .before .before .before .before in
@@ -161,11 +140,9 @@ put-requires-4 c κs =
     (room-as (line-with (st .args .p .now) (st .args .n .0) (at-kind-of .kind-of .result) (at-width-of .width-of .result) (at-kind-of .kind-of .ensures)
     (at-if1 .if1 .left) (at-width-of .width-of .ensures .0)) (st .pre .1))))))))
 
--- src/lib.rt:216:1
 same-length : tie.Need-same-length
 same-length c = search needs
 
--- src/lib.rt:216:1
 returns-2 : tie.Need-returns-2
 returns-2 c =
     let at-put4 = c .before .before in

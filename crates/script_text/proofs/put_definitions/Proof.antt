@@ -1,3 +1,4 @@
+-- `put_definitions` writes the lines of the nodes below count: at n the loop has written those of the first n.
 use mathlib.Core.Path.{_≡_, refl, _∙_, subst}
 use Prim.Native.Nat.{ℕ, _+_, _-_, _≤_, _<_}
 use native.Mathlib.Omega.{arith}
@@ -9,9 +10,6 @@ use Rattle.series.proofs.Texts.{room-next, wrote-next, wrote-first}
 use Rattle.script_text.specs.Lines.{lineAt, declarationLine}
 use Rattle.script_text.proofs.put_definitions.Statement.{statement}
 use Rattle.script_text.proofs.put_definitions.Tie as tie
-use Rattle.script_text.proofs.put_definitions.Reads as reads
-use Rattle.script_text.proofs.put_definitions.Lts as lts
-use Rattle.script_text.proofs.put_definition.Reads as put-definition-reads
 
 abbrev Inv-loop : tie.InvT-loop
 Inv-loop p count buf₀ at n₀ end₀ buf n end = Wrote buf₀ at (upTo n (lineAt p)) end buf × (n ≤ count) × (length buf ≡ length buf₀)
@@ -19,12 +17,10 @@ Inv-loop p count buf₀ at n₀ end₀ buf n end = Wrote buf₀ at (upTo n (line
 abbrev μ-loop : tie.MeasureT-loop
 μ-loop p count buf₀ at n₀ end₀ buf n end = count - n
 
--- src/lib.rt:267:5
 loop-holds : tie.Need-loop-holds Inv-loop μ-loop
 loop-holds c =
     let st = c .before .before in (wrote-first (lineAt (st .args .p .now)) (st .args .buf .now) (st .args .at), omega arith, refl)
 
--- src/lib.rt:268:9
 put-definition-requires : tie.Need-put-definition-requires Inv-loop μ-loop
 put-definition-requires c κs =
     let at-loop-test = c .before in
@@ -34,19 +30,16 @@ put-definition-requires c κs =
     let t = at-loop-test .loop-test .taken in
     (st .pre .0 (l .n) t, room-next (lineAt (st .args .p .now)) (st .args .count) (l .n) t (st .pre .1) (l .inv .0))
 
--- src/lib.rt:269:9
 add-n : tie.Need-add-n Inv-loop μ-loop
 add-n c =
     let at-loop-test = c .before .before .before .before in
     omega (arith, at-loop-test .loop-test .taken)
 
--- src/lib.rt:267:5
 loop-less : tie.Need-loop-less Inv-loop μ-loop
 loop-less c =
     let at-loop-test = c .before .before .before .before in
     omega (arith, at-loop-test .loop-test .taken)
 
--- src/lib.rt:267:5
 loop-again : tie.Need-loop-again Inv-loop μ-loop
 loop-again c =
     let at-put-definition = c .before .before in
@@ -57,12 +50,10 @@ loop-again c =
     let w = at-put-definition .put-definition .ensures in
     (wrote-next (lineAt (st .args .p .now)) (l .n) (l .inv .0) w, omega (arith, at-loop-test .loop-test .taken), wrote-length w ∙ l .inv .2)
 
--- src/lib.rt:260:1
 same-length : tie.Need-same-length Inv-loop μ-loop
 same-length c =
     c .before .loop .inv .2
 
--- src/lib.rt:260:1
 returns : tie.Need-returns Inv-loop μ-loop
 returns c =
     let at-loop = c .before in

@@ -1,3 +1,4 @@
+-- `put_extension` writes ((_ f by) a), f the function of the kind.
 use Rattle.digits.proofs.Laws.{room-front, room-step, room-as, wrote-then, wrote-as}
 use Rattle.terms.specs.Display.{bytes}
 use Rattle.pool.specs.Node.{kindAt}
@@ -6,24 +7,15 @@ use Rattle.script_text.proofs.Chunks.{indexed-1}
 use borrow.Author.Needs.{needs}
 use Rattle.script_text.proofs.put_extension.Statement.{statement}
 use Rattle.script_text.proofs.put_extension.Tie as tie
-use Rattle.script_text.proofs.put_extension.Reads as reads
-use Rattle.script_text.proofs.put_extension.Lts as lts
-use Rattle.digits.proofs.put.Reads as put-reads
-use Rattle.decimals.proofs.put_number.Reads as put-number-reads
-use Rattle.script_text.proofs.put_function.Reads as put-function-reads
-use Rattle.script_text.proofs.put_name.Reads as put-name-reads
 
--- src/lib.rt:167:17
 slice-aggregate-put : tie.Need-slice-aggregate-put
 slice-aggregate-put c = search needs
 
--- src/lib.rt:167:9
 put-requires : tie.Need-put-requires
 put-requires c κs =
     let st = c .before .before .before .before in
     (room-front _ (room-as (indexed-1 (functionOf (kindAt (st .args .k))) (nameOf (st .args .p .now) (st .args .a .0)) (st .args .by)) (st .pre .1)))
 
--- src/lib.rt:168:9
 put-function-requires : tie.Need-put-function-requires
 put-function-requires c κs =
     let at-put = c .before .before .before in
@@ -33,11 +25,9 @@ put-function-requires c κs =
           (room-as (indexed-1 (functionOf (kindAt (st .args .k))) (nameOf (st .args .p .now) (st .args .a .0)) (st .args .by)) (st .pre .1)))),
     )
 
--- src/lib.rt:169:17
 slice-aggregate-put-2 : tie.Need-slice-aggregate-put-2
 slice-aggregate-put-2 c = search needs
 
--- src/lib.rt:169:9
 put-requires-2 : tie.Need-put-requires-2
 put-requires-2 c κs =
     let at-put-function = c .before .before .before .before in
@@ -46,7 +36,6 @@ put-requires-2 c κs =
     (room-front _ (room-step (at-put-function .put-function .ensures) (room-step (at-put .put .ensures)
     (room-as (indexed-1 (functionOf (kindAt (st .args .k))) (nameOf (st .args .p .now) (st .args .a .0)) (st .args .by)) (st .pre .1)))))
 
--- src/lib.rt:170:9
 put-number-requires : tie.Need-put-number-requires
 put-number-requires c κs =
     let at-put2 = c .before .before .before in
@@ -56,11 +45,9 @@ put-number-requires c κs =
     (room-front _ (room-step (at-put2 .put2 .ensures) (room-step (at-put-function .put-function .ensures) (room-step (at-put .put .ensures)
     (room-as (indexed-1 (functionOf (kindAt (st .args .k))) (nameOf (st .args .p .now) (st .args .a .0)) (st .args .by)) (st .pre .1))))))
 
--- src/lib.rt:171:17
 slice-aggregate-put-3 : tie.Need-slice-aggregate-put-3
 slice-aggregate-put-3 c = search needs
 
--- src/lib.rt:171:9
 put-requires-3 : tie.Need-put-requires-3
 put-requires-3 c κs =
     let at-put-number = c .before .before .before .before in
@@ -72,7 +59,6 @@ put-requires-3 c κs =
     (room-step (at-put-function .put-function .ensures) (room-step (at-put .put .ensures)
     (room-as (indexed-1 (functionOf (kindAt (st .args .k))) (nameOf (st .args .p .now) (st .args .a .0)) (st .args .by)) (st .pre .1)))))))
 
--- src/lib.rt:172:9
 put-name-requires : tie.Need-put-name-requires
 put-name-requires c κs =
     let at-put3 = c .before .before .before in
@@ -87,11 +73,9 @@ put-name-requires c κs =
           (room-as (indexed-1 (functionOf (kindAt (st .args .k))) (nameOf (st .args .p .now) (st .args .a .0)) (st .args .by)) (st .pre .1)))))))),
     )
 
--- src/lib.rt:173:9
 slice-aggregate-put-4 : tie.Need-slice-aggregate-put-4
 slice-aggregate-put-4 c = search needs
 
--- src/lib.rt:173:5
 put-requires-4 : tie.Need-put-requires-4
 put-requires-4 c κs =
     let at-put-name = c .before .before .before .before in
@@ -105,11 +89,9 @@ put-requires-4 c κs =
     (room-step (at-put2 .put2 .ensures) (room-step (at-put-function .put-function .ensures) (room-step (at-put .put .ensures)
     (room-as (indexed-1 (functionOf (kindAt (st .args .k))) (nameOf (st .args .p .now) (st .args .a .0)) (st .args .by)) (st .pre .1))))))))
 
--- src/lib.rt:162:1
 same-length : tie.Need-same-length
 same-length c = search needs
 
--- src/lib.rt:162:1
 returns : tie.Need-returns
 returns c =
     let at-put4 = c .before .before in

@@ -1,3 +1,4 @@
+-- `put_name` writes a node's name: its register's for a Var, else its own.
 use Rattle.digits.proofs.Laws.{room-front, room-step, room-as, wrote-then, wrote-as}
 use mathlib.Core.Path.{_≡_, sym, ap, _∙_}
 use Rattle.script_meaning.specs.Script.{registerName}
@@ -5,22 +6,13 @@ use Rattle.script_text.proofs.Spelling.{register-named, node-named}
 use borrow.Author.Needs.{needs}
 use Rattle.script_text.proofs.put_name.Statement.{statement}
 use Rattle.script_text.proofs.put_name.Tie as tie
-use Rattle.script_text.proofs.put_name.Reads as reads
-use Rattle.script_text.proofs.put_name.Lts as lts
-use Rattle.node_fields.proofs.low.Reads as low-reads
-use Rattle.pool.proofs.words.kind_of.Reads as kind-of-reads
-use Rattle.script_text.proofs.put_node_name.Reads as put-node-name-reads
-use Rattle.script_text.proofs.put_register_name.Reads as put-register-name-reads
 
--- src/lib.rt:83:8
 kind-of-requires : tie.Need-kind-of-requires
 kind-of-requires c κs = search needs
 
--- src/lib.rt:84:34
 low-requires : tie.Need-low-requires
 low-requires c κs = search needs
 
--- src/lib.rt:84:9
 put-register-name-requires : tie.Need-put-register-name-requires
 put-register-name-requires c κs =
     let at-low = c .before in
@@ -29,11 +21,9 @@ put-register-name-requires c κs =
     let st = at-kind-of .before .before .before in
     (room-as (register-named (st .args .p .now) (st .args .n .0) (sym (at-kind-of .kind-of .ensures) ∙ at-if1 .if1 .taken) ∙ ap registerName (sym (at-low .low .ensures))) (st .pre .1))
 
--- src/lib.rt:84:9
 same-length : tie.Need-same-length
 same-length c = search needs
 
--- src/lib.rt:84:9
 returns : tie.Need-returns
 returns c =
     let at-put-register-name = c .before .before in
@@ -44,7 +34,6 @@ returns c =
     wrote-as (register-named (st .args .p .now) (st .args .n .0) (sym (at-kind-of .kind-of .ensures) ∙ at-if1 .if1 .taken) ∙ ap registerName (sym
     (at-low .low .ensures))) (at-put-register-name .put-register-name .ensures)
 
--- src/lib.rt:86:5
 put-node-name-requires : tie.Need-put-node-name-requires
 put-node-name-requires c κs =
     let at-if1 = c .before in
@@ -52,11 +41,9 @@ put-node-name-requires c κs =
     let st = at-kind-of .before .before .before in
     (room-as (node-named (st .args .p .now) (st .args .n .0) (λ e. at-if1 .if1 .left (at-kind-of .kind-of .ensures ∙ e))) (st .pre .1))
 
--- src/lib.rt:78:1
 same-length-2 : tie.Need-same-length-2
 same-length-2 c = search needs
 
--- src/lib.rt:78:1
 returns-2 : tie.Need-returns-2
 returns-2 c =
     let at-put-node-name = c .before .before in

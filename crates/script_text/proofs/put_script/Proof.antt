@@ -1,26 +1,18 @@
+-- `put_script` writes the whole script, in the four parts of `script-lines`.
 use Rattle.digits.proofs.Laws.{room-front, room-step, room-as, wrote-then, wrote-as}
 use Rattle.script_text.proofs.Whole.{script-lines}
 use borrow.Author.Needs.{needs}
 use Rattle.script_text.proofs.put_script.Statement.{statement}
 use Rattle.script_text.proofs.put_script.Tie as tie
-use Rattle.script_text.proofs.put_script.Reads as reads
-use Rattle.script_text.proofs.put_script.Lts as lts
-use Rattle.digits.proofs.put.Reads as put-reads
-use Rattle.script_text.proofs.put_claim.Reads as put-claim-reads
-use Rattle.script_text.proofs.put_declarations.Reads as put-declarations-reads
-use Rattle.script_text.proofs.put_definitions.Reads as put-definitions-reads
 
--- src/lib.rt:293:17
 slice-aggregate-put : tie.Need-slice-aggregate-put
 slice-aggregate-put c = search needs
 
--- src/lib.rt:293:9
 put-requires : tie.Need-put-requires
 put-requires c κs =
     let st = c .before .before .before .before in
     (room-front _ (room-as (script-lines (st .args .p .now) (st .args .count) (st .args .x .0) (st .args .y .0)) (st .pre .1)))
 
--- src/lib.rt:294:9
 put-declarations-requires : tie.Need-put-declarations-requires
 put-declarations-requires c κs =
     let at-put = c .before .before .before in
@@ -28,7 +20,6 @@ put-declarations-requires c κs =
     (room-front _ (room-step (at-put .put .ensures)
     (room-as (script-lines (st .args .p .now) (st .args .count) (st .args .x .0) (st .args .y .0)) (st .pre .1))))
 
--- src/lib.rt:295:9
 put-definitions-requires : tie.Need-put-definitions-requires
 put-definitions-requires c κs =
     let at-put-declarations = c .before .before .before in
@@ -39,7 +30,6 @@ put-definitions-requires c κs =
           (room-as (script-lines (st .args .p .now) (st .args .count) (st .args .x .0) (st .args .y .0)) (st .pre .1))))),
     )
 
--- src/lib.rt:296:5
 put-claim-requires : tie.Need-put-claim-requires
 put-claim-requires c κs =
     let at-put-definitions = c .before .before .before in
@@ -52,11 +42,9 @@ put-claim-requires c κs =
           (room-as (script-lines (st .args .p .now) (st .args .count) (st .args .x .0) (st .args .y .0)) (st .pre .1))))),
     )
 
--- src/lib.rt:288:1
 same-length : tie.Need-same-length
 same-length c = search needs
 
--- src/lib.rt:288:1
 returns : tie.Need-returns
 returns c =
     let at-put-claim = c .before .before in

@@ -1,47 +1,37 @@
+-- `put_sort` writes Bool for width 0, else (_ BitVec w).
 use Rattle.digits.proofs.Laws.{room-front, room-step, room-as, wrote-then, wrote-as}
 use Rattle.script_text.proofs.Chunks.{short-sort, long-sort}
 use borrow.Author.Needs.{needs}
 use Rattle.script_text.proofs.put_sort.Statement.{statement}
 use Rattle.script_text.proofs.put_sort.Tie as tie
-use Rattle.script_text.proofs.put_sort.Reads as reads
-use Rattle.script_text.proofs.put_sort.Lts as lts
-use Rattle.digits.proofs.put.Reads as put-reads
-use Rattle.decimals.proofs.put_number.Reads as put-number-reads
 
--- src/lib.rt:59:20
 slice-aggregate-put : tie.Need-slice-aggregate-put
 slice-aggregate-put c = search needs
 
--- src/lib.rt:59:9
 put-requires : tie.Need-put-requires
 put-requires c κs =
     let at-if1 = c .before .before in
     let st = at-if1 .before .before in
     (room-as (short-sort _ (at-if1 .if1 .taken)) (st .pre))
 
--- src/lib.rt:59:9
 same-length : tie.Need-same-length
 same-length c = search needs
 
--- src/lib.rt:59:9
 returns : tie.Need-returns
 returns c =
     let at-put = c .before .before in
     let at-if1 = at-put .before .before .before in
     wrote-as (short-sort _ (at-if1 .if1 .taken)) (at-put .put .ensures)
 
--- src/lib.rt:61:17
 slice-aggregate-put-2 : tie.Need-slice-aggregate-put-2
 slice-aggregate-put-2 c = search needs
 
--- src/lib.rt:61:9
 put-requires-2 : tie.Need-put-requires-2
 put-requires-2 c κs =
     let at-if1 = c .before .before in
     let st = at-if1 .before .before in
     (room-front _ (room-as (long-sort _ (at-if1 .if1 .left)) (st .pre)))
 
--- src/lib.rt:62:9
 put-number-requires : tie.Need-put-number-requires
 put-number-requires c κs =
     let at-put2 = c .before .before .before in
@@ -49,11 +39,9 @@ put-number-requires c κs =
     let st = at-if1 .before .before in
     (room-front _ (room-step (at-put2 .put2 .ensures) (room-as (long-sort _ (at-if1 .if1 .left)) (st .pre))))
 
--- src/lib.rt:63:9
 slice-aggregate-put-3 : tie.Need-slice-aggregate-put-3
 slice-aggregate-put-3 c = search needs
 
--- src/lib.rt:63:5
 put-requires-3 : tie.Need-put-requires-3
 put-requires-3 c κs =
     let at-put-number = c .before .before .before .before in
@@ -62,11 +50,9 @@ put-requires-3 c κs =
     let st = at-if1 .before .before in
     (room-step (at-put-number .put-number .ensures) (room-step (at-put2 .put2 .ensures) (room-as (long-sort _ (at-if1 .if1 .left)) (st .pre))))
 
--- src/lib.rt:54:1
 same-length-2 : tie.Need-same-length-2
 same-length-2 c = search needs
 
--- src/lib.rt:54:1
 returns-2 : tie.Need-returns-2
 returns-2 c =
     let at-put3 = c .before .before in

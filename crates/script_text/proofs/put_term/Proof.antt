@@ -1,3 +1,4 @@
+-- `put_term` writes the term of a node, by its kind.
 use Rattle.digits.proofs.Laws.{room-front, room-step, room-as, wrote-then, wrote-as}
 use mathlib.Core.List.{List, _++_}
 use mathlib.Core.Path.{_≡_, sym, ap, _∙_}
@@ -11,36 +12,19 @@ use Rattle.script_text.proofs.Nodes.{constant, three-of, cut-of, two-of
 use borrow.Author.Needs.{needs}
 use Rattle.script_text.proofs.put_term.Statement.{statement}
 use Rattle.script_text.proofs.put_term.Tie as tie
-use Rattle.script_text.proofs.put_term.Reads as reads
-use Rattle.script_text.proofs.put_term.Lts as lts
-use Rattle.node_fields.proofs.first.Reads as first-reads
-use Rattle.node_fields.proofs.high.Reads as high-reads
-use Rattle.node_fields.proofs.low.Reads as low-reads
-use Rattle.node_fields.proofs.second.Reads as second-reads
-use Rattle.node_fields.proofs.third.Reads as third-reads
-use Rattle.pool.proofs.words.width_of.Reads as width-of-reads
-use Rattle.script_text.proofs.put_constant.Reads as put-constant-reads
-use Rattle.script_text.proofs.put_cut.Reads as put-cut-reads
-use Rattle.script_text.proofs.put_extension.Reads as put-extension-reads
-use Rattle.script_text.proofs.put_three.Reads as put-three-reads
-use Rattle.script_text.proofs.put_two.Reads as put-two-reads
 
 from-three : (k : ℕ) → 2 ≤ k → (k ≡ 2 → ⊥) → 3 ≤ k
 from-three k h f = omega arith
 
--- src/lib.rt:199:29
 low-requires : tie.Need-low-requires
 low-requires c κs = search needs
 
--- src/lib.rt:199:40
 high-requires : tie.Need-high-requires
 high-requires c κs = search needs
 
--- src/lib.rt:199:52
 width-of-requires : tie.Need-width-of-requires
 width-of-requires c κs = search needs
 
--- src/lib.rt:199:9
 put-constant-requires : tie.Need-put-constant-requires
 put-constant-requires c κs =
     let at-width-of = c .before in
@@ -59,11 +43,9 @@ put-constant-requires c κs =
           (at-low .low .ensures) j) (sym (at-high .high .ensures) j)))) (st .pre .1),
     )
 
--- src/lib.rt:199:9
 same-length : tie.Need-same-length
 same-length c = search needs
 
--- src/lib.rt:199:9
 returns : tie.Need-returns
 returns c =
     let at-put-constant = c .before .before in
@@ -81,19 +63,15 @@ returns c =
     wrote-as (h .1 ∙ (λ j. bytes "#b" ++ binary (sym (at-width-of .width-of .ensures .0) j) (wide (sym (at-low .low .ensures) j) (sym (at-high .high .ensures) j))))
     (at-put-constant .put-constant .ensures)
 
--- src/lib.rt:202:29
 first-requires : tie.Need-first-requires
 first-requires c κs = search needs
 
--- src/lib.rt:202:42
 second-requires : tie.Need-second-requires
 second-requires c κs = search needs
 
--- src/lib.rt:202:56
 third-requires : tie.Need-third-requires
 third-requires c κs = search needs
 
--- src/lib.rt:202:9
 put-three-requires : tie.Need-put-three-requires
 put-three-requires c κs =
     let at-third = c .before in
@@ -117,11 +95,9 @@ put-three-requires c κs =
           (sym (at-second .second .ensures) j)) (nameOf ws (sym (at-third .third .ensures) j))))) (st .pre .1),
     )
 
--- src/lib.rt:202:9
 same-length-2 : tie.Need-same-length-2
 same-length-2 c = search needs
 
--- src/lib.rt:202:9
 returns-2 : tie.Need-returns-2
 returns-2 c =
     let at-put-three = c .before .before in
@@ -139,19 +115,15 @@ returns-2 c =
     wrote-as (ap show (h .3 ∙ (λ j. apply3 (bytes "ite") (nameOf ws (sym (at-first .first .ensures) j)) (nameOf ws (sym (at-second .second .ensures) j)) (nameOf ws (sym
     (at-third .third .ensures) j))))) (at-put-three .put-three .ensures)
 
--- src/lib.rt:205:27
 first-requires-2 : tie.Need-first-requires-2
 first-requires-2 c κs = search needs
 
--- src/lib.rt:205:40
 low-requires-2 : tie.Need-low-requires-2
 low-requires-2 c κs = search needs
 
--- src/lib.rt:205:51
 high-requires-2 : tie.Need-high-requires-2
 high-requires-2 c κs = search needs
 
--- src/lib.rt:205:9
 put-cut-requires : tie.Need-put-cut-requires
 put-cut-requires c κs =
     let at-high2 = c .before in
@@ -170,11 +142,9 @@ put-cut-requires c κs =
           (at-high2 .high2 .ensures) j)) (nameOf ws (sym (at-first2 .first2 .ensures) j))))) (st .pre .1),
     )
 
--- src/lib.rt:205:9
 same-length-3 : tie.Need-same-length-3
 same-length-3 c = search needs
 
--- src/lib.rt:205:9
 returns-3 : tie.Need-returns-3
 returns-3 c =
     let at-put-cut = c .before .before in
@@ -192,15 +162,12 @@ returns-3 c =
     wrote-as (ap show (h .1 ∙ (λ j. apply1 (index2 (bytes "extract") (sym (at-low2 .low2 .ensures) j) (sym (at-high2 .high2 .ensures) j)) (nameOf ws (sym
     (at-first2 .first2 .ensures) j))))) (at-put-cut .put-cut .ensures)
 
--- src/lib.rt:208:30
 first-requires-3 : tie.Need-first-requires-3
 first-requires-3 c κs = search needs
 
--- src/lib.rt:208:43
 second-requires-2 : tie.Need-second-requires-2
 second-requires-2 c κs = search needs
 
--- src/lib.rt:208:9
 put-two-requires : tie.Need-put-two-requires
 put-two-requires c κs =
     let at-second2 = c .before in
@@ -227,11 +194,9 @@ put-two-requires c κs =
           (at-first3 .first3 .ensures) j)) (nameOf ws (sym (at-second2 .second2 .ensures) j))))) (st .pre .1),
     )
 
--- src/lib.rt:208:9
 same-length-4 : tie.Need-same-length-4
 same-length-4 c = search needs
 
--- src/lib.rt:208:9
 returns-4 : tie.Need-returns-4
 returns-4 c =
     let at-put-two = c .before .before in
@@ -251,15 +216,12 @@ returns-4 c =
     wrote-as (ap show (h .term-is ∙ (λ j. apply2 (functionOf (kindAt k)) (nameOf ws (sym (at-first3 .first3 .ensures) j)) (nameOf ws (sym
     (at-second2 .second2 .ensures) j))))) (at-put-two .put-two .ensures)
 
--- src/lib.rt:210:14
 width-of-requires-2 : tie.Need-width-of-requires-2
 width-of-requires-2 c κs = search needs
 
--- src/lib.rt:210:43
 first-requires-4 : tie.Need-first-requires-4
 first-requires-4 c κs = search needs
 
--- src/lib.rt:210:31
 width-of-requires-3 : tie.Need-width-of-requires-3
 width-of-requires-3 c κs =
     let at-if4 = c .before .before in
@@ -272,7 +234,6 @@ width-of-requires-3 c κs =
     let h = extension-of ws n r k is-k (at-if4 .if4 .left) in
     omega (arith, c .first4 .ensures, h .less-a, r .inside)
 
--- src/lib.rt:210:14
 sub-by : tie.Need-sub-by
 sub-by c =
     let at-first4 = c .before in
@@ -288,11 +249,9 @@ sub-by c =
     let e = c .width-of3 .ensures .0 ∙ ap (widthAt ws) (at-first4 .first4 .ensures) in
     omega (arith, e, at-width-of2 .width-of2 .ensures .0, h .longer)
 
--- src/lib.rt:211:29
 first-requires-5 : tie.Need-first-requires-5
 first-requires-5 c κs = search needs
 
--- src/lib.rt:211:5
 put-extension-requires : tie.Need-put-extension-requires
 put-extension-requires c κs =
     let at-first5 = c .before in
@@ -314,11 +273,9 @@ put-extension-requires c κs =
           (at-first4 .first4 .ensures)) j)) (nameOf ws (sym (at-first5 .first5 .ensures) j))))) (st .pre .1),
     )
 
--- src/lib.rt:193:1
 same-length-5 : tie.Need-same-length-5
 same-length-5 c = search needs
 
--- src/lib.rt:193:1
 returns-5 : tie.Need-returns-5
 returns-5 c =
     let at-put-extension = c .before .before in

@@ -1,3 +1,4 @@
+-- `put_three` writes (ite a b c).
 use Rattle.digits.proofs.Laws.{room-front, room-step, room-as, wrote-then, wrote-as}
 use Rattle.terms.specs.Display.{bytes}
 use Rattle.pool.specs.Node.{kindAt}
@@ -6,23 +7,16 @@ use Rattle.script_text.proofs.Chunks.{applied-3}
 use borrow.Author.Needs.{needs}
 use Rattle.script_text.proofs.put_three.Statement.{statement}
 use Rattle.script_text.proofs.put_three.Tie as tie
-use Rattle.script_text.proofs.put_three.Reads as reads
-use Rattle.script_text.proofs.put_three.Lts as lts
-use Rattle.digits.proofs.put.Reads as put-reads
-use Rattle.script_text.proofs.put_name.Reads as put-name-reads
 
--- src/lib.rt:137:17
 slice-aggregate-put : tie.Need-slice-aggregate-put
 slice-aggregate-put c = search needs
 
--- src/lib.rt:137:9
 put-requires : tie.Need-put-requires
 put-requires c κs =
     let st = c .before .before .before .before in
     (room-front _
     (room-as (applied-3 (bytes "ite") (nameOf (st .args .p .now) (st .args .a .0)) (nameOf (st .args .p .now) (st .args .b .0)) (nameOf (st .args .p .now) (st .args .c .0))) (st .pre .1)))
 
--- src/lib.rt:138:9
 put-name-requires : tie.Need-put-name-requires
 put-name-requires c κs =
     let at-put = c .before .before .before in
@@ -32,11 +26,9 @@ put-name-requires c κs =
           (room-as (applied-3 (bytes "ite") (nameOf (st .args .p .now) (st .args .a .0)) (nameOf (st .args .p .now) (st .args .b .0)) (nameOf (st .args .p .now) (st .args .c .0))) (st .pre .1)))),
     )
 
--- src/lib.rt:139:17
 slice-aggregate-put-2 : tie.Need-slice-aggregate-put-2
 slice-aggregate-put-2 c = search needs
 
--- src/lib.rt:139:9
 put-requires-2 : tie.Need-put-requires-2
 put-requires-2 c κs =
     let at-put-name = c .before .before .before .before in
@@ -45,7 +37,6 @@ put-requires-2 c κs =
     (room-front _ (room-step (at-put-name .put-name .ensures) (room-step (at-put .put .ensures)
     (room-as (applied-3 (bytes "ite") (nameOf (st .args .p .now) (st .args .a .0)) (nameOf (st .args .p .now) (st .args .b .0)) (nameOf (st .args .p .now) (st .args .c .0))) (st .pre .1)))))
 
--- src/lib.rt:140:9
 put-name-requires-2 : tie.Need-put-name-requires-2
 put-name-requires-2 c κs =
     let at-put2 = c .before .before .before in
@@ -59,11 +50,9 @@ put-name-requires-2 c κs =
           (st .args .c .0))) (st .pre .1)))))),
     )
 
--- src/lib.rt:141:17
 slice-aggregate-put-3 : tie.Need-slice-aggregate-put-3
 slice-aggregate-put-3 c = search needs
 
--- src/lib.rt:141:9
 put-requires-3 : tie.Need-put-requires-3
 put-requires-3 c κs =
     let at-put-name2 = c .before .before .before .before in
@@ -76,7 +65,6 @@ put-requires-3 c κs =
     (room-as (applied-3 (bytes "ite") (nameOf (st .args .p .now) (st .args .a .0)) (nameOf (st .args .p .now) (st .args .b .0)) (nameOf (st .args .p .now)
     (st .args .c .0))) (st .pre .1)))))))
 
--- src/lib.rt:142:9
 put-name-requires-3 : tie.Need-put-name-requires-3
 put-name-requires-3 c κs =
     let at-put3 = c .before .before .before in
@@ -92,11 +80,9 @@ put-name-requires-3 c κs =
           (st .args .c .0))) (st .pre .1)))))))),
     )
 
--- src/lib.rt:143:9
 slice-aggregate-put-4 : tie.Need-slice-aggregate-put-4
 slice-aggregate-put-4 c = search needs
 
--- src/lib.rt:143:5
 put-requires-4 : tie.Need-put-requires-4
 put-requires-4 c κs =
     let at-put-name3 = c .before .before .before .before in
@@ -111,11 +97,9 @@ put-requires-4 c κs =
     (room-as (applied-3 (bytes "ite") (nameOf (st .args .p .now) (st .args .a .0)) (nameOf (st .args .p .now) (st .args .b .0)) (nameOf (st .args .p .now)
     (st .args .c .0))) (st .pre .1))))))))
 
--- src/lib.rt:132:1
 same-length : tie.Need-same-length
 same-length c = search needs
 
--- src/lib.rt:132:1
 returns : tie.Need-returns
 returns c =
     let at-put4 = c .before .before in

@@ -1,3 +1,4 @@
+-- `put_two` writes (f a b), f the function of the kind.
 use Rattle.digits.proofs.Laws.{room-front, room-step, room-as, wrote-then, wrote-as}
 use Rattle.pool.specs.Node.{kindAt}
 use Rattle.script_meaning.specs.Script.{functionOf, nameOf}
@@ -5,24 +6,16 @@ use Rattle.script_text.proofs.Chunks.{applied-2}
 use borrow.Author.Needs.{needs}
 use Rattle.script_text.proofs.put_two.Statement.{statement}
 use Rattle.script_text.proofs.put_two.Tie as tie
-use Rattle.script_text.proofs.put_two.Reads as reads
-use Rattle.script_text.proofs.put_two.Lts as lts
-use Rattle.digits.proofs.put.Reads as put-reads
-use Rattle.script_text.proofs.put_function.Reads as put-function-reads
-use Rattle.script_text.proofs.put_name.Reads as put-name-reads
 
--- src/lib.rt:122:17
 slice-aggregate-put : tie.Need-slice-aggregate-put
 slice-aggregate-put c = search needs
 
--- src/lib.rt:122:9
 put-requires : tie.Need-put-requires
 put-requires c κs =
     let st = c .before .before .before .before in
     (room-front _
     (room-as (applied-2 (functionOf (kindAt (st .args .k))) (nameOf (st .args .p .now) (st .args .a .0)) (nameOf (st .args .p .now) (st .args .b .0))) (st .pre .1)))
 
--- src/lib.rt:123:9
 put-function-requires : tie.Need-put-function-requires
 put-function-requires c κs =
     let at-put = c .before .before .before in
@@ -32,11 +25,9 @@ put-function-requires c κs =
           (room-as (applied-2 (functionOf (kindAt (st .args .k))) (nameOf (st .args .p .now) (st .args .a .0)) (nameOf (st .args .p .now) (st .args .b .0))) (st .pre .1)))),
     )
 
--- src/lib.rt:124:17
 slice-aggregate-put-2 : tie.Need-slice-aggregate-put-2
 slice-aggregate-put-2 c = search needs
 
--- src/lib.rt:124:9
 put-requires-2 : tie.Need-put-requires-2
 put-requires-2 c κs =
     let at-put-function = c .before .before .before .before in
@@ -45,7 +36,6 @@ put-requires-2 c κs =
     (room-front _ (room-step (at-put-function .put-function .ensures) (room-step (at-put .put .ensures)
     (room-as (applied-2 (functionOf (kindAt (st .args .k))) (nameOf (st .args .p .now) (st .args .a .0)) (nameOf (st .args .p .now) (st .args .b .0))) (st .pre .1)))))
 
--- src/lib.rt:125:9
 put-name-requires : tie.Need-put-name-requires
 put-name-requires c κs =
     let at-put2 = c .before .before .before in
@@ -58,11 +48,9 @@ put-name-requires c κs =
           (room-as (applied-2 (functionOf (kindAt (st .args .k))) (nameOf (st .args .p .now) (st .args .a .0)) (nameOf (st .args .p .now) (st .args .b .0))) (st .pre .1)))))),
     )
 
--- src/lib.rt:126:17
 slice-aggregate-put-3 : tie.Need-slice-aggregate-put-3
 slice-aggregate-put-3 c = search needs
 
--- src/lib.rt:126:9
 put-requires-3 : tie.Need-put-requires-3
 put-requires-3 c κs =
     let at-put-name = c .before .before .before .before in
@@ -74,7 +62,6 @@ put-requires-3 c κs =
     (room-step (at-put-function .put-function .ensures) (room-step (at-put .put .ensures)
     (room-as (applied-2 (functionOf (kindAt (st .args .k))) (nameOf (st .args .p .now) (st .args .a .0)) (nameOf (st .args .p .now) (st .args .b .0))) (st .pre .1)))))))
 
--- src/lib.rt:127:9
 put-name-requires-2 : tie.Need-put-name-requires-2
 put-name-requires-2 c κs =
     let at-put3 = c .before .before .before in
@@ -89,11 +76,9 @@ put-name-requires-2 c κs =
           (room-as (applied-2 (functionOf (kindAt (st .args .k))) (nameOf (st .args .p .now) (st .args .a .0)) (nameOf (st .args .p .now) (st .args .b .0))) (st .pre .1)))))))),
     )
 
--- src/lib.rt:128:9
 slice-aggregate-put-4 : tie.Need-slice-aggregate-put-4
 slice-aggregate-put-4 c = search needs
 
--- src/lib.rt:128:5
 put-requires-4 : tie.Need-put-requires-4
 put-requires-4 c κs =
     let at-put-name2 = c .before .before .before .before in
@@ -107,11 +92,9 @@ put-requires-4 c κs =
     (room-step (at-put2 .put2 .ensures) (room-step (at-put-function .put-function .ensures) (room-step (at-put .put .ensures)
     (room-as (applied-2 (functionOf (kindAt (st .args .k))) (nameOf (st .args .p .now) (st .args .a .0)) (nameOf (st .args .p .now) (st .args .b .0))) (st .pre .1))))))))
 
--- src/lib.rt:117:1
 same-length : tie.Need-same-length
 same-length c = search needs
 
--- src/lib.rt:117:1
 returns : tie.Need-returns
 returns c =
     let at-put4 = c .before .before in

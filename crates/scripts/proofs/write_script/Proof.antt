@@ -1,3 +1,4 @@
+-- `write_script` meets its contract: 1, 5 and 9 write nothing; else the script stands at the front, and the bytes after it are as they were.
 use mathlib.Core.Path.{_≡_, refl, sym, ap, _∙_, subst}
 use Prim.Native.Nat.{_≤_}
 use native.Mathlib.Omega.{arith}
@@ -8,17 +9,10 @@ use Rattle.script_length.proofs.Answers.{good, few, all-named, below}
 use borrow.Author.Needs.{needs}
 use Rattle.scripts.proofs.write_script.Statement.{statement}
 use Rattle.scripts.proofs.write_script.Tie as tie
-use Rattle.scripts.proofs.write_script.Reads as reads
-use Rattle.scripts.proofs.write_script.Lts as lts
-use Rattle.script_length.proofs.measure.Reads as measure-reads
-use Rattle.script_length.proofs.script_number.Reads as script-number-reads
-use Rattle.script_text.proofs.put_script.Reads as put-script-reads
 
--- src/lib.rt:15:9
 script-number-requires : tie.Need-script-number-requires
 script-number-requires c κs = search needs
 
--- src/lib.rt:17:9
 returns : tie.Need-returns
 returns c =
     let at-script-number = c .before in
@@ -26,7 +20,6 @@ returns c =
     refused (st .args .pool .now) (st .args .count) (st .args .a) (st .args .b) (st .args .buffer .now) (first-number (st .args .pool .now) (st .args .count)
     (st .args .a) (st .args .b) _ (at-script-number .script-number .ensures) (c .if1 .taken)) (c .if1 .taken)
 
--- src/lib.rt:22:9
 measure-requires : tie.Need-measure-requires
 measure-requires c κs =
     let at-script-number = c .before in
@@ -37,7 +30,6 @@ measure-requires c κs =
     let n = st .args .count in
     (all-named ws n (g .pool), few ws n (g .pool), below ws n (st .args .a) (g .first), below ws n (st .args .b) (g .second))
 
--- src/lib.rt:24:9
 returns-2 : tie.Need-returns-2
 returns-2 c =
     let at-measure = c .before in
@@ -49,7 +41,6 @@ returns-2 c =
     refused (st .args .pool .now) (st .args .count) (st .args .a) (st .args .b) (st .args .buffer .now) (sym (short (st .args .pool .now) (st .args .count) (st .args .a) (st .args .b) _ g
     (omega (arith, at-measure .measure .ensures, c .if2 .taken)))) (omega arith)
 
--- src/lib.rt:29:5
 put-script-requires : tie.Need-put-script-requires
 put-script-requires c κs =
     let at-if2 = c .before in
@@ -66,11 +57,9 @@ put-script-requires c κs =
     let y = named (st .args .b) (below ws n (st .args .b) (g .second)) in
     (((λ m l. named m l .ready), x .ready .inside, y .ready .inside), record { room = omega (arith, at-measure .measure .ensures, at-if2 .if2 .left) })
 
--- src/lib.rt:12:1
 same-length : tie.Need-same-length
 same-length c = search needs
 
--- src/lib.rt:12:1
 returns-3 : tie.Need-returns-3
 returns-3 c =
     let at-put-script = c .before .before in

@@ -1,3 +1,4 @@
+-- `add` gives `bvadd 192`: three sums of words with their carries are one sum modulo 2^192.
 use borrow.Author.Needs.{needs}
 use native.Mathlib.Omega.{arith}
 use Rattle.wide.proofs.Words.{sum-is}

@@ -1,3 +1,4 @@
+-- `and` gives `bitAnd` of the two numbers, word by word.
 use native.Mathlib.Omega.{arith}
 use Rattle.wide.proofs.Digits.{and-is}
 use Rattle.wide.proofs.and.Statement.{statement}

@@ -1,3 +1,4 @@
+-- `equal` is the test that the numbers are equal: all three words are.
 use native.Mathlib.Omega.{arith}
 use Rattle.wide.proofs.Tests.{equal-is}
 use Rattle.wide.proofs.equal.Statement.{statement}

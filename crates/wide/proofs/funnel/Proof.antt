@@ -1,3 +1,4 @@
+-- `funnel`: the bits of `high` that stay and those of `low` that come in do not meet, so their Or is their sum.
 use native.Mathlib.Omega.{arith}
 use Rattle.wide.proofs.Shifts.{funnel-is}
 use borrow.Author.Needs.{needs}

@@ -1,3 +1,4 @@
+-- `less` is the test on the numbers: the highest words that differ decide.
 use native.Mathlib.Omega.{arith}
 use Rattle.wide.proofs.Tests.{less-top, less-high, less-low}
 use Rattle.wide.proofs.less.Statement.{statement}

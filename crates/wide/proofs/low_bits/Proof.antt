@@ -1,3 +1,4 @@
+-- `low_bits` gives x modulo 2^k: all of x, or an And with 2^k - 1.
 use native.Mathlib.Omega.{arith}
 use native.Mathlib.Nat.{mod-eq-of-lt}
 use mathlib.Core.Path.{sym}

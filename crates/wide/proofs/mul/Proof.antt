@@ -1,3 +1,4 @@
+-- `mul` gives `bvmul 192`: six products of words and six sums with carries, by `mul-is`.
 use Rattle.wide.proofs.Products.{mul-is}
 use borrow.Author.Needs.{needs}
 use Rattle.wide.proofs.mul.Statement.{statement}

@@ -1,3 +1,4 @@
+-- `or` gives `bitOr` of the two numbers, word by word.
 use native.Mathlib.Omega.{arith}
 use Rattle.wide.proofs.Digits.{or-is}
 use Rattle.wide.proofs.or.Statement.{statement}

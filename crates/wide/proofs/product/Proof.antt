@@ -1,3 +1,4 @@
+-- `product` gives a * b in two words, from four products of halves; no sum of these overflows.
 use native.Mathlib.Omega.{arith}
 use mathlib.Core.Path.{refl}
 use Rattle.wide.proofs.Products.{smalls, product-is}

@@ -1,3 +1,4 @@
+-- `shl` gives `bvshl 192`: a shift by whole words, then one inside a word.
 use native.Mathlib.Omega.{arith}
 use mathlib.Core.Path.{_∙_}
 use Rattle.wide.proofs.Shifts.{word-left, words-left}

@@ -1,3 +1,4 @@
+-- `shl_bits` gives `bvshl 192` for a shift below 64: each word takes bits of the one below.
 use native.Mathlib.Omega.{arith}
 use mathlib.Core.Path.{refl}
 use Rattle.wide.proofs.Shifts.{no-left, shl-is}

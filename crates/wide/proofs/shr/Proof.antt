@@ -1,3 +1,4 @@
+-- `shr` gives the number divided by 2^k: a shift by whole words, then one inside a word.
 use native.Mathlib.Omega.{arith}
 use mathlib.Core.Path.{_∙_}
 use Rattle.wide.proofs.Shifts.{word-right, words-right}

@@ -1,3 +1,4 @@
+-- `shr_bits` gives the number divided by 2^k for k below 64: each word takes bits of the one above.
 use native.Mathlib.Omega.{arith}
 use mathlib.Core.Path.{refl}
 use Rattle.wide.proofs.Shifts.{no-right, shr-is}

@@ -1,3 +1,4 @@
+-- `sub` gives `bvsub 192`: three differences of words with their borrows are one difference modulo 2^192.
 use borrow.Author.Needs.{needs}
 use native.Mathlib.Omega.{arith}
 use mathlib.Core.Path.{_≡_}

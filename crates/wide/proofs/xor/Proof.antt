@@ -1,3 +1,4 @@
+-- `xor` gives `bitXor` of the two numbers, word by word.
 use native.Mathlib.Omega.{arith}
 use Rattle.wide.proofs.Digits.{xor-is}
 use Rattle.wide.proofs.xor.Statement.{statement}

@@ -6,7 +6,6 @@ use Rattle.encoding.proofs.Pieces.{arrangement-long, arrangement-other}
 use borrow.Author.Needs.{needs}
 use Rattle.encoding.proofs.decode.arrangement_of.Statement.{statement}
 use Rattle.encoding.proofs.decode.arrangement_of.Tie as tie
-use Rattle.encoding.proofs.decode.at_most_6.Reads as at-most-6-reads
 
 is-long-requires : tie.Need-is-long-requires
 is-long-requires c κs = search needs

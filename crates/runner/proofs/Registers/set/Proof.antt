@@ -1,3 +1,4 @@
+-- `Registers::set` writes register d's two words and leaves the other registers as they were.
 use mathlib.Core.Path.{_≡_}
 use lib.ListN.{length}
 use Rattle.runner.proofs.Running.{written}
