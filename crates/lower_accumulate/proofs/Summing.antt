@@ -11,11 +11,10 @@ use Rattle.pool.specs.declared.Built.{Built}
 use Rattle.nodes.specs.Builders.{MadeBv, MadeCompare, MadeIte}
 use Rattle.pool.proofs.Steps.{start, step, finish, given, spare}
 use Rattle.trees.specs.declared.SaturateTo.{SaturateTo}
-use Rattle.trees.specs.Arith.{clamp, mixedSignAddLane, absoluteDifferenceLane}
+use Rattle.trees.specs.Arith.{mixedAt, differenceAt, clamp, mixedSignAddLane, absoluteDifferenceLane}
 use Rattle.simd.specs.Cut.{MadeLane}
 use Rattle.lower.specs.Builds.{Builds1, Builds2, Lowers, read, readIf, unread, MadeExtend}
 use Rattle.lower.proofs.Lanes.{lane-fits}
-use Rattle.lower_accumulate.specs.Lanes.{mixedAt, differenceAt}
 use Rattle.trees.specs.declared.SaturateTo.the-variants.{Signed, SignedToUnsigned}
 use Rattle.terms.specs.declared.CmpOp.the-variants.{Slt, Ult}
 
@@ -31,7 +30,7 @@ pub mixed-lane : {w0 w1 w2 w3 w4 w5 w6 : List ℕ} {k : ℕ} {r1 r2 r3 r4 r5 r6 
     → MadeExtend w3 (r3 .count) w4 r4 (r2 .node) (n + 2) (not signed)
     → MadeBv w4 (r4 .count) w5 r5 Add (r3 .node) (r4 .node)
     → Builds1 w5 (r5 .count) w6 r6 7 (r5 .node) (n + 2) n (λ v. clamp v (n + 2) n to) ((r5 .node) .0 ∷ [])
-    → Lowers w0 k w6 r6 12 n (read d (n * lanes)) (read first (n * lanes)) unread (λ d a b. mixedAt signed n d a b j) []
+    → Lowers w0 k w6 r6 12 n (read d (n * lanes)) (read first (n * lanes)) unread (λ d a b. mixedAt signed n d a j) []
 unfolding mixedSignAddLane
 mixed-lane {first = first} {d = d} {n = n} {lanes = lanes} {j = j} signed l m h b f e1 e2 e3 e4 e5 e6 =
     let fits : n * j + n ≤ n * lanes = lane-fits n j lanes h (omega arith) in

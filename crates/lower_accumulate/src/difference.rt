@@ -7,9 +7,8 @@ use terms::BinOp;
 ghost use mathlib.Core.List.{[], _∷_};
 ghost use Prim.Native.Nat.{_*_, _≤_, _<_};
 ghost use Rattle.pool.specs.Growth.{Room};
-ghost use Rattle.trees.specs.Arith.{absoluteDifferenceLane, absoluteDifferenceLanes};
+ghost use Rattle.trees.specs.Arith.{differenceAt, absoluteDifferenceLane, absoluteDifferenceLanes};
 ghost use Rattle.lower.specs.Builds.{Builds2, Lowers, read, readIf, Below};
-ghost use Rattle.lower_accumulate.specs.Lanes.{differenceAt};
 
 fn absolute_difference_lane(
     pool: &mut [u64],

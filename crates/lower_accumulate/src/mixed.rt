@@ -7,9 +7,8 @@ use terms::BinOp;
 ghost use mathlib.Core.List.{[]};
 ghost use Prim.Native.Nat.{_*_, _≤_, _<_};
 ghost use Rattle.pool.specs.Growth.{Room};
-ghost use Rattle.trees.specs.Arith.{mixedSignAddLanes};
+ghost use Rattle.trees.specs.Arith.{mixedAt, mixedSignAddLanes};
 ghost use Rattle.lower.specs.Builds.{Lowers, read, unread};
-ghost use Rattle.lower_accumulate.specs.Lanes.{mixedAt};
 
 // Lane `index` of the sum, at two bits more than a lane.
 fn mixed_at(
@@ -26,7 +25,7 @@ fn mixed_at(
     requires { ⌜ (first .0 < count) × (d .0 < count) ⌝ }
     requires { ⌜ (1 ≤ «lane_bits») × («lane_bits» ≤ 64) × (index .0 < lanes) × («lane_bits» * lanes ≤ 128) ⌝ }
     ensures { λ r. ⌜ Lowers (now (pool .entry)) count (now (pool .exit)) r 12 «lane_bits» (read d («lane_bits» * lanes)) (read first («lane_bits» * lanes))
-        unread (λ d a b. mixedAt «destination_signed» «lane_bits» d a b (index .0)) [] ⌝ }
+        unread (λ d a b. mixedAt «destination_signed» «lane_bits» d a (index .0)) [] ⌝ }
 {
     let wide = lane_bits + 2;
     let previous = simd::extract_lane(pool, count, d, lane_bits, index);

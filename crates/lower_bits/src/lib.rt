@@ -8,9 +8,8 @@ use trees::BitwiseUnary;
 ghost use mathlib.Core.List.{[]};
 ghost use Prim.Native.Nat.{_+_, _*_, _≤_, _<_};
 ghost use Rattle.pool.specs.Growth.{Room};
-ghost use Rattle.trees.specs.Arith.{bitwiseUnaryLanes};
+ghost use Rattle.trees.specs.Arith.{bitwiseAt, bitwiseUnaryLanes};
 ghost use Rattle.lower.specs.Builds.{Lowers, read, unread};
-ghost use Rattle.lower_bits.specs.Lanes.{bitwiseAt};
 
 // Lane `index` of the answer.
 fn bitwise_at(
@@ -26,7 +25,7 @@ fn bitwise_at(
     requires { ⌜ first .0 < count ⌝ }
     requires { ⌜ (2 ≤ «lane_bits») × («lane_bits» ≤ 64) × (index .0 < lanes) × («lane_bits» * lanes ≤ 128) ⌝ }
     ensures { λ r. ⌜ Lowers (now (pool .entry)) count (now (pool .exit)) r (5 * «lane_bits» + 1) «lane_bits» unread (read first («lane_bits» * lanes))
-        unread (λ d a b. bitwiseAt kind «lane_bits» d a b (index .0)) [] ⌝ }
+        unread (λ d a b. bitwiseAt kind «lane_bits» a (index .0)) [] ⌝ }
 {
     // the bits are cut from below every Extract, so the lane itself gets no node
     let lo = lane_bits * index.0;

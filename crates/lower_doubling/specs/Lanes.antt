@@ -4,7 +4,7 @@ use Prim.Native.Nat.{ℕ, _/_}
 use Rattle.terms.specs.Expr.{Expr}
 use Rattle.trees.specs.declared.Combine.{Combine}
 use Rattle.trees.specs.Simd.{extractLane}
-use Rattle.trees.specs.Arith.{combined, doublingLongLane, sourceLane}
+use Rattle.trees.specs.Arith.{combined, sourceLane, doublingAt}
 use Rattle.lower_doubling.specs.declared.Element.{Element}
 use Rattle.lower_doubling.specs.Elements.{elementTree}
 
@@ -12,6 +12,5 @@ use Rattle.lower_doubling.specs.Elements.{elementTree}
 abbrev pub combinedAt : Combine → (n : ℕ) (d p : Expr) → ℕ → Expr
 combinedAt combine n d p j = combined combine (extractLane d n j) p n
 
-abbrev pub doublingAt : Combine → Element → (upper : Bool) (n lanes : ℕ) (d a b : Expr) → ℕ → Expr
-doublingAt combine second upper n lanes d a b j =
-    doublingLongLane combine (extractLane d n j) (extractLane a (n / 2) (sourceLane upper lanes j)) (elementTree second b (n / 2) (sourceLane upper lanes j)) n
+abbrev pub doubledAt : Combine → Element → (upper : Bool) (n lanes : ℕ) (d a b : Expr) → ℕ → Expr
+doubledAt combine second upper n lanes d a b j = doublingAt combine upper n lanes d a (elementTree second b (n / 2) (sourceLane upper lanes j)) j

@@ -13,7 +13,7 @@ ghost use Rattle.trees.specs.Simd.{concatLanes};
 ghost use Rattle.trees.specs.Arith.{doublingProduct, sourceLane, doublingLongLanes};
 ghost use Rattle.lower.specs.Builds.{Builds2, Lowers, read, readIf, unread, Below};
 ghost use Rattle.lower_doubling.specs.Elements.{accumulates, elementNode, elementSource, elementNodes, factorBits, secondFactorBits, MadeElement};
-ghost use Rattle.lower_doubling.specs.Lanes.{combinedAt, doublingAt};
+ghost use Rattle.lower_doubling.specs.Lanes.{combinedAt, doubledAt};
 
 // A second source: one element for every lane, or a vector whose lanes are read one by one.
 pub enum Element {
@@ -130,7 +130,7 @@ fn doubling_at(
     requires { ⌜ (first .0 < count) × (elementNode second < count) × Below (readIf (accumulates combine) d 0) count ⌝ }
     requires { ⌜ (2 ≤ «lane_bits») × («lane_bits» ≤ 64) × (index .0 < lanes) × («lane_bits» * lanes ≤ 128) ⌝ }
     ensures { λ r. ⌜ Lowers (now (pool .entry)) count (now (pool .exit)) r 25 «lane_bits» (readIf (accumulates combine) d («lane_bits» * lanes))
-        (read first (factorBits upper «lane_bits» lanes)) (elementSource second («lane_bits» / 2) (factorBits upper «lane_bits» lanes)) (λ d a b. doublingAt combine second upper «lane_bits» lanes d a b (index .0))
+        (read first (factorBits upper «lane_bits» lanes)) (elementSource second («lane_bits» / 2) (factorBits upper «lane_bits» lanes)) (λ d a b. doubledAt combine second upper «lane_bits» lanes d a b (index .0))
         (elementNodes second) ⌝ }
 {
     let narrow = lane_bits / 2;
@@ -167,7 +167,7 @@ fn doubled_lanes(
     requires { ⌜ (2 ≤ «lane_bits») × («lane_bits» ≤ 64) × (1 ≤ lanes) × («lane_bits» * lanes ≤ 128) ⌝ }
     ensures { λ r. ⌜ Lowers (now (pool .entry)) count (now (pool .exit)) r (26 * lanes) («lane_bits» * lanes)
         (readIf (accumulates combine) d («lane_bits» * lanes)) (read first (factorBits upper «lane_bits» lanes)) (elementSource second («lane_bits» / 2) (factorBits upper «lane_bits» lanes))
-        (λ d a b. concatLanes (lanes - 1) (doublingAt combine second upper «lane_bits» lanes d a b)) (elementNodes second) ⌝ }
+        (λ d a b. concatLanes (lanes - 1) (doubledAt combine second upper «lane_bits» lanes d a b)) (elementNodes second) ⌝ }
 {
     let mut acc = doubling_at(
         pool,

@@ -12,11 +12,10 @@ use Rattle.nodes.specs.Builders.{MadeBv, MadeExtract}
 use Rattle.pool.proofs.Steps.{start, step, finish, given, spare}
 use Rattle.trees.specs.Simd.{extractCollapsing}
 use Rattle.trees.specs.Arith.{plusIf}
-use Rattle.trees.specs.Width.{highNarrowLane}
+use Rattle.trees.specs.Width.{highAt, highNarrowLane}
 use Rattle.simd.specs.Cut.{MadeLane}
 use Rattle.lower.specs.Builds.{Builds1, Builds2, Lowers, read, unread}
 use Rattle.lower.proofs.Lanes.{lane-fits}
-use Rattle.lower_high.specs.Lanes.{highAt}
 use Rattle.terms.specs.declared.BinOp.the-variants.{Add, Sub}
 
 -- a sum is no Extract
@@ -51,7 +50,7 @@ pub high-at : {w0 w1 w2 w3 : List ℕ} {k : ℕ} {r1 r2 r3 : Built} {first secon
     → MadeLane w0 k w1 r1 first (n * 2) j
     → MadeLane w1 (r1 .count) w2 r2 second (n * 2) j
     → Builds2 w2 (r2 .count) w3 r3 4 (r1 .node) (n * 2) (r2 .node) (n * 2) n (λ a b. highNarrowLane subtract rounding a b n) ((r1 .node) .0 ∷ (r2 .node) .0 ∷ [])
-    → Lowers w0 k w3 r3 6 n unread (read first (n * 2 * lanes)) (read second (n * 2 * lanes)) (λ d a b. highAt subtract rounding n d a b j) []
+    → Lowers w0 k w3 r3 6 n unread (read first (n * 2 * lanes)) (read second (n * 2 * lanes)) (λ d a b. highAt subtract rounding n a b j) []
 high-at {first = first} {second = second} {n = n} {lanes = lanes} {j = j} subtract rounding h e1 e2 e3 =
     let fits : n * 2 * j + n * 2 ≤ n * 2 * lanes = lane-fits (n * 2) j lanes h (omega arith) in
     record {

@@ -8,9 +8,8 @@ ghost use mathlib.Core.List.{[], _∷_};
 ghost use Prim.Native.Nat.{_+_, _-_, _*_, _≤_, _<_};
 ghost use Rattle.pool.specs.Growth.{Room};
 ghost use Rattle.trees.specs.Simd.{concatLanes};
-ghost use Rattle.trees.specs.Width.{highNarrowLane, highNarrowLanes};
+ghost use Rattle.trees.specs.Width.{highAt, highNarrowLane, highNarrowLanes};
 ghost use Rattle.lower.specs.Builds.{Builds2, Lowers, read, readIf, unread, withLower, Below};
-ghost use Rattle.lower_high.specs.Lanes.{highAt};
 
 // The upper half of a sum or a difference. Rounding adds half of the place above the bits that are dropped.
 fn high_narrow_lane(
@@ -57,7 +56,7 @@ fn high_at(
     requires { ⌜ (first .0 < count) × (second .0 < count) ⌝ }
     requires { ⌜ (1 ≤ «lane_bits») × («lane_bits» ≤ 64) × (index .0 < lanes) × («lane_bits» * 2 * lanes ≤ 128) ⌝ }
     ensures { λ r. ⌜ Lowers (now (pool .entry)) count (now (pool .exit)) r 6 «lane_bits» unread (read first («lane_bits» * 2 * lanes))
-        (read second («lane_bits» * 2 * lanes)) (λ d a b. highAt subtract rounding «lane_bits» d a b (index .0)) [] ⌝ }
+        (read second («lane_bits» * 2 * lanes)) (λ d a b. highAt subtract rounding «lane_bits» a b (index .0)) [] ⌝ }
 {
     let source_bits = lane_bits * 2;
     let a = simd::extract_lane(pool, count, first, source_bits, index);
@@ -81,7 +80,7 @@ fn narrowed_lanes(
     requires { ⌜ (1 ≤ «lane_bits») × («lane_bits» ≤ 64) × (1 ≤ lanes) × («lane_bits» * 2 * lanes ≤ 128) ⌝ }
     ensures { λ r. ⌜ Lowers (now (pool .entry)) count (now (pool .exit)) r (7 * lanes) («lane_bits» * lanes) unread
         (read first («lane_bits» * 2 * lanes)) (read second («lane_bits» * 2 * lanes))
-        (λ d a b. concatLanes (lanes - 1) (highAt subtract rounding «lane_bits» d a b)) [] ⌝ }
+        (λ d a b. concatLanes (lanes - 1) (highAt subtract rounding «lane_bits» a b)) [] ⌝ }
 {
     let mut acc = high_at(
         pool,

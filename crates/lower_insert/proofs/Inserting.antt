@@ -13,11 +13,10 @@ use Rattle.pool.specs.declared.Built.{Built}
 use Rattle.nodes.specs.Builders.{MadeConst, MadeBv}
 use Rattle.pool.proofs.Steps.{start, step, finish, given, spare}
 use Rattle.trees.specs.Simd.{concatLanes}
-use Rattle.trees.specs.Arith.{keptBits, shiftInsertLane, shiftInsertLanes}
+use Rattle.trees.specs.Arith.{insertAt, keptBits, shiftInsertLane, shiftInsertLanes}
 use Rattle.simd.specs.Cut.{MadeLane}
 use Rattle.lower.specs.Builds.{Lowers, read, unread}
 use Rattle.lower.proofs.Lanes.{source-kept, lane-fits}
-use Rattle.lower_insert.specs.Lanes.{insertAt}
 
 pub inserted : {w0 w1 w2 w3 w4 w5 w6 : List ℕ} {k : ℕ} {r1 r2 r3 r4 r5 r6 : Built} {amount first d : Node} {op : BinOp} {n lanes j kept : ℕ} (left : Bool)
     → 1 ≤ n

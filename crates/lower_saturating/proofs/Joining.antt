@@ -12,12 +12,11 @@ use Rattle.pool.proofs.Steps.{start, step, finish, spare}
 use Rattle.trees.specs.declared.SaturatingKind.{SaturatingKind}
 use Rattle.trees.specs.declared.SaturatingKind.the-variants.{AddSub, Halving, Narrow, ShiftNarrow, DoublingMultiplyHigh, Unary}
 use Rattle.trees.specs.Simd.{extractLane, concatLanes}
-use Rattle.trees.specs.Arith.{narrowing, keepLower, saturatingLane, saturatingLanes, kindBits}
+use Rattle.trees.specs.Arith.{saturatingAt, narrowing, keepLower, saturatingLane, saturatingLanes, kindBits}
 use Rattle.simd.specs.Cut.{MadeLane}
 use Rattle.lower.specs.Builds.{BuildsIf, BuildsCut, Lowers, read, readIf, unread, withLower}
 use Rattle.lower.proofs.Lanes.{lane-fits, kept-below}
 use Rattle.kinds.specs.Sources.{usesSecond}
-use Rattle.lower_saturating.specs.Lanes.{saturatingAt}
 
 -- ---- the bits of a source lane
 
@@ -44,7 +43,7 @@ pub at-two : {w0 w1 w2 w3 : List ℕ} {k : ℕ} {r1 r2 r3 : Built} {first second
     → MadeLane w0 k w1 r1 first bits j
     → MadeLane w1 (r1 .count) w2 r2 second bits j
     → BuildsIf w2 (r2 .count) w3 r3 16 (r1 .node) (kindBits kind n) (usesSecond kind) (r2 .node) (kindBits kind n) n (λ a b. saturatingLane kind a b n signed)
-    → Lowers w0 k w3 r3 18 n unread (read first (kindBits kind n * lanes)) (readIf (usesSecond kind) second (kindBits kind n * lanes)) (λ d a b. saturatingAt kind signed n d a b j) []
+    → Lowers w0 k w3 r3 18 n unread (read first (kindBits kind n * lanes)) (readIf (usesSecond kind) second (kindBits kind n * lanes)) (λ d a b. saturatingAt kind signed n a b j) []
 at-two {first = first} {second = second} {n = n} {lanes = lanes} {j = j} kind signed h e q e1 e2 e3 =
     let fits : kindBits kind n * j + kindBits kind n ≤ kindBits kind n * lanes = lane-fits (kindBits kind n) j lanes h (omega arith) in
     let l1 = lane-of {m = kindBits kind n} e e1 in
@@ -74,7 +73,7 @@ pub at-one : {w0 w1 w2 : List ℕ} {k : ℕ} {r1 r2 : Built} {first second : Nod
     → usesSecond kind ≡ false
     → MadeLane w0 k w1 r1 first bits j
     → BuildsIf w1 (r1 .count) w2 r2 16 (r1 .node) (kindBits kind n) (usesSecond kind) (r1 .node) (kindBits kind n) n (λ a b. saturatingLane kind a b n signed)
-    → Lowers w0 k w2 r2 18 n unread (read first (kindBits kind n * lanes)) (readIf (usesSecond kind) second (kindBits kind n * lanes)) (λ d a b. saturatingAt kind signed n d a b j) []
+    → Lowers w0 k w2 r2 18 n unread (read first (kindBits kind n * lanes)) (readIf (usesSecond kind) second (kindBits kind n * lanes)) (λ d a b. saturatingAt kind signed n a b j) []
 at-one {first = first} {second = second} {n = n} {lanes = lanes} {j = j} kind signed h e q e1 e2 =
     let fits : kindBits kind n * j + kindBits kind n ≤ kindBits kind n * lanes = lane-fits (kindBits kind n) j lanes h (omega arith) in
     let l1 = lane-of {m = kindBits kind n} e e1 in
@@ -92,7 +91,7 @@ at-one {first = first} {second = second} {n = n} {lanes = lanes} {j = j} kind si
 module _ {w0 : List ℕ} {k : ℕ} {w1 : List ℕ} {r1 : Built} {first second d : Node} (kind : SaturatingKind) (signed : Bool) {upper : Bool} (n lanes : ℕ) where
   pub with-lower : {w2 : List ℕ} {r2 : Built} → upper ≡ true
       → Lowers w0 k w1 r1 (19 * lanes) (n * lanes) unread (read first (kindBits kind n * lanes)) (readIf (usesSecond kind) second (kindBits kind n * lanes))
-      (λ d a b. concatLanes (lanes - 1) (saturatingAt kind signed n d a b)) []
+      (λ d a b. concatLanes (lanes - 1) (saturatingAt kind signed n a b)) []
       → BuildsCut w1 (r1 .count) w2 r2 2 (r1 .node) (n * lanes) true d (n * lanes * 2) (withLower true (n * lanes)) (λ v x. keepLower true v x n lanes)
       → Lowers w0 k w2 r2 (19 * lanes + 2) (withLower upper (n * lanes)) (readIf upper d (n * lanes * 2)) (read first (kindBits kind n * lanes))
       (readIf (usesSecond kind) second (kindBits kind n * lanes)) (λ d a b. saturatingLanes kind signed upper a b d n lanes) []
@@ -101,7 +100,7 @@ module _ {w0 : List ℕ} {k : ℕ} {w1 : List ℕ} {r1 : Built} {first second d 
 
   pub alone : upper ≡ false
       → Lowers w0 k w1 r1 (19 * lanes) (n * lanes) unread (read first (kindBits kind n * lanes)) (readIf (usesSecond kind) second (kindBits kind n * lanes))
-      (λ d a b. concatLanes (lanes - 1) (saturatingAt kind signed n d a b)) []
+      (λ d a b. concatLanes (lanes - 1) (saturatingAt kind signed n a b)) []
       → Lowers w0 k w1 r1 (19 * lanes + 2) (withLower upper (n * lanes)) (readIf upper d (n * lanes * 2)) (read first (kindBits kind n * lanes))
       (readIf (usesSecond kind) second (kindBits kind n * lanes)) (λ d a b. saturatingLanes kind signed upper a b d n lanes) []
   unfolding saturatingLanes

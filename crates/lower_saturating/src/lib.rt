@@ -11,10 +11,9 @@ ghost use mathlib.Core.List.{[]};
 ghost use Prim.Native.Nat.{_+_, _-_, _*_, _≤_, _<_};
 ghost use Rattle.pool.specs.Growth.{Room};
 ghost use Rattle.trees.specs.Simd.{concatLanes};
-ghost use Rattle.trees.specs.Arith.{saturatingLanes, kindBits};
+ghost use Rattle.trees.specs.Arith.{saturatingAt, saturatingLanes, kindBits};
 ghost use Rattle.lower.specs.Builds.{Lowers, read, readIf, unread, Below, withLower};
 ghost use Rattle.kinds.specs.Sources.{usesSecond, KindIn};
-ghost use Rattle.lower_saturating.specs.Lanes.{saturatingAt};
 
 // Lane `index` of the result.
 fn saturating_at(
@@ -32,7 +31,7 @@ fn saturating_at(
     requires { ⌜ (first .0 < count) × Below (readIf (usesSecond kind) second 0) count ⌝ }
     requires { ⌜ (1 ≤ «lane_bits») × («lane_bits» ≤ 64) × KindIn kind «lane_bits» × (index .0 < lanes) × (kindBits kind «lane_bits» * lanes ≤ 128) ⌝ }
     ensures { λ r. ⌜ Lowers (now (pool .entry)) count (now (pool .exit)) r 18 «lane_bits» unread (read first (kindBits kind «lane_bits» * lanes))
-        (readIf (usesSecond kind) second (kindBits kind «lane_bits» * lanes)) (λ d a b. saturatingAt kind «signed_sources» «lane_bits» d a b (index .0)) [] ⌝ }
+        (readIf (usesSecond kind) second (kindBits kind «lane_bits» * lanes)) (λ d a b. saturatingAt kind «signed_sources» «lane_bits» a b (index .0)) [] ⌝ }
 {
     let bits = source_bits(kind, lane_bits);
     let a = simd::extract_lane(pool, count, first, bits, index);
@@ -74,7 +73,7 @@ fn made_lanes(
     requires { ⌜ (first .0 < count) × Below (readIf (usesSecond kind) second 0) count ⌝ }
     requires { ⌜ (1 ≤ «lane_bits») × («lane_bits» ≤ 64) × KindIn kind «lane_bits» × (1 ≤ lanes) × (kindBits kind «lane_bits» * lanes ≤ 128) ⌝ }
     ensures { λ r. ⌜ Lowers (now (pool .entry)) count (now (pool .exit)) r (19 * lanes) («lane_bits» * lanes) unread (read first (kindBits kind «lane_bits» * lanes))
-        (readIf (usesSecond kind) second (kindBits kind «lane_bits» * lanes)) (λ d a b. concatLanes (lanes - 1) (saturatingAt kind «signed_sources» «lane_bits» d a b)) [] ⌝ }
+        (readIf (usesSecond kind) second (kindBits kind «lane_bits» * lanes)) (λ d a b. concatLanes (lanes - 1) (saturatingAt kind «signed_sources» «lane_bits» a b)) [] ⌝ }
 {
     let mut acc = saturating_at(
         pool,

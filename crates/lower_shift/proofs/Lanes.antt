@@ -13,14 +13,14 @@ use Rattle.pool.proofs.Steps.{start, step, finish, spare}
 use Rattle.trees.specs.declared.ShiftKind.{ShiftKind}
 use Rattle.trees.specs.declared.ShiftKind.the-variants.{LeftImmediate, RightImmediate, Register}
 use Rattle.trees.specs.Simd.{extractCollapsing, extractLane}
-use Rattle.trees.specs.Arith.{signedAmount, shiftedBy, shiftLane}
+use Rattle.trees.specs.Arith.{shiftAt, signedAmount, shiftedBy, shiftLane}
 use Rattle.nodes.specs.Builders.{MadeSignExtend}
 use Rattle.simd.specs.Cut.{MadeCut, MadeLane}
 use Rattle.trees.proofs.Cuts.{cut-cut}
 use Rattle.lower.specs.Builds.{BuildsIf, Lowers, read, readIf, unread}
 use Rattle.lower.proofs.Lanes.{lane-fits}
 use Rattle.kinds.specs.Sources.{isRegister}
-use Rattle.lower_shift.specs.Lanes.{shiftAt, MadeAmount}
+use Rattle.lower_shift.specs.Lanes.{MadeAmount}
 
 pub amount-byte : {w0 w1 w2 : List ℕ} {k : ℕ} {r1 r2 : Built} {second : Node} {n j : ℕ} → 8 < n → n ≤ 64
     → MadeCut w0 k w1 r1 second (7 + n * j) (n * j)
@@ -47,7 +47,7 @@ pub at-register : {w0 w1 w2 w3 : List ℕ} {k : ℕ} {r1 r2 r3 : Built} {first s
     → MadeLane w0 k w1 r1 first n j
     → MadeAmount w1 (r1 .count) w2 r2 second n j
     → BuildsIf w2 (r2 .count) w3 r3 21 (r1 .node) n (isRegister kind) (r2 .node) n n (λ v a. shiftedBy kind signed v a n)
-    → Lowers w0 k w3 r3 24 n unread (read first (n * lanes)) (readIf (isRegister kind) second (n * lanes)) (λ d a b. shiftAt kind signed n d a b j) []
+    → Lowers w0 k w3 r3 24 n unread (read first (n * lanes)) (readIf (isRegister kind) second (n * lanes)) (λ d a b. shiftAt kind signed n a b j) []
 unfolding shiftLane
 at-register {first = first} {second = second} {n = n} {lanes = lanes} {j = j} kind signed h b q e1 e2 e3 =
     let fits : n * j + n ≤ n * lanes = lane-fits n j lanes h (omega arith) in
@@ -72,7 +72,7 @@ pub at-immediate : {w0 w1 w2 : List ℕ} {k : ℕ} {r1 r2 : Built} {first second
     → isRegister kind ≡ false
     → MadeLane w0 k w1 r1 first n j
     → BuildsIf w1 (r1 .count) w2 r2 21 (r1 .node) n (isRegister kind) (r1 .node) n n (λ v a. shiftedBy kind signed v a n)
-    → Lowers w0 k w2 r2 24 n unread (read first (n * lanes)) (readIf (isRegister kind) second (n * lanes)) (λ d a b. shiftAt kind signed n d a b j) []
+    → Lowers w0 k w2 r2 24 n unread (read first (n * lanes)) (readIf (isRegister kind) second (n * lanes)) (λ d a b. shiftAt kind signed n a b j) []
 unfolding shiftLane
 at-immediate {first = first} {second = second} {n = n} {lanes = lanes} {j = j} kind signed h b q e1 e2 =
     let fits : n * j + n ≤ n * lanes = lane-fits n j lanes h (omega arith) in

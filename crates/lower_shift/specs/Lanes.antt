@@ -1,19 +1,14 @@
--- One lane of the loop over lanes: a and b are the whole sources, d is not read, and j is the lane.
-use mathlib.Core.Bool.{Bool}
+-- The amount of a lane of a register shift.
 use mathlib.Core.List.{List, []}
 use Prim.Native.Nat.{ℕ, _+_, _*_, _≤_}
 use Rattle.terms.specs.Expr.{Expr}
-use Rattle.trees.specs.declared.ShiftKind.{ShiftKind}
 use Rattle.trees.specs.Simd.{extractLane}
-use Rattle.trees.specs.Arith.{signedAmount, shiftLane}
+use Rattle.trees.specs.Arith.{signedAmount}
 use Rattle.pool.specs.declared.Node.{Node}
 use Rattle.pool.specs.declared.Built.{Built}
 use Rattle.pool.specs.Rules.{Valid}
 use Rattle.pool.specs.Growth.{NodeIs}
 use Rattle.nodes.specs.Builders.{Takes, Makes}
-
-abbrev pub shiftAt : ShiftKind → (signed : Bool) (n : ℕ) (d a b : Expr) → ℕ → Expr
-shiftAt kind signed n d a b j = shiftLane kind signed (extractLane a n j) (extractLane b n j) n
 
 -- the signed amount of lane `index`, at any width w of the source; the answer may not reach the source
 pub record MadeAmount (old : List ℕ) (k : ℕ) (new : List ℕ) (r : Built) (second : Node) (bits index : ℕ) : Type 0 where

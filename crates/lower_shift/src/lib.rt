@@ -9,10 +9,10 @@ use trees::ShiftKind;
 ghost use mathlib.Core.List.{[]};
 ghost use Prim.Native.Nat.{_+_, _*_, _≤_, _<_};
 ghost use Rattle.pool.specs.Growth.{Room};
-ghost use Rattle.trees.specs.Arith.{shiftLanes};
+ghost use Rattle.trees.specs.Arith.{shiftAt, shiftLanes};
 ghost use Rattle.lower.specs.Builds.{Lowers, read, readIf, unread, Below};
 ghost use Rattle.kinds.specs.Sources.{isRegister, AmountIn};
-ghost use Rattle.lower_shift.specs.Lanes.{shiftAt, MadeAmount};
+ghost use Rattle.lower_shift.specs.Lanes.{MadeAmount};
 
 // The signed low byte of lane `index`, a register shift's amount, at a lane's width. The byte is cut from the source itself: the lane
 // gets no node where it is wider.
@@ -45,7 +45,7 @@ fn shift_at(
     requires { ⌜ (first .0 < count) × Below (readIf (isRegister kind) second 0) count ⌝ }
     requires { ⌜ (8 ≤ «lane_bits») × («lane_bits» ≤ 64) × AmountIn kind «lane_bits» × (index .0 < lanes) × («lane_bits» * lanes ≤ 128) ⌝ }
     ensures { λ r. ⌜ Lowers (now (pool .entry)) count (now (pool .exit)) r 24 «lane_bits» unread (read first («lane_bits» * lanes))
-        (readIf (isRegister kind) second («lane_bits» * lanes)) (λ d a b. shiftAt kind signed «lane_bits» d a b (index .0)) [] ⌝ }
+        (readIf (isRegister kind) second («lane_bits» * lanes)) (λ d a b. shiftAt kind signed «lane_bits» a b (index .0)) [] ⌝ }
 {
     let value = simd::extract_lane(pool, count, first, lane_bits, index);
     if is_register(kind) {

@@ -164,8 +164,12 @@ absoluteDifferenceLane signed a b = Ite (Compare (cond signed Slt Ult) a b) (Bv 
 abbrev pub keptBits : Bool → ℕ → ℕ → ℕ
 keptBits left n shift = cond left (2 ^ shift - 1) (2 ^ n - 2 ^ (n - shift))
 
+-- the shifted lane over the bits of d that `kept` names
+abbrev pub inserted : (left : Bool) (kept n : ℕ) (d a amount : Expr) → Expr
+inserted left kept n d a amount = Bv Or (Bv (cond left Shl LShr) a amount) (Bv And d (Const kept n))
+
 unfoldable pub shiftInsertLane : (left : Bool) (d a : Expr) (shift n : ℕ) → Expr
-shiftInsertLane left d a shift n = Bv Or (Bv (cond left Shl LShr) a (Const shift n)) (Bv And d (Const (keptBits left n shift) n))
+shiftInsertLane left d a shift n = inserted left (keptBits left n shift) n d a (Const shift n)
 
 -- a sum that can be negative is clamped into the unsigned range as a signed one
 unfoldable pub mixedSignAddLane : (signed : Bool) (d a : Expr) (n : ℕ) → Expr
@@ -187,27 +191,40 @@ doublingLongLane combine d a b n = combined combine d (doublingProduct a b n) n
 abbrev pub accumulated : Bool → Expr → Expr → Expr
 accumulated accumulate d difference = cond accumulate (Bv Add d difference) difference
 
--- `shift_lanes`, as all that follow on whole vectors of k lanes: first and second are the sources, d the old destination
+-- ---- whole vectors of k lanes: a and b are the sources, d the old destination, and ..At is lane j of the loop
+
+-- `shift_lanes`
+abbrev pub shiftAt : ShiftKind → (signed : Bool) (n : ℕ) (a b : Expr) → ℕ → Expr
+shiftAt kind signed n a b j = shiftLane kind signed (extractLane a n j) (extractLane b n j) n
+
 unfoldable pub shiftLanes : ShiftKind → (signed : Bool) (first second : Expr) (n k : ℕ) → Expr
-shiftLanes kind signed first second n k = concatLanes (k - 1) λ j. shiftLane kind signed (extractLane first n j) (extractLane second n j) n
+shiftLanes kind signed first second n k = concatLanes (k - 1) (shiftAt kind signed n first second)
 
 -- `shift_insert_lanes`
+abbrev pub insertAt : (left : Bool) (kept n : ℕ) (d a amount : Expr) → ℕ → Expr
+insertAt left kept n d a amount j = inserted left kept n (extractLane d n j) (extractLane a n j) amount
+
 unfoldable pub shiftInsertLanes : (left : Bool) (shift : ℕ) (first d : Expr) (n k : ℕ) → Expr
-shiftInsertLanes left shift first d n k = concatLanes (k - 1) λ j. shiftInsertLane left (extractLane d n j) (extractLane first n j) shift n
+shiftInsertLanes left shift first d n k = concatLanes (k - 1) (insertAt left (keptBits left n shift) n d first (Const shift n))
 
 -- `mixed_sign_add_lanes`
+abbrev pub mixedAt : (signed : Bool) (n : ℕ) (d a : Expr) → ℕ → Expr
+mixedAt signed n d a j = mixedSignAddLane signed (extractLane d n j) (extractLane a n j) n
+
 unfoldable pub mixedSignAddLanes : (signed : Bool) (first d : Expr) (n k : ℕ) → Expr
-mixedSignAddLanes signed first d n k = concatLanes (k - 1) λ j. mixedSignAddLane signed (extractLane d n j) (extractLane first n j) n
+mixedSignAddLanes signed first d n k = concatLanes (k - 1) (mixedAt signed n d first)
 
 -- `doubling_long_lanes`: the source lanes, upper ones from lane k on; the element has number i
 abbrev pub sourceLane : Bool → ℕ → ℕ → ℕ
 sourceLane upper k j = cond upper (j + k) j
 
+-- b is the lane of the second source, or its element
+abbrev pub doublingAt : Combine → (upper : Bool) (n k : ℕ) (d a b : Expr) → ℕ → Expr
+doublingAt combine upper n k d a b j = doublingLongLane combine (extractLane d n j) (extractLane a (n / 2) (sourceLane upper k j)) b n
+
 unfoldable pub doublingLongLanes : Combine → (upper byElement : Bool) (i : ℕ) (first second d : Expr) (n k : ℕ) → Expr
 doublingLongLanes combine upper byElement i first second d n k =
-    concatLanes (k - 1) λ j.
-    doublingLongLane combine (extractLane d n j) (extractLane first (n / 2) (sourceLane upper k j))
-    (extractLane second (n / 2) (cond byElement i (sourceLane upper k j))) n
+    concatLanes (k - 1) λ j. doublingAt combine upper n k d first (extractLane second (n / 2) (cond byElement i (sourceLane upper k j))) j
 
 -- `saturating_lanes`
 abbrev pub narrowing : SaturatingKind → Bool
@@ -222,21 +239,26 @@ narrowing (Unary negate) = false
 abbrev pub kindBits : SaturatingKind → ℕ → ℕ
 kindBits kind n = cond (narrowing kind) (n * 2) n
 
+abbrev pub saturatingAt : SaturatingKind → (signed : Bool) (n : ℕ) (a b : Expr) → ℕ → Expr
+saturatingAt kind signed n a b j = saturatingLane kind (extractLane a (kindBits kind n) j) (extractLane b (kindBits kind n) j) n signed
+
 -- a narrowing "2" form keeps the lower half of d
 abbrev pub keepLower : (upper : Bool) (new d : Expr) (n k : ℕ) → Expr
 keepLower upper new d n k = cond upper (Concat new (extractCollapsing d (n * k - 1) 0)) new
 
 unfoldable pub saturatingLanes : SaturatingKind → (signed upper : Bool) (first second d : Expr) (n k : ℕ) → Expr
-saturatingLanes kind signed upper first second d n k =
-    let m = kindBits kind n in
-    keepLower upper (concatLanes (k - 1) λ j. saturatingLane kind (extractLane first m j) (extractLane second m j) n signed) d n k
+saturatingLanes kind signed upper first second d n k = keepLower upper (concatLanes (k - 1) (saturatingAt kind signed n first second)) d n k
 
 -- `bitwise_unary_lanes`
+abbrev pub bitwiseAt : BitwiseUnary → (n : ℕ) (a : Expr) → ℕ → Expr
+bitwiseAt kind n a j = bitwiseUnaryLane kind (extractLane a n j) n
+
 unfoldable pub bitwiseUnaryLanes : BitwiseUnary → (first : Expr) (n k : ℕ) → Expr
-bitwiseUnaryLanes kind first n k = concatLanes (k - 1) λ j. bitwiseUnaryLane kind (extractLane first n j) n
+bitwiseUnaryLanes kind first n k = concatLanes (k - 1) (bitwiseAt kind n first)
 
 -- `absolute_difference_lanes`
+abbrev pub differenceAt : (signed accumulate : Bool) (n : ℕ) (d a b : Expr) → ℕ → Expr
+differenceAt signed accumulate n d a b j = accumulated accumulate (extractLane d n j) (absoluteDifferenceLane signed (extractLane a n j) (extractLane b n j))
+
 unfoldable pub absoluteDifferenceLanes : (signed accumulate : Bool) (first second d : Expr) (n k : ℕ) → Expr
-absoluteDifferenceLanes signed accumulate first second d n k =
-    concatLanes (k - 1) λ j.
-    accumulated accumulate (extractLane d n j) (absoluteDifferenceLane signed (extractLane first n j) (extractLane second n j))
+absoluteDifferenceLanes signed accumulate first second d n k = concatLanes (k - 1) (differenceAt signed accumulate n d first second)

@@ -10,7 +10,9 @@ unfoldable pub highNarrowLane : (subtract rounding : Bool) (a b : Expr) (n : ℕ
 highNarrowLane subtract rounding a b n =
     extractCollapsing (plusIf rounding (Bv (cond subtract Sub Add) a b) (Const (2 ^ (n - 1)) (n * 2))) (n * 2 - 1) n
 
--- `high_narrow_lanes`
+-- `high_narrow_lanes`, and its lane j
+abbrev pub highAt : (subtract rounding : Bool) (n : ℕ) (a b : Expr) → ℕ → Expr
+highAt subtract rounding n a b j = highNarrowLane subtract rounding (extractLane a (n * 2) j) (extractLane b (n * 2) j) n
+
 unfoldable pub highNarrowLanes : (subtract rounding upper : Bool) (first second d : Expr) (n k : ℕ) → Expr
-highNarrowLanes subtract rounding upper first second d n k =
-    keepLower upper (concatLanes (k - 1) λ j. highNarrowLane subtract rounding (extractLane first (n * 2) j) (extractLane second (n * 2) j) n) d n k
+highNarrowLanes subtract rounding upper first second d n k = keepLower upper (concatLanes (k - 1) (highAt subtract rounding n first second)) d n k

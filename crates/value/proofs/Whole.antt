@@ -12,7 +12,7 @@ use Rattle.neon.specs.Arm.{lane, lanes, armAt, placeBits, armResult}
 use Rattle.neon.proofs.Lanes.{lanes-eq}
 use Rattle.neon.proofs.Geometry.{sized, source-some, filled, by-half}
 use Rattle.trees.specs.Simd.{extractCollapsing, extractLane, concatLanes}
-use Rattle.trees.specs.Arith.{shiftLanes, shiftInsertLanes, mixedSignAddLanes, doublingLongLanes, saturatingLanes, bitwiseUnaryLanes, absoluteDifferenceLanes, keepLower}
+use Rattle.trees.specs.Arith.{shiftLanes, shiftInsertLane, shiftInsertLanes, mixedSignAddLanes, doublingLongLanes, saturatingLanes, bitwiseUnaryLanes, absoluteDifferenceLanes, keepLower}
 use Rattle.trees.specs.Width.{highNarrowLanes}
 use Rattle.trees.specs.Neon.{neonOp, resultTree}
 use Rattle.value.proofs.Is.{Has, has-number}
@@ -43,7 +43,7 @@ keeps v false new d = refl
 
 pub as-lanes : (o : Op) (v : Arrangement) (i : ℕ) (d a b : Expr)
     → resultTree o v i d a b ≡ placeTree (form o .lanes) (full v) (concatLanes (laneCount o v - 1) (treeAt o v i d a b)) d
-unfolding resultTree shiftLanes shiftInsertLanes mixedSignAddLanes doublingLongLanes saturatingLanes bitwiseUnaryLanes absoluteDifferenceLanes highNarrowLanes
+unfolding resultTree shiftLanes shiftInsertLane shiftInsertLanes mixedSignAddLanes doublingLongLanes saturatingLanes bitwiseUnaryLanes absoluteDifferenceLanes highNarrowLanes
 as-lanes SHL v i d a b = refl
 as-lanes SQSHLI v i d a b = refl
 as-lanes UQSHLI v i d a b = refl

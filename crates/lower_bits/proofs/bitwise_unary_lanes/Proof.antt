@@ -4,8 +4,7 @@ use Prim.Native.Nat.{_+_, _*_, _-_, _≤_}
 use mathlib.Core.List.{[]}
 use Rattle.lower.specs.Builds.{read, unread}
 use Rattle.lower.proofs.Lanes.{LanesTo, LanesKept, lanes-first, lanes-more, lanes-all, room-first, room-lane, room-concat}
-use Rattle.lower_bits.specs.Lanes.{bitwiseAt}
-use Rattle.trees.specs.Arith.{bitwiseUnaryLanes}
+use Rattle.trees.specs.Arith.{bitwiseAt, bitwiseUnaryLanes}
 use Rattle.lower_bits.proofs.bitwise_unary_lanes.Statement.{statement}
 use Rattle.lower_bits.proofs.bitwise_unary_lanes.Tie as tie
 
@@ -13,7 +12,7 @@ abbrev Inv-loop : tie.InvT-loop
 Inv-loop pool₀ count kind first lane-bits lanes acc₀ i₀ pool acc i =
     (1 ≤ i)
     × (i ≤ lanes)
-    × LanesKept count (5 * lane-bits + 2) lane-bits unread (read first (lane-bits * lanes)) unread (bitwiseAt kind lane-bits) [] pool₀ acc₀ pool acc i
+    × LanesKept count (5 * lane-bits + 2) lane-bits unread (read first (lane-bits * lanes)) unread (λ d a b. bitwiseAt kind lane-bits a) [] pool₀ acc₀ pool acc i
 
 abbrev μ-loop : tie.MeasureT-loop
 μ-loop pool₀ count kind first lane-bits lanes acc₀ i₀ pool acc i = lanes - i
@@ -24,7 +23,7 @@ entry c = c .before .before .before .before .before .before .before
 -- the lanes so far, over the pool at entry
 so-far : (c : tie.At-loop Inv-loop μ-loop) → let a = entry c .args in
     LanesTo (a .pool .now) (a .count) (c .loop .pool) (c .loop .acc) (5 * a .lane-bits + 2) (a .lane-bits) unread (read (a .first) (a .lane-bits * a .lanes)) unread
-    (bitwiseAt (a .kind) (a .lane-bits)) [] (c .loop .i)
+    (λ td ta tb. bitwiseAt (a .kind) (a .lane-bits) ta) [] (c .loop .i)
 so-far c =
     let lane0 = c .before .before .before in
     c .loop .inv .2 _ (lanes-first _ {m = 5 * entry c .args .lane-bits + 2} (lane0 .before .first .ensures) (omega arith) (lane0 .bitwise-at .ensures))

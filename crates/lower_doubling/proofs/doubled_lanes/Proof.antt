@@ -4,7 +4,7 @@ use Prim.Native.Nat.{_*_, _/_, _-_, _≤_}
 use Rattle.lower.specs.Builds.{read, readIf}
 use Rattle.lower.proofs.Lanes.{LanesTo, LanesKept, lanes-first, lanes-more, lanes-all, room-first, room-lane, room-concat}
 use Rattle.lower_doubling.specs.Elements.{accumulates, elementSource, elementNodes, factorBits}
-use Rattle.lower_doubling.specs.Lanes.{doublingAt}
+use Rattle.lower_doubling.specs.Lanes.{doubledAt}
 use Rattle.lower_doubling.proofs.doubled_lanes.Statement.{statement}
 use Rattle.lower_doubling.proofs.doubled_lanes.Tie as tie
 
@@ -12,7 +12,7 @@ abbrev Inv-loop : tie.InvT-loop
 Inv-loop pool₀ count combine upper first second d lane-bits lanes acc₀ i₀ pool acc i =
     (1 ≤ i)
     × (i ≤ lanes)
-    × LanesKept count 26 lane-bits (readIf (accumulates combine) d (lane-bits * lanes)) (read first (factorBits upper lane-bits lanes)) (elementSource second (lane-bits / 2) (factorBits upper lane-bits lanes)) (doublingAt combine second upper lane-bits lanes) (elementNodes second) pool₀ acc₀ pool acc i
+    × LanesKept count 26 lane-bits (readIf (accumulates combine) d (lane-bits * lanes)) (read first (factorBits upper lane-bits lanes)) (elementSource second (lane-bits / 2) (factorBits upper lane-bits lanes)) (doubledAt combine second upper lane-bits lanes) (elementNodes second) pool₀ acc₀ pool acc i
 
 abbrev μ-loop : tie.MeasureT-loop
 μ-loop pool₀ count combine upper first second d lane-bits lanes acc₀ i₀ pool acc i = lanes - i
@@ -23,7 +23,7 @@ entry c = c .before .before .before .before .before .before .before
 -- the lanes so far, over the pool at entry
 so-far : (c : tie.At-loop Inv-loop μ-loop) → let a = entry c .args in
     LanesTo (a .pool .now) (a .count) (c .loop .pool) (c .loop .acc) 26 (a .lane-bits) (readIf (accumulates (a .combine)) (a .d) (a .lane-bits * a .lanes)) (read (a .first) (factorBits (a .upper) (a .lane-bits) (a .lanes))) (elementSource (a .second) (a .lane-bits / 2) (factorBits (a .upper) (a .lane-bits) (a .lanes)))
-    (doublingAt (a .combine) (a .second) (a .upper) (a .lane-bits) (a .lanes)) (elementNodes (a .second)) (c .loop .i)
+    (doubledAt (a .combine) (a .second) (a .upper) (a .lane-bits) (a .lanes)) (elementNodes (a .second)) (c .loop .i)
 so-far c =
     let lane0 = c .before .before .before in
     c .loop .inv .2 _ (lanes-first _ {m = 26} (lane0 .before .first .ensures) (omega arith) (lane0 .doubling-at .ensures))

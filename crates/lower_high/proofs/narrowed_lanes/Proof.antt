@@ -4,7 +4,7 @@ use Prim.Native.Nat.{_*_, _-_, _≤_}
 use mathlib.Core.List.{[]}
 use Rattle.lower.specs.Builds.{read, unread}
 use Rattle.lower.proofs.Lanes.{LanesTo, LanesKept, lanes-first, lanes-more, lanes-all, room-first, room-lane, room-concat}
-use Rattle.lower_high.specs.Lanes.{highAt}
+use Rattle.trees.specs.Width.{highAt}
 use Rattle.lower_high.proofs.narrowed_lanes.Statement.{statement}
 use Rattle.lower_high.proofs.narrowed_lanes.Tie as tie
 
@@ -12,7 +12,7 @@ abbrev Inv-loop : tie.InvT-loop
 Inv-loop pool₀ count subtract rounding first second lane-bits lanes acc₀ i₀ pool acc i =
     (1 ≤ i)
     × (i ≤ lanes)
-    × LanesKept count 7 lane-bits unread (read first (lane-bits * 2 * lanes)) (read second (lane-bits * 2 * lanes)) (highAt subtract rounding lane-bits) [] pool₀ acc₀ pool acc i
+    × LanesKept count 7 lane-bits unread (read first (lane-bits * 2 * lanes)) (read second (lane-bits * 2 * lanes)) (λ d. highAt subtract rounding lane-bits) [] pool₀ acc₀ pool acc i
 
 abbrev μ-loop : tie.MeasureT-loop
 μ-loop pool₀ count subtract rounding first second lane-bits lanes acc₀ i₀ pool acc i = lanes - i
@@ -23,7 +23,7 @@ entry c = c .before .before .before .before .before .before .before
 -- the lanes so far, over the pool at entry
 so-far : (c : tie.At-loop Inv-loop μ-loop) → let a = entry c .args in
     LanesTo (a .pool .now) (a .count) (c .loop .pool) (c .loop .acc) 7 (a .lane-bits) unread (read (a .first) (a .lane-bits * 2 * a .lanes)) (read (a .second) (a .lane-bits * 2 * a .lanes))
-    (highAt (a .subtract) (a .rounding) (a .lane-bits)) [] (c .loop .i)
+    (λ d. highAt (a .subtract) (a .rounding) (a .lane-bits)) [] (c .loop .i)
 so-far c =
     let lane0 = c .before .before .before in
     c .loop .inv .2 _ (lanes-first _ {m = 7} (lane0 .before .first .ensures) (omega arith) (lane0 .high-at .ensures))

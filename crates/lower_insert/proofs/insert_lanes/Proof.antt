@@ -4,7 +4,7 @@ use Prim.Native.Nat.{_*_, _-_, _≤_}
 use mathlib.Core.List.{[], _∷_}
 use Rattle.lower.specs.Builds.{read}
 use Rattle.lower.proofs.Lanes.{LanesTo, LanesKept, lanes-first, lanes-more, lanes-all, room-first, room-lane, room-concat}
-use Rattle.lower_insert.specs.Lanes.{insertAt}
+use Rattle.trees.specs.Arith.{insertAt}
 use Rattle.lower_insert.proofs.insert_lanes.Statement.{statement}
 use Rattle.lower_insert.proofs.insert_lanes.Tie as tie
 

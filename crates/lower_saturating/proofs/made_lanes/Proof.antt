@@ -2,11 +2,10 @@ use native.Mathlib.Omega.{arith}
 use native.Mathlib.Nat.{lt-of-lt-of-le}
 use Prim.Native.Nat.{_*_, _-_, _≤_}
 use mathlib.Core.List.{[]}
-use Rattle.trees.specs.Arith.{kindBits}
+use Rattle.trees.specs.Arith.{saturatingAt, kindBits}
 use Rattle.kinds.specs.Sources.{usesSecond}
 use Rattle.lower.specs.Builds.{read, readIf, unread}
 use Rattle.lower.proofs.Lanes.{LanesTo, LanesKept, lanes-first, lanes-more, lanes-all, room-first, room-lane, room-concat}
-use Rattle.lower_saturating.specs.Lanes.{saturatingAt}
 use Rattle.lower_saturating.proofs.Joining.{made-most}
 use Rattle.lower_saturating.proofs.made_lanes.Statement.{statement}
 use Rattle.lower_saturating.proofs.made_lanes.Tie as tie
@@ -15,7 +14,7 @@ abbrev Inv-loop : tie.InvT-loop
 Inv-loop pool₀ count kind signed-sources first second lane-bits lanes acc₀ i₀ pool acc i =
     (1 ≤ i)
     × (i ≤ lanes)
-    × LanesKept count 19 lane-bits unread (read first (kindBits kind lane-bits * lanes)) (readIf (usesSecond kind) second (kindBits kind lane-bits * lanes)) (saturatingAt kind signed-sources lane-bits) [] pool₀ acc₀ pool acc i
+    × LanesKept count 19 lane-bits unread (read first (kindBits kind lane-bits * lanes)) (readIf (usesSecond kind) second (kindBits kind lane-bits * lanes)) (λ d. saturatingAt kind signed-sources lane-bits) [] pool₀ acc₀ pool acc i
 
 abbrev μ-loop : tie.MeasureT-loop
 μ-loop pool₀ count kind signed-sources first second lane-bits lanes acc₀ i₀ pool acc i = lanes - i
@@ -26,7 +25,7 @@ entry c = c .before .before .before .before .before .before .before
 -- the lanes so far, over the pool at entry
 so-far : (c : tie.At-loop Inv-loop μ-loop) → let a = entry c .args in
     LanesTo (a .pool .now) (a .count) (c .loop .pool) (c .loop .acc) 19 (a .lane-bits) unread (read (a .first) (kindBits (a .kind) (a .lane-bits) * a .lanes)) (readIf (usesSecond (a .kind)) (a .second) (kindBits (a .kind) (a .lane-bits) * a .lanes))
-    (saturatingAt (a .kind) (a .signed-sources) (a .lane-bits)) [] (c .loop .i)
+    (λ d. saturatingAt (a .kind) (a .signed-sources) (a .lane-bits)) [] (c .loop .i)
 so-far c =
     let lane0 = c .before .before .before in
     c .loop .inv .2 _ (lanes-first _ {m = 19} (lane0 .before .first .ensures) (omega arith) (lane0 .saturating-at .ensures))

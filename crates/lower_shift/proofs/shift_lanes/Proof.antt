@@ -5,8 +5,7 @@ use mathlib.Core.List.{[]}
 use Rattle.kinds.specs.Sources.{isRegister}
 use Rattle.lower.specs.Builds.{read, readIf, unread}
 use Rattle.lower.proofs.Lanes.{LanesTo, LanesKept, lanes-first, lanes-more, lanes-all, room-first, room-lane, room-concat}
-use Rattle.lower_shift.specs.Lanes.{shiftAt}
-use Rattle.trees.specs.Arith.{shiftLanes}
+use Rattle.trees.specs.Arith.{shiftAt, shiftLanes}
 use Rattle.lower_shift.proofs.shift_lanes.Statement.{statement}
 use Rattle.lower_shift.proofs.shift_lanes.Tie as tie
 
@@ -14,7 +13,7 @@ abbrev Inv-loop : tie.InvT-loop
 Inv-loop pool₀ count kind signed first second lane-bits lanes acc₀ i₀ pool acc i =
     (1 ≤ i)
     × (i ≤ lanes)
-    × LanesKept count 25 lane-bits unread (read first (lane-bits * lanes)) (readIf (isRegister kind) second (lane-bits * lanes)) (shiftAt kind signed lane-bits) [] pool₀ acc₀ pool acc i
+    × LanesKept count 25 lane-bits unread (read first (lane-bits * lanes)) (readIf (isRegister kind) second (lane-bits * lanes)) (λ d. shiftAt kind signed lane-bits) [] pool₀ acc₀ pool acc i
 
 abbrev μ-loop : tie.MeasureT-loop
 μ-loop pool₀ count kind signed first second lane-bits lanes acc₀ i₀ pool acc i = lanes - i
@@ -25,7 +24,7 @@ entry c = c .before .before .before .before .before .before .before
 -- the lanes so far, over the pool at entry
 so-far : (c : tie.At-loop Inv-loop μ-loop) → let a = entry c .args in
     LanesTo (a .pool .now) (a .count) (c .loop .pool) (c .loop .acc) 25 (a .lane-bits) unread (read (a .first) (a .lane-bits * a .lanes))
-    (readIf (isRegister (a .kind)) (a .second) (a .lane-bits * a .lanes)) (shiftAt (a .kind) (a .signed) (a .lane-bits)) [] (c .loop .i)
+    (readIf (isRegister (a .kind)) (a .second) (a .lane-bits * a .lanes)) (λ d. shiftAt (a .kind) (a .signed) (a .lane-bits)) [] (c .loop .i)
 so-far c =
     let lane0 = c .before .before .before in
     c .loop .inv .2 _ (lanes-first _ {m = 25} (lane0 .before .first .ensures) (omega arith) (lane0 .shift-at .ensures))

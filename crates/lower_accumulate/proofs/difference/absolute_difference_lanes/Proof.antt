@@ -4,8 +4,7 @@ use Prim.Native.Nat.{_*_, _-_, _≤_}
 use mathlib.Core.List.{[]}
 use Rattle.lower.specs.Builds.{read, readIf}
 use Rattle.lower.proofs.Lanes.{LanesTo, LanesKept, lanes-first, lanes-more, lanes-all, room-first, room-lane, room-concat}
-use Rattle.lower_accumulate.specs.Lanes.{differenceAt}
-use Rattle.trees.specs.Arith.{absoluteDifferenceLanes}
+use Rattle.trees.specs.Arith.{differenceAt, absoluteDifferenceLanes}
 use Rattle.lower_accumulate.proofs.difference.absolute_difference_lanes.Statement.{statement}
 use Rattle.lower_accumulate.proofs.difference.absolute_difference_lanes.Tie as tie
 

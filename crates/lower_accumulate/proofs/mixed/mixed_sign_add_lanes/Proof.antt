@@ -4,8 +4,7 @@ use Prim.Native.Nat.{_*_, _-_, _≤_}
 use mathlib.Core.List.{[]}
 use Rattle.lower.specs.Builds.{read, unread}
 use Rattle.lower.proofs.Lanes.{LanesTo, LanesKept, lanes-first, lanes-more, lanes-all, room-first, room-lane, room-concat}
-use Rattle.lower_accumulate.specs.Lanes.{mixedAt}
-use Rattle.trees.specs.Arith.{mixedSignAddLanes}
+use Rattle.trees.specs.Arith.{mixedAt, mixedSignAddLanes}
 use Rattle.lower_accumulate.proofs.mixed.mixed_sign_add_lanes.Statement.{statement}
 use Rattle.lower_accumulate.proofs.mixed.mixed_sign_add_lanes.Tie as tie
 
@@ -13,7 +12,7 @@ abbrev Inv-loop : tie.InvT-loop
 Inv-loop pool₀ count destination-signed first d lane-bits lanes acc₀ i₀ pool acc i =
     (1 ≤ i)
     × (i ≤ lanes)
-    × LanesKept count 13 lane-bits (read d (lane-bits * lanes)) (read first (lane-bits * lanes)) unread (mixedAt destination-signed lane-bits) [] pool₀ acc₀ pool acc i
+    × LanesKept count 13 lane-bits (read d (lane-bits * lanes)) (read first (lane-bits * lanes)) unread (λ d a b. mixedAt destination-signed lane-bits d a) [] pool₀ acc₀ pool acc i
 
 abbrev μ-loop : tie.MeasureT-loop
 μ-loop pool₀ count destination-signed first d lane-bits lanes acc₀ i₀ pool acc i = lanes - i
@@ -24,7 +23,7 @@ entry c = c .before .before .before .before .before .before .before
 -- the lanes so far, over the pool at entry
 so-far : (c : tie.At-loop Inv-loop μ-loop) → let a = entry c .args in
     LanesTo (a .pool .now) (a .count) (c .loop .pool) (c .loop .acc) 13 (a .lane-bits) (read (a .d) (a .lane-bits * a .lanes)) (read (a .first) (a .lane-bits * a .lanes)) unread
-    (mixedAt (a .destination-signed) (a .lane-bits)) [] (c .loop .i)
+    (λ td ta tb. mixedAt (a .destination-signed) (a .lane-bits) td ta) [] (c .loop .i)
 so-far c =
     let lane0 = c .before .before .before in
     c .loop .inv .2 _ (lanes-first _ {m = 13} (lane0 .before .first .ensures) (omega arith) (lane0 .mixed-at .ensures))
