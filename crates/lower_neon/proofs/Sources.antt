@@ -35,7 +35,7 @@ abbrev pub ShapeReady : (c : ℕ) (first second d : Node) → NeonShape → Type
 ShapeReady c first second d s =
     ((first .0 < c) × Below (readIf (readsSecond (s .op)) second 0) c × Below (readIf (readsOld (s .op)) d 0) c)
     × ((8 ≤ s .«lane_bits») × (s .«lane_bits» ≤ 64) × (1 ≤ s .lanes) × (s .«lane_bits» * s .lanes ≤ 128)
-    × FamilyIn (s .op) (s .«lane_bits») (s .lanes) (s .«source_index»))
+    × FamilyIn (s .op) (s .«lane_bits») (s .lanes) (s .«source_index» .0))
 
 pub form-ready : (c : ℕ) (first second d : Node) {s : NeonShape} (o : Op) (v : Arrangement) (i : ℕ)
     → s ≡ shapeOf o v i

@@ -7,7 +7,6 @@ use lower_high::high_narrow_lanes;
 use lower_insert::shift_insert_lanes;
 use lower_saturating::saturating_lanes;
 use lower_shift::shift_lanes;
-use neon::Lane;
 use pool::Built;
 use pool::Node;
 use trees::NeonOp;
@@ -34,7 +33,7 @@ pub fn neon_value(
     requires { ⌜ Room (now pool) count mostNodes ⌝ }
     requires { ⌜ (first .0 < count) × Below (readIf (readsSecond (shape .op)) second 0) count × Below (readIf (readsOld (shape .op)) d 0) count ⌝ }
     requires { ⌜ (8 ≤ shape .«lane_bits») × (shape .«lane_bits» ≤ 64) × (1 ≤ shape .lanes) × (shape .«lane_bits» * shape .lanes ≤ 128)
-        × FamilyIn (shape .op) (shape .«lane_bits») (shape .lanes) (shape .«source_index») ⌝ }
+        × FamilyIn (shape .op) (shape .«lane_bits») (shape .lanes) (shape .«source_index» .0) ⌝ }
     ensures { λ r. ⌜ Lowers (now (pool .entry)) count (now (pool .exit)) r mostNodes (withLower (keepsLower (shape .op)) (shape .«lane_bits» * shape .lanes))
         (readIf (readsOld (shape .op)) d (oldWidth (shape .op) (shape .«lane_bits») (shape .lanes)))
         (read first (firstWidth (shape .op) (shape .«lane_bits») (shape .lanes)))
@@ -65,7 +64,7 @@ pub fn neon_value(
                 combine,
                 upper,
                 by_element,
-                Lane(shape.source_index),
+                shape.source_index,
                 first,
                 second,
                 d,

@@ -1,6 +1,7 @@
 // The shape of an instruction: its family with the Rust's arguments, at its lanes.
 pub mod family;
 
+use neon::Lane;
 use trees::NeonOp;
 use trees::NeonShape;
 ghost use mathlib.Core.Path.{_≡_};
@@ -65,6 +66,6 @@ pub fn shape(operation: u64, arrangement: u64, i: u64) -> NeonShape
         op,
         lane_bits: bits,
         lanes: made / bits,
-        source_index: i,
+        source_index: Lane(i),
     }
 }

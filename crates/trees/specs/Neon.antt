@@ -81,7 +81,7 @@ neonOp SUBHN i upper = HighNarrow true false upper
 neonOp RSUBHN i upper = HighNarrow true true upper
 
 abbrev pub shapeOf : Op → Arrangement → ℕ → NeonShape
-shapeOf o v i = record { op = neonOp o i (full v); «lane_bits» = laneBits v; lanes = laneCount o v; «source_index» = i }
+shapeOf o v i = record { op = neonOp o i (full v); «lane_bits» = laneBits v; lanes = laneCount o v; «source_index» = record { 0 = i } }
 
 -- `neon_value`: d is the old destination, first and second are the sources
 abbrev pub valueOf : NeonOp → (n k i : ℕ) (d first second : Expr) → Expr
@@ -95,7 +95,7 @@ valueOf (AbsoluteDifference signed accumulate) n k i d first second = absoluteDi
 valueOf (HighNarrow subtract rounding upper) n k i d first second = highNarrowLanes subtract rounding upper first second d n k
 
 abbrev pub neonValue : NeonShape → (d first second : Expr) → Expr
-neonValue s d first second = valueOf (s .op) (s .«lane_bits») (s .lanes) (s .«source_index») d first second
+neonValue s d first second = valueOf (s .op) (s .«lane_bits») (s .lanes) (s .«source_index» .0) d first second
 
 -- the term of an instruction
 unfoldable pub resultTree : Op → Arrangement → (i : ℕ) (d first second : Expr) → Expr

@@ -1,5 +1,6 @@
 // The kinds of the Rust's neon.rs and neon/arith.rs, as far as the 67 operations use them. The terms that the Rust builds from
 // them are in specs/.
+use neon::Lane;
 use terms::BinOp;
 
 // The range that a value is clamped into.
@@ -102,5 +103,5 @@ pub struct NeonShape {
     pub op: NeonOp,
     pub lane_bits: u64,
     pub lanes: u64,
-    pub source_index: u64,
+    pub source_index: Lane,
 }

@@ -24,10 +24,10 @@ most s = omega (arith, nodes-most (s .args .shape .«lane_bits») (s .args .shap
 
 -- the sources that it reads and what it asks of its lanes, once the operation is known to be op
 asked : (s : tie.Start) {op : NeonOp} → s .args .shape .op ≡ op → let a = s .args in
-    Ready (a .count) (a .second) (a .d) (a .shape .«lane_bits») (a .shape .lanes) (a .shape .«source_index») op
+    Ready (a .count) (a .second) (a .d) (a .shape .«lane_bits») (a .shape .lanes) (a .shape .«source_index» .0) op
 asked s e =
     let a = s .args in
-    ready (a .count) (a .second) (a .d) (a .shape .«lane_bits») (a .shape .lanes) (a .shape .«source_index») e
+    ready (a .count) (a .second) (a .d) (a .shape .«lane_bits») (a .shape .lanes) (a .shape .«source_index» .0) e
     (s .pre .1 .0 .1, s .pre .1 .0 .2, s .pre .1 .1 .4)
 
 -- ---- the calls
