@@ -1,10 +1,10 @@
 // The Rust's neon/lower.rs: neon_value, which hands an operation to the function of its family; and the lowering of a legal form.
-use lower_accumulate::difference::absolute_difference_lanes;
-use lower_accumulate::mixed::mixed_sign_add_lanes;
+use lower_absolute_difference::absolute_difference_lanes;
 use lower_bits::bitwise_unary_lanes;
 use lower_doubling::doubling_long_lanes;
 use lower_high::high_narrow_lanes;
 use lower_insert::shift_insert_lanes;
+use lower_mixed_sign_add::mixed_sign_add_lanes;
 use lower_saturating::saturating_lanes;
 use lower_shift::shift_lanes;
 use pool::Built;

@@ -1,9 +1,9 @@
-use Rattle.lower_accumulate.proofs.Summing.{difference-lane}
+use Rattle.lower_absolute_difference.proofs.Differing.{difference-lane}
 use borrow.Author.Needs.{needs}
-use Rattle.lower_accumulate.proofs.difference.absolute_difference_lane.Statement.{
+use Rattle.lower_absolute_difference.proofs.absolute_difference_lane.Statement.{
   statement,
 }
-use Rattle.lower_accumulate.proofs.difference.absolute_difference_lane.Tie as tie
+use Rattle.lower_absolute_difference.proofs.absolute_difference_lane.Tie as tie
 
 less-op-requires : tie.Need-less-op-requires
 less-op-requires c κs = search needs

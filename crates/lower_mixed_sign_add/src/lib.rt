@@ -1,4 +1,4 @@
-// The Rust's neon/lower/arith.rs: mixed_sign_add_lanes.
+// The Rust's neon/lower/arith.rs: mixed_sign_add_lanes, the sums of a signed and an unsigned number.
 use kinds::operators::mixed_to;
 use neon::Lane;
 use pool::Built;
@@ -10,7 +10,8 @@ ghost use Rattle.pool.specs.Growth.{Room};
 ghost use Rattle.trees.specs.Arith.{mixedAt, mixedSignAddLanes};
 ghost use Rattle.lower.specs.Builds.{Lowers, read, unread};
 
-// Lane `index` of the sum, at two bits more than a lane.
+// Lane `index` of the sum, at two bits more than a lane: a signed and an unsigned number of n bits reach 3 * 2^(n - 1) - 2 together, which is
+// above the signed numbers of n + 1 bits. There such a sum would be negative, and be clamped to the wrong end.
 fn mixed_at(
     pool: &mut [u64],
     count: usize,
@@ -55,6 +56,7 @@ fn mixed_at(
     )
 }
 
+// SUQADD and USQADD: the source is added to the old destination, whose sign is the other one.
 pub fn mixed_sign_add_lanes(
     pool: &mut [u64],
     count: usize,

@@ -1,4 +1,4 @@
-// The Rust's neon/lower/arith.rs: absolute_difference_lane and absolute_difference_lanes.
+// The Rust's neon/lower/arith.rs: absolute_difference_lane and absolute_difference_lanes, alone or added to the old destination.
 use kinds::operators::less_op;
 use neon::Lane;
 use pool::Built;
@@ -10,6 +10,7 @@ ghost use Rattle.pool.specs.Growth.{Room};
 ghost use Rattle.trees.specs.Arith.{differenceAt, absoluteDifferenceLane, absoluteDifferenceLanes};
 ghost use Rattle.lower.specs.Builds.{Builds2, Lowers, read, readIf, Below};
 
+// The lesser lane taken from the greater. A lane's bits hold the difference, read unsigned, so no more are needed.
 fn absolute_difference_lane(
     pool: &mut [u64],
     count: usize,
@@ -65,6 +66,7 @@ fn difference_at(
     difference
 }
 
+// SABD and UABD, SABA and UABA.
 pub fn absolute_difference_lanes(
     pool: &mut [u64],
     count: usize,

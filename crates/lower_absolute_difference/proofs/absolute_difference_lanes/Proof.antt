@@ -5,8 +5,8 @@ use mathlib.Core.List.{[]}
 use Rattle.lower.specs.Builds.{read, readIf}
 use Rattle.lower.proofs.Lanes.{LanesTo, LanesKept, lanes-first, lanes-more, lanes-all, room-first, room-lane, room-concat}
 use Rattle.trees.specs.Arith.{differenceAt, absoluteDifferenceLanes}
-use Rattle.lower_accumulate.proofs.difference.absolute_difference_lanes.Statement.{statement}
-use Rattle.lower_accumulate.proofs.difference.absolute_difference_lanes.Tie as tie
+use Rattle.lower_absolute_difference.proofs.absolute_difference_lanes.Statement.{statement}
+use Rattle.lower_absolute_difference.proofs.absolute_difference_lanes.Tie as tie
 
 abbrev Inv-loop : tie.InvT-loop
 Inv-loop pool₀ count signed accumulate first second d lane-bits lanes acc₀ i₀ pool acc i =

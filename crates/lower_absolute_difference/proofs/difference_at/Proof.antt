@@ -1,10 +1,10 @@
 use native.Mathlib.Omega.{arith}
-use Rattle.lower_accumulate.proofs.Summing.{difference-added}
-use Rattle.lower_accumulate.proofs.Summing.{difference-alone}
+use Rattle.lower_absolute_difference.proofs.Differing.{difference-added}
+use Rattle.lower_absolute_difference.proofs.Differing.{difference-alone}
 use Rattle.lower.proofs.Lanes.{lane-fits}
 use borrow.Author.Needs.{needs}
-use Rattle.lower_accumulate.proofs.difference.difference_at.Statement.{statement}
-use Rattle.lower_accumulate.proofs.difference.difference_at.Tie as tie
+use Rattle.lower_absolute_difference.proofs.difference_at.Statement.{statement}
+use Rattle.lower_absolute_difference.proofs.difference_at.Tie as tie
 
 extract-lane-requires : tie.Need-extract-lane-requires
 extract-lane-requires c κs =

@@ -1,9 +1,9 @@
 use native.Mathlib.Omega.{arith}
-use Rattle.lower_accumulate.proofs.Summing.{mixed-lane}
+use Rattle.lower_mixed_sign_add.proofs.Summing.{mixed-lane}
 use Rattle.lower.proofs.Lanes.{lane-fits}
 use borrow.Author.Needs.{needs}
-use Rattle.lower_accumulate.proofs.mixed.mixed_at.Statement.{statement}
-use Rattle.lower_accumulate.proofs.mixed.mixed_at.Tie as tie
+use Rattle.lower_mixed_sign_add.proofs.mixed_at.Statement.{statement}
+use Rattle.lower_mixed_sign_add.proofs.mixed_at.Tie as tie
 
 add-wide : tie.Need-add-wide
 add-wide c = search needs

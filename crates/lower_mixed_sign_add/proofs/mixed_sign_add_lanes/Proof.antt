@@ -5,8 +5,8 @@ use mathlib.Core.List.{[]}
 use Rattle.lower.specs.Builds.{read, unread}
 use Rattle.lower.proofs.Lanes.{LanesTo, LanesKept, lanes-first, lanes-more, lanes-all, room-first, room-lane, room-concat}
 use Rattle.trees.specs.Arith.{mixedAt, mixedSignAddLanes}
-use Rattle.lower_accumulate.proofs.mixed.mixed_sign_add_lanes.Statement.{statement}
-use Rattle.lower_accumulate.proofs.mixed.mixed_sign_add_lanes.Tie as tie
+use Rattle.lower_mixed_sign_add.proofs.mixed_sign_add_lanes.Statement.{statement}
+use Rattle.lower_mixed_sign_add.proofs.mixed_sign_add_lanes.Tie as tie
 
 abbrev Inv-loop : tie.InvT-loop
 Inv-loop pool₀ count destination-signed first d lane-bits lanes acc₀ i₀ pool acc i =
