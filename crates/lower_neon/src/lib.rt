@@ -22,6 +22,7 @@ ghost use Rattle.pool.specs.Growth.{Room};
 ghost use Rattle.lower.specs.Builds.{Lowers, Below, read, readIf, withLower};
 ghost use Rattle.lower_neon.specs.Family.{readsSecond, readsOld, keepsLower, oldWidth, firstWidth, secondWidth, FamilyIn};
 
+// The arms are in the Rust's order.
 pub fn neon_value(
     pool: &mut [u64],
     count: usize,
@@ -44,6 +45,11 @@ pub fn neon_value(
     let n = shape.lane_bits;
     let lanes = shape.lanes;
     match op {
+        NeonOp::Saturating {
+            kind,
+            signed_sources: signed,
+            upper,
+        } => { saturating_lanes(pool, count, kind, signed, upper, first, second, d, n, lanes) }
         NeonOp::Shift { kind, signed } => {
             shift_lanes(pool, count, kind, signed, first, second, n, lanes)
         }
@@ -72,11 +78,6 @@ pub fn neon_value(
                 lanes,
             )
         }
-        NeonOp::Saturating {
-            kind,
-            signed_sources: signed,
-            upper,
-        } => { saturating_lanes(pool, count, kind, signed, upper, first, second, d, n, lanes) }
         NeonOp::BitwiseUnary(kind) => bitwise_unary_lanes(pool, count, kind, first, n, lanes),
         NeonOp::AbsoluteDifference { signed, accumulate } => {
             absolute_difference_lanes(pool, count, signed, accumulate, first, second, d, n, lanes)

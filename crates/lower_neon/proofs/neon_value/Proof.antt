@@ -1,3 +1,4 @@
+-- neon_value: each arm meets what its family asks, and the family's answer is the shape's.
 use native.Mathlib.Omega.{arith}
 use mathlib.Core.Path.{_≡_, refl}
 use Prim.Native.Nat.{ℕ, _+_, _*_, _≤_}
@@ -35,57 +36,57 @@ asked s e =
 enum-known-op : tie.Need-enum-known-op
 enum-known-op c = search needs
 
+saturating-lanes-requires : tie.Need-saturating-lanes-requires
+saturating-lanes-requires c κs =
+    let k = c .before .before in
+    let s = k .before .before .before in
+    let p = s .pre .1 .1 in
+    let q = asked s (k .op .given .1) in
+    (room s (omega (arith, lanes s)), ((s .pre .1 .0 .0, q .0, q .1), (omega (arith, p .0), p .1, q .2 .0, p .2, q .2 .1, q .2 .2)))
+
+enum-known-op-2 : tie.Need-enum-known-op-2
+enum-known-op-2 c = search needs
+
 shift-lanes-requires : tie.Need-shift-lanes-requires
 shift-lanes-requires c κs =
     let k = c .before .before in
     let s = k .before .before .before in
     let p = s .pre .1 .1 in
-    let q = asked s (k .op .given .1) in
+    let q = asked s (k .op2 .given .1) in
     (room s (omega (arith, lanes s)), ((s .pre .1 .0 .0, q .0), (p .0, p .1, q .2, p .2, p .3)))
 
-enum-known-op-2 : tie.Need-enum-known-op-2
-enum-known-op-2 c = search needs
+enum-known-op-3 : tie.Need-enum-known-op-3
+enum-known-op-3 c = search needs
 
 shift-insert-lanes-requires : tie.Need-shift-insert-lanes-requires
 shift-insert-lanes-requires c κs =
     let k = c .before .before in
     let s = k .before .before .before in
     let p = s .pre .1 .1 in
-    let q = asked s (k .op2 .given .1) in
+    let q = asked s (k .op3 .given .1) in
     (room s (omega (arith, lanes s)), ((s .pre .1 .0 .0, q .1 refl, q .2), (omega (arith, p .0), p .1, p .2, p .3)))
 
-enum-known-op-3 : tie.Need-enum-known-op-3
-enum-known-op-3 c = search needs
+enum-known-op-4 : tie.Need-enum-known-op-4
+enum-known-op-4 c = search needs
 
 mixed-sign-add-lanes-requires : tie.Need-mixed-sign-add-lanes-requires
 mixed-sign-add-lanes-requires c κs =
     let k = c .before .before in
     let s = k .before .before .before in
     let p = s .pre .1 .1 in
-    let q = asked s (k .op3 .given .1) in
+    let q = asked s (k .op4 .given .1) in
     (room s (omega (arith, lanes s)), ((s .pre .1 .0 .0, q .1 refl), (omega (arith, p .0), p .1, p .2, p .3)))
 
-enum-known-op-4 : tie.Need-enum-known-op-4
-enum-known-op-4 c = search needs
+enum-known-op-5 : tie.Need-enum-known-op-5
+enum-known-op-5 c = search needs
 
 doubling-long-lanes-requires : tie.Need-doubling-long-lanes-requires
 doubling-long-lanes-requires c κs =
     let k = c .before .before in
     let s = k .before .before .before in
     let p = s .pre .1 .1 in
-    let q = asked s (k .op4 .given .1) in
-    (room s (omega (arith, lanes s)), ((s .pre .1 .0 .0, q .0 refl, q .1), (omega (arith, p .0), p .1, p .2, p .3, q .2)))
-
-enum-known-op-5 : tie.Need-enum-known-op-5
-enum-known-op-5 c = search needs
-
-saturating-lanes-requires : tie.Need-saturating-lanes-requires
-saturating-lanes-requires c κs =
-    let k = c .before .before in
-    let s = k .before .before .before in
-    let p = s .pre .1 .1 in
     let q = asked s (k .op5 .given .1) in
-    (room s (omega (arith, lanes s)), ((s .pre .1 .0 .0, q .0, q .1), (omega (arith, p .0), p .1, q .2 .0, p .2, q .2 .1, q .2 .2)))
+    (room s (omega (arith, lanes s)), ((s .pre .1 .0 .0, q .0 refl, q .1), (omega (arith, p .0), p .1, p .2, p .3, q .2)))
 
 enum-known-op-6 : tie.Need-enum-known-op-6
 enum-known-op-6 c = search needs
@@ -121,54 +122,54 @@ high-narrow-lanes-requires c κs =
 -- ---- the answers
 
 same-length : tie.Need-same-length
-same-length c = omega (arith, c .before .before .shift-lanes .ensures .sized)
+same-length c = omega (arith, c .before .before .saturating-lanes .ensures .sized)
 
 returns : tie.Need-returns
 returns c =
     let l = c .before .before in
     let k = l .before .before .before in
     let s = k .before .before .before in
-    rw (k .op .given .1) (within (omega (arith, lanes s)) (not-read (s .args .d) _) (as-is _) (as-is _) (l .shift-lanes .ensures))
+    rw (k .op .given .1) (within (omega (arith, lanes s)) (as-is _) (as-is _) (as-is _) (l .saturating-lanes .ensures))
 
 same-length-2 : tie.Need-same-length-2
-same-length-2 c = omega (arith, c .before .before .shift-insert-lanes .ensures .sized)
+same-length-2 c = omega (arith, c .before .before .shift-lanes .ensures .sized)
 
 returns-2 : tie.Need-returns-2
 returns-2 c =
     let l = c .before .before in
     let k = l .before .before .before in
     let s = k .before .before .before in
-    rw (k .op2 .given .1) (within (omega (arith, lanes s)) (as-is _) (as-is _) (not-read (s .args .second) _) (l .shift-insert-lanes .ensures))
+    rw (k .op2 .given .1) (within (omega (arith, lanes s)) (not-read (s .args .d) _) (as-is _) (as-is _) (l .shift-lanes .ensures))
 
 same-length-3 : tie.Need-same-length-3
-same-length-3 c = omega (arith, c .before .before .mixed-sign-add-lanes .ensures .sized)
+same-length-3 c = omega (arith, c .before .before .shift-insert-lanes .ensures .sized)
 
 returns-3 : tie.Need-returns-3
 returns-3 c =
     let l = c .before .before in
     let k = l .before .before .before in
     let s = k .before .before .before in
-    rw (k .op3 .given .1) (within (omega (arith, lanes s)) (as-is _) (as-is _) (not-read (s .args .second) _) (l .mixed-sign-add-lanes .ensures))
+    rw (k .op3 .given .1) (within (omega (arith, lanes s)) (as-is _) (as-is _) (not-read (s .args .second) _) (l .shift-insert-lanes .ensures))
 
 same-length-4 : tie.Need-same-length-4
-same-length-4 c = omega (arith, c .before .before .doubling-long-lanes .ensures .sized)
+same-length-4 c = omega (arith, c .before .before .mixed-sign-add-lanes .ensures .sized)
 
 returns-4 : tie.Need-returns-4
 returns-4 c =
     let l = c .before .before in
     let k = l .before .before .before in
     let s = k .before .before .before in
-    rw (k .op4 .given .1) (within (omega (arith, lanes s)) (as-is _) (as-is _) (as-is _) (l .doubling-long-lanes .ensures))
+    rw (k .op4 .given .1) (within (omega (arith, lanes s)) (as-is _) (as-is _) (not-read (s .args .second) _) (l .mixed-sign-add-lanes .ensures))
 
 same-length-5 : tie.Need-same-length-5
-same-length-5 c = omega (arith, c .before .before .saturating-lanes .ensures .sized)
+same-length-5 c = omega (arith, c .before .before .doubling-long-lanes .ensures .sized)
 
 returns-5 : tie.Need-returns-5
 returns-5 c =
     let l = c .before .before in
     let k = l .before .before .before in
     let s = k .before .before .before in
-    rw (k .op5 .given .1) (within (omega (arith, lanes s)) (as-is _) (as-is _) (as-is _) (l .saturating-lanes .ensures))
+    rw (k .op5 .given .1) (within (omega (arith, lanes s)) (as-is _) (as-is _) (as-is _) (l .doubling-long-lanes .ensures))
 
 same-length-6 : tie.Need-same-length-6
 same-length-6 c = omega (arith, c .before .before .bitwise-unary-lanes .ensures .sized)
@@ -205,15 +206,15 @@ neon-value-spec =
     tie.close
     (tie.spec
     enum-known-op
-    shift-lanes-requires
-    enum-known-op-2
-    shift-insert-lanes-requires
-    enum-known-op-3
-    mixed-sign-add-lanes-requires
-    enum-known-op-4
-    doubling-long-lanes-requires
-    enum-known-op-5
     saturating-lanes-requires
+    enum-known-op-2
+    shift-lanes-requires
+    enum-known-op-3
+    shift-insert-lanes-requires
+    enum-known-op-4
+    mixed-sign-add-lanes-requires
+    enum-known-op-5
+    doubling-long-lanes-requires
     enum-known-op-6
     bitwise-unary-lanes-requires
     enum-known-op-7
