@@ -1,5 +1,6 @@
 // The shape of an instruction: its family with the Rust's arguments, at its lanes.
-pub mod family;
+pub mod arith;
+pub mod width;
 
 use neon::Lane;
 use trees::NeonOp;
@@ -35,23 +36,33 @@ fn made_bits(operation: u64, full: bool) -> u64
     if full { 128 } else { 64 }
 }
 
+// The Rust asks its resolvers one after the other; here an operation's number says whose it is.
 fn neon_op(operation: u64, i: u64, upper: bool) -> NeonOp
     requires { ⌜ (1 ≤ operation) × (operation ≤ 67) ⌝ }
     ensures { λ r. ⌜ r ≡ neonOp (opAt operation) i upper ⌝ }
 {
     if operation < 17 {
-        return family::shift(operation, i);
+        return arith::shift_shape(operation, i);
     }
-    if operation < 27 {
-        return family::insert_or_sum(operation, i);
+    if operation < 19 {
+        return arith::shift_insert_shape(operation, i);
     }
-    if operation < 38 {
-        return family::narrow(operation, i, upper);
+    if operation < 42 {
+        return arith::saturating_shape(operation, i, upper);
     }
     if operation < 54 {
-        return family::unary_or_product(operation);
+        return arith::doubling_long_shape(operation);
     }
-    family::last(operation, upper)
+    if operation < 56 {
+        return arith::mixed_sign_add_shape(operation);
+    }
+    if operation < 60 {
+        return arith::absolute_difference_shape(operation);
+    }
+    if operation < 64 {
+        return arith::bitwise_unary_shape(operation);
+    }
+    width::high_narrow_shape(operation, upper)
 }
 
 pub fn shape(operation: u64, arrangement: u64, i: u64) -> NeonShape
