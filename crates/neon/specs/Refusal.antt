@@ -64,10 +64,14 @@ pub record Refusal : Type 0 where
 abbrev pub refusal : ℕ → ℕ → Refusal
 refusal k p = record { number = k; position = p }
 
+-- r where it refuses, else what follows: `unless`, with a position
+abbrev pub firstOf : Refusal → Refusal → Refusal
+firstOf r rest = cond (eqb (r .number) 0) rest r
+
 -- the first bad record's number and position, counted from p; 0 and 0 where all are accepted
 unfoldable pub recordsRefusal : ℕ → List Instruction → Refusal
 recordsRefusal p [] = refusal 0 0
-recordsRefusal p (c ∷ cs) = cond (eqb (recordNumber c) 0) (recordsRefusal (suc p) cs) (refusal (recordNumber c) p)
+recordsRefusal p (c ∷ cs) = firstOf (refusal (recordNumber c) p) (recordsRefusal (suc p) cs)
 
 -- 8: more records than a block may have; else what follows
 abbrev pub countNumber : (count rest : ℕ) → ℕ
@@ -77,9 +81,9 @@ countNumber count rest = unless (leb count mostRecords) 8 rest
 unfoldable pub sizeNumber : (places count : ℕ) → ℕ
 sizeNumber places count = countNumber count (unless (leb (32 + reserve * count) places) 6 0)
 
--- a block: the number of its size, where that is not 0, else its first bad record
+-- a block: the number of its size, then its first bad record
 abbrev pub refusalBy : (size : ℕ) → List Instruction → Refusal
-refusalBy size cs = cond (eqb size 0) (recordsRefusal 0 cs) (refusal size 0)
+refusalBy size cs = firstOf (refusal size 0) (recordsRefusal 0 cs)
 
 -- a block for a pool of so many places
 unfoldable pub blockRefusal : ℕ → List Instruction → Refusal

@@ -16,7 +16,7 @@ pub struct Instruction {
 pub struct Lane(pub u64);
 
 impl Lane {
-    // The largest right shift that the signed byte of a register shift can name.
+    // The largest right shift of a register form: its amount is a signed byte, -128 at the least, whatever the bits of a lane.
     pub const REGISTER_SHIFT_MAX: u64 = 128;
 
     pub fn first() -> Self
