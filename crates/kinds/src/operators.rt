@@ -8,7 +8,7 @@ ghost use Rattle.terms.specs.declared.BinOp.the-variants.{Add, Sub, Shl, LShr, 
 ghost use Rattle.terms.specs.declared.CmpOp.the-variants.{Slt, Ult};
 ghost use Rattle.trees.specs.declared.SaturateTo.the-variants.{Signed, SignedToUnsigned};
 
-// The right shift of a signed or an unsigned value.
+// The Rust's `shift_by`: the right shift of a signed or an unsigned value.
 pub fn shift_op(signed: bool) -> BinOp
     ensures { λ r. ⌜ r ≡ cond signed AShr LShr ⌝ }
 {

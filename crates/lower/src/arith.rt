@@ -62,7 +62,9 @@ fn clamp_below(
     nodes::extract(pool, at_most.count, at_most.node, Bit(narrow - 1), Bit(0))
 }
 
-// Brings `value`, computed at wide bits, into the range of narrow bits that `to` names.
+// Brings `value`, computed at wide bits, into the range of narrow bits that `to` names. The comparison goes by the sign of the value, not by
+// that of the range: a sum that is never negative is compared unsigned, but UQSUB's difference, which can be negative, signed, though its
+// range is an unsigned one.
 pub fn clamp(
     pool: &mut [u64],
     count: usize,

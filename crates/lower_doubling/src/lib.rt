@@ -21,7 +21,8 @@ pub enum Element {
     PerLane(Node),
 }
 
-// The product of two narrow elements, doubled at one bit above the destination's, and clamped.
+// The product of two narrow elements, doubled and clamped, at one bit above the destination's n: twice the square of the least element is
+// 2^(n - 1), one past the range and the only product that is. At n bits it would be the least number, which no clamp changes.
 fn doubling_product(pool: &mut [u64], count: usize, a: Node, b: Node, lane_bits: u64) -> Built
     requires { ⌜ Room (now pool) count 12 ⌝ }
     requires { ⌜ (a .0 < count) × (b .0 < count) × (2 ≤ «lane_bits») × («lane_bits» ≤ 64) ⌝ }
@@ -44,7 +45,7 @@ fn doubling_product(pool: &mut [u64], count: usize, a: Node, b: Node, lane_bits:
     )
 }
 
-// The product joined to the old destination's lane, under a second clamp.
+// The product, clamped already, joined to the old destination's lane under a second clamp: Arm saturates twice.
 fn combine_at(
     pool: &mut [u64],
     count: usize,

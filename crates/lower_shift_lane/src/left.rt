@@ -15,7 +15,7 @@ ghost use Rattle.trees.specs.declared.SaturateTo.{SaturateTo};
 ghost use Rattle.trees.specs.Arith.{shiftBound, saturatingShiftLeft, leftImmediate, leftBy};
 ghost use Rattle.lower.specs.Builds.{Builds1, Builds2};
 
-// The end of the range that a saturating left shift clamps to.
+// The end of the range that a saturating left shift clamps to: the one on the side of its sign.
 fn shift_bound(pool: &mut [u64], count: usize, value: Node, lane_bits: u64, signed: bool) -> Built
     requires { ⌜ Room (now pool) count 5 ⌝ }
     requires { ⌜ (value .0 < count) × (1 ≤ «lane_bits») × («lane_bits» ≤ 64) ⌝ }
@@ -32,6 +32,9 @@ fn shift_bound(pool: &mut [u64], count: usize, value: Node, lane_bits: u64, sign
     nodes::konst(pool, count, lower::unsigned_max(lane_bits), 0, lane_bits)
 }
 
+// A left shift that clamps. A shift back, which goes by the value's sign, restores the value just where no bit of it was lost; so too for an
+// amount of a lane's bits or more, which only 0 survives, and only 0 does not saturate. The exact product is not built: the amount may be
+// in a register, and the product then has no width that is known.
 pub fn saturating_shift_left(
     pool: &mut [u64],
     count: usize,
@@ -53,7 +56,8 @@ pub fn saturating_shift_left(
     nodes::ite(pool, bound.count, same.node, shifted.node, bound.node)
 }
 
-// SQSHLU: the exact product, clamped into the unsigned range.
+// SQSHLU: the exact product, clamped into the unsigned range. The shift back says nothing here: it would leave a negative value as it is. One
+// bit more than the product has keeps the upper bound positive where it is compared signed.
 fn exact_shift_left(
     pool: &mut [u64],
     count: usize,

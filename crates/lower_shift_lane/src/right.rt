@@ -12,7 +12,7 @@ ghost use Rattle.pool.specs.Growth.{Room};
 ghost use Rattle.trees.specs.Arith.{roundingBits, shiftRight};
 ghost use Rattle.lower.specs.Builds.{Builds2};
 
-// The width of a rounding shift's sum: one bit above the lane and the largest amount.
+// The width of a rounding shift's sum: one bit above the lane and the largest amount, so that the half that is added stands below the sign.
 fn rounding_bits(lane_bits: u64, max_shift: u64) -> u64
     requires { ⌜ («lane_bits» ≤ 64) × («max_shift» ≤ 128) ⌝ }
     ensures { λ r. ⌜ (r ≡ roundingBits «lane_bits» «max_shift») × («lane_bits» + 1 ≤ r) × («max_shift» + 1 ≤ r) × (r ≤ 129) ⌝ }
@@ -23,7 +23,7 @@ fn rounding_bits(lane_bits: u64, max_shift: u64) -> u64
     lane_bits + 1
 }
 
-// A right shift that adds half a unit before the low bits are dropped.
+// A right shift that adds half a unit before the low bits are dropped; at the width of a lane that sum could carry out of it.
 fn shift_right_rounding(
     pool: &mut [u64],
     count: usize,
