@@ -115,7 +115,8 @@ doubled-one : {w0 w1 w2 w3 w4 : List ℕ} {k : ℕ} {r1 r2 r3 r4 : Built} {first
     → MadeElement w1 (r1 .count) w2 r2 (One value) (n / 2) lane
     → Builds2 w2 (r2 .count) w3 r3 12 (r1 .node) (n / 2) (r2 .node) (n / 2) n (λ a b. doublingProduct a b n) ((r1 .node) .0 ∷ (r2 .node) .0 ∷ [])
     → Lowers w3 (r3 .count) w4 r4 11 n (readIf (accumulates combine) d (n * lanes)) (read (r3 .node) n) unread (λ d p b. combinedAt combine n d p j) ((r3 .node) .0 ∷ [])
-    → Lowers w0 k w4 r4 25 n (readIf (accumulates combine) d (n * lanes)) (read first (factorBits upper n lanes)) (elementSource (One value) (n / 2) (factorBits upper n lanes)) (λ d a b. doubledAt combine (One value) upper n lanes d a b j) (elementNodes (One value))
+    → Lowers w0 k w4 r4 25 n (readIf (accumulates combine) d (n * lanes)) (read first (factorBits upper n lanes)) (elementSource (One value) (n / 2) (factorBits upper n lanes))
+    (λ d a b. doubledAt combine (One value) upper n lanes d a b j) (elementNodes (One value))
 unfolding doublingLongLane
 doubled-one {first = first} {value = value} {n = n} {lanes = lanes} {j = j} {lane = lane} combine upper h e e1 e2 e3 e4 =
     let fits : n / 2 * lane + n / 2 ≤ factorBits upper n lanes = factor-fits upper n lanes h e in
@@ -137,7 +138,8 @@ doubled-per-lane : {w0 w1 w2 w3 w4 : List ℕ} {k : ℕ} {r1 r2 r3 r4 : Built} {
     → MadeElement w1 (r1 .count) w2 r2 (PerLane vector) (n / 2) lane
     → Builds2 w2 (r2 .count) w3 r3 12 (r1 .node) (n / 2) (r2 .node) (n / 2) n (λ a b. doublingProduct a b n) ((r1 .node) .0 ∷ (r2 .node) .0 ∷ [])
     → Lowers w3 (r3 .count) w4 r4 11 n (readIf (accumulates combine) d (n * lanes)) (read (r3 .node) n) unread (λ d p b. combinedAt combine n d p j) ((r3 .node) .0 ∷ [])
-    → Lowers w0 k w4 r4 25 n (readIf (accumulates combine) d (n * lanes)) (read first (factorBits upper n lanes)) (elementSource (PerLane vector) (n / 2) (factorBits upper n lanes)) (λ d a b. doubledAt combine (PerLane vector) upper n lanes d a b j) (elementNodes (PerLane vector))
+    → Lowers w0 k w4 r4 25 n (readIf (accumulates combine) d (n * lanes)) (read first (factorBits upper n lanes)) (elementSource (PerLane vector) (n / 2) (factorBits upper n lanes))
+    (λ d a b. doubledAt combine (PerLane vector) upper n lanes d a b j) (elementNodes (PerLane vector))
 unfolding doublingLongLane
 doubled-per-lane {first = first} {vector = vector} {n = n} {lanes = lanes} {j = j} {lane = lane} combine upper h e e1 e2 e3 e4 =
     let fits : n / 2 * lane + n / 2 ≤ factorBits upper n lanes = factor-fits upper n lanes h e in
@@ -168,8 +170,10 @@ pub by-element : {w0 w1 w2 : List ℕ} {k : ℕ} {r1 r2 : Built} {first second d
     → n / 2 * i + n / 2 ≤ 128
     → byElement ≡ true
     → MadeLane w0 k w1 r1 second (n / 2) i
-    → Lowers w1 (r1 .count) w2 r2 (26 * lanes) (n * lanes) (readIf (accumulates combine) d (n * lanes)) (read first (factorBits upper n lanes)) (elementSource (One (r1 .node)) (n / 2) (factorBits upper n lanes)) (λ d a b. concatLanes (lanes - 1) (doubledAt combine (One (r1 .node)) upper n lanes d a b)) (elementNodes (One (r1 .node)))
-    → Lowers w0 k w2 r2 (26 * lanes + 1) (n * lanes) (readIf (accumulates combine) d (n * lanes)) (read first (factorBits upper n lanes)) (read second (secondFactorBits byElement upper n lanes)) (λ d a b. doublingLongLanes combine upper byElement i a b d n lanes) []
+    → Lowers w1 (r1 .count) w2 r2 (26 * lanes) (n * lanes) (readIf (accumulates combine) d (n * lanes)) (read first (factorBits upper n lanes))
+    (elementSource (One (r1 .node)) (n / 2) (factorBits upper n lanes)) (λ d a b. concatLanes (lanes - 1) (doubledAt combine (One (r1 .node)) upper n lanes d a b)) (elementNodes (One (r1 .node)))
+    → Lowers w0 k w2 r2 (26 * lanes + 1) (n * lanes) (readIf (accumulates combine) d (n * lanes)) (read first (factorBits upper n lanes))
+    (read second (secondFactorBits byElement upper n lanes)) (λ d a b. doublingLongLanes combine upper byElement i a b d n lanes) []
 unfolding doublingLongLane doublingLongLanes
 by-element {second = second} n lanes i combine upper byElement h q e1 e2 =
     rw q
@@ -182,7 +186,9 @@ by-element {second = second} n lanes i combine upper byElement h q e1 e2 =
     })
 
 pub by-lane : {w0 w1 : List ℕ} {k : ℕ} {r : Built} {first second d : Node} (n lanes i : ℕ) (combine : Combine) (upper byElement : Bool) → byElement ≡ false
-    → Lowers w0 k w1 r (26 * lanes) (n * lanes) (readIf (accumulates combine) d (n * lanes)) (read first (factorBits upper n lanes)) (elementSource (PerLane second) (n / 2) (factorBits upper n lanes)) (λ d a b. concatLanes (lanes - 1) (doubledAt combine (PerLane second) upper n lanes d a b)) (elementNodes (PerLane second))
-    → Lowers w0 k w1 r (26 * lanes + 1) (n * lanes) (readIf (accumulates combine) d (n * lanes)) (read first (factorBits upper n lanes)) (read second (secondFactorBits byElement upper n lanes)) (λ d a b. doublingLongLanes combine upper byElement i a b d n lanes) []
+    → Lowers w0 k w1 r (26 * lanes) (n * lanes) (readIf (accumulates combine) d (n * lanes)) (read first (factorBits upper n lanes))
+    (elementSource (PerLane second) (n / 2) (factorBits upper n lanes)) (λ d a b. concatLanes (lanes - 1) (doubledAt combine (PerLane second) upper n lanes d a b)) (elementNodes (PerLane second))
+    → Lowers w0 k w1 r (26 * lanes + 1) (n * lanes) (readIf (accumulates combine) d (n * lanes)) (read first (factorBits upper n lanes))
+    (read second (secondFactorBits byElement upper n lanes)) (λ d a b. doublingLongLanes combine upper byElement i a b d n lanes) []
 unfolding doublingLongLane doublingLongLanes
 by-lane n lanes i combine upper byElement q e = rw q (record { sized = omega (arith, e .sized); made = λ v x y z. e .made v x y z })

@@ -131,7 +131,8 @@ fn doubling_at(
     requires { ⌜ (first .0 < count) × (elementNode second < count) × Below (readIf (accumulates combine) d 0) count ⌝ }
     requires { ⌜ (2 ≤ «lane_bits») × («lane_bits» ≤ 64) × (index .0 < lanes) × («lane_bits» * lanes ≤ 128) ⌝ }
     ensures { λ r. ⌜ Lowers (now (pool .entry)) count (now (pool .exit)) r 25 «lane_bits» (readIf (accumulates combine) d («lane_bits» * lanes))
-        (read first (factorBits upper «lane_bits» lanes)) (elementSource second («lane_bits» / 2) (factorBits upper «lane_bits» lanes)) (λ d a b. doubledAt combine second upper «lane_bits» lanes d a b (index .0))
+        (read first (factorBits upper «lane_bits» lanes)) (elementSource second («lane_bits» / 2) (factorBits upper «lane_bits» lanes))
+        (λ d a b. doubledAt combine second upper «lane_bits» lanes d a b (index .0))
         (elementNodes second) ⌝ }
 {
     let narrow = lane_bits / 2;

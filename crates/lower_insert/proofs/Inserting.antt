@@ -68,7 +68,8 @@ pub inserted-all : {w0 w1 w2 : List ℕ} {k : ℕ} {r1 r2 : Built} {first d : No
     → shift ≤ n
     → kept ≡ keptBits left n shift
     → MadeConst w0 k w1 r1 shift 0 n
-    → Lowers w1 (r1 .count) w2 r2 (7 * lanes) (n * lanes) (read d (n * lanes)) (read first (n * lanes)) (read (r1 .node) n) (λ d a s. concatLanes (lanes - 1) (insertAt left kept n d a s)) ((r1 .node) .0 ∷ [])
+    → Lowers w1 (r1 .count) w2 r2 (7 * lanes) (n * lanes) (read d (n * lanes)) (read first (n * lanes)) (read (r1 .node) n)
+    (λ d a s. concatLanes (lanes - 1) (insertAt left kept n d a s)) ((r1 .node) .0 ∷ [])
     → Lowers w0 k w2 r2 (7 * lanes + 1) (n * lanes) (read d (n * lanes)) (read first (n * lanes)) unread (λ d a b. shiftInsertLanes left shift a d n lanes) []
 unfolding shiftInsertLane shiftInsertLanes
 inserted-all {n = n} {shift = shift} left lanes l m h e e1 e2 =

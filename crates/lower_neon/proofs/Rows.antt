@@ -6,7 +6,7 @@ use native.Mathlib.Omega.{arith}
 use lib.Dec.{leb}
 use borrow.Author.Tests.{leb-true}
 use Rattle.facts.proofs.Tests.{and-both}
-use Rattle.neon.specs.Op.{Op, Arrangement, laneBits, full, bitsIf, view, SHL, SQSHLI, UQSHLI, SQSHLU, SSHR, USHR, SRSHR, URSHR, SSHL, USHL, SRSHL, URSHL, SQSHL, UQSHL, SQRSHL, UQRSHL, SLI, SRI, SQADD, UQADD, SQSUB, UQSUB, SHADD, UHADD, SRHADD, URHADD, SQXTN, UQXTN, SQXTUN, SHRN, RSHRN, SQSHRN, SQRSHRN, UQSHRN, UQRSHRN, SQSHRUN, SQRSHRUN, SQABS, SQNEG, SQDMULH, SQRDMULH, SQDMULL, SQDMLAL, SQDMLSL, SQDMULL2, SQDMLAL2, SQDMLSL2, SQDMULLE, SQDMLALE, SQDMLSLE, SQDMULL2E, SQDMLAL2E, SQDMLSL2E, SUQADD, USQADD, SABD, UABD, SABA, UABA, CNT, CLZ, CLS, RBIT, ADDHN, RADDHN, SUBHN, RSUBHN}
+use Rattle.neon.specs.Op.{Op, Arrangement, laneBits, full, bitsIf, view}
 use Rattle.neon.specs.Form.{Same, Long, Element, hasForm, least, most, hasSecond, readsD, firstBits, secondBits, laneCount}
 use Rattle.neon.proofs.Geometry.{sized, filled, by-half, second-in}
 use Rattle.trees.specs.Neon.{neonOp}
@@ -52,11 +52,17 @@ module _ (v : Arrangement) where
   narrow-source : laneBits v * 2 * (64 / laneBits v) ≡ 128
   narrow-source = omega (arith, half)
 
+  narrow-le : laneBits v * 2 * (64 / laneBits v) ≤ 128
+  narrow-le = omega (arith, half)
+
+  half-le : (upper : full v ≡ true) → laneBits v * (64 / laneBits v) ≤ 64
+  half-le upper = omega (arith, half)
+
   -- factors of half the bits are one half of a full view
   factors : full v ≡ true → laneBits v / 2 * (view v / laneBits v) ≡ 64
   factors e =
-      let whole : view v ≡ 128 = rw e refl in
-      omega (arith, same, whole, ap (λ (t : ℕ). t * (view v / laneBits v)) (sized v .even))
+      let all : view v ≡ 128 = rw e refl in
+      omega (arith, same, all, ap (λ (t : ℕ). t * (view v / laneBits v)) (sized v .even))
 
   long-first : (u : Bool) → full v ≡ true → factorBits u (laneBits v) (view v / laneBits v) ≡ bitsIf u
   long-first true e = omega (arith, factors e)
@@ -83,74 +89,99 @@ small v h = leb-true _ _ h
 middle : (v : Arrangement) → (leb 16 (laneBits v) && leb (laneBits v) 32) ≡ true → laneBits v ≤ 32
 middle v h = leb-true _ _ (and-both (leb 16 (laneBits v)) (leb (laneBits v) 32) h .1)
 
-whole : (v : Arrangement) → (leb 32 (laneBits v) && full v) ≡ true → full v ≡ true
-whole v h = and-both (leb 32 (laneBits v)) (full v) h .1
+all : (v : Arrangement) → (leb 32 (laneBits v) && full v) ≡ true → full v ≡ true
+all v h = and-both (leb 32 (laneBits v)) (full v) h .1
 
 pub row : (o : Op) (v : Arrangement) (i : ℕ) → hasForm o v ≡ true → least o ≤ i → i ≤ most o (laneBits v) → Row o v i
-row SHL v i h l m = record { second = refl; old = refl; wide = same v; old-wide = never; first-wide = same v; second-wide = never; in-row = omega (arith, m, sized v .eight) }
-row SQSHLI v i h l m = record { second = refl; old = refl; wide = same v; old-wide = never; first-wide = same v; second-wide = never; in-row = omega (arith, m, sized v .eight) }
-row UQSHLI v i h l m = record { second = refl; old = refl; wide = same v; old-wide = never; first-wide = same v; second-wide = never; in-row = omega (arith, m, sized v .eight) }
-row SQSHLU v i h l m = record { second = refl; old = refl; wide = same v; old-wide = never; first-wide = same v; second-wide = never; in-row = omega (arith, m, sized v .eight) }
-row SSHR v i h l m = record { second = refl; old = refl; wide = same v; old-wide = never; first-wide = same v; second-wide = never; in-row = (l, m) }
-row USHR v i h l m = record { second = refl; old = refl; wide = same v; old-wide = never; first-wide = same v; second-wide = never; in-row = (l, m) }
-row SRSHR v i h l m = record { second = refl; old = refl; wide = same v; old-wide = never; first-wide = same v; second-wide = never; in-row = (l, m) }
-row URSHR v i h l m = record { second = refl; old = refl; wide = same v; old-wide = never; first-wide = same v; second-wide = never; in-row = (l, m) }
-row SSHL v i h l m = record { second = refl; old = refl; wide = same v; old-wide = never; first-wide = same v; second-wide = λ e. same v; in-row = tt }
-row USHL v i h l m = record { second = refl; old = refl; wide = same v; old-wide = never; first-wide = same v; second-wide = λ e. same v; in-row = tt }
-row SRSHL v i h l m = record { second = refl; old = refl; wide = same v; old-wide = never; first-wide = same v; second-wide = λ e. same v; in-row = tt }
-row URSHL v i h l m = record { second = refl; old = refl; wide = same v; old-wide = never; first-wide = same v; second-wide = λ e. same v; in-row = tt }
-row SQSHL v i h l m = record { second = refl; old = refl; wide = same v; old-wide = never; first-wide = same v; second-wide = λ e. same v; in-row = tt }
-row UQSHL v i h l m = record { second = refl; old = refl; wide = same v; old-wide = never; first-wide = same v; second-wide = λ e. same v; in-row = tt }
-row SQRSHL v i h l m = record { second = refl; old = refl; wide = same v; old-wide = never; first-wide = same v; second-wide = λ e. same v; in-row = tt }
-row UQRSHL v i h l m = record { second = refl; old = refl; wide = same v; old-wide = never; first-wide = same v; second-wide = λ e. same v; in-row = tt }
-row SLI v i h l m = record { second = refl; old = refl; wide = same v; old-wide = λ e. same v; first-wide = same v; second-wide = never; in-row = omega (arith, m) }
-row SRI v i h l m = record { second = refl; old = refl; wide = same v; old-wide = λ e. same v; first-wide = same v; second-wide = never; in-row = m }
-row SQADD v i h l m = record { second = refl; old = refl; wide = same v; old-wide = never; first-wide = same v; second-wide = λ e. same v; in-row = (sized v .most, same-le v, never) }
-row UQADD v i h l m = record { second = refl; old = refl; wide = same v; old-wide = never; first-wide = same v; second-wide = λ e. same v; in-row = (sized v .most, same-le v, never) }
-row SQSUB v i h l m = record { second = refl; old = refl; wide = same v; old-wide = never; first-wide = same v; second-wide = λ e. same v; in-row = (sized v .most, same-le v, never) }
-row UQSUB v i h l m = record { second = refl; old = refl; wide = same v; old-wide = never; first-wide = same v; second-wide = λ e. same v; in-row = (sized v .most, same-le v, never) }
-row SHADD v i h l m = record { second = refl; old = refl; wide = same v; old-wide = never; first-wide = same v; second-wide = λ e. same v; in-row = (sized v .most, same-le v, never) }
-row UHADD v i h l m = record { second = refl; old = refl; wide = same v; old-wide = never; first-wide = same v; second-wide = λ e. same v; in-row = (sized v .most, same-le v, never) }
-row SRHADD v i h l m = record { second = refl; old = refl; wide = same v; old-wide = never; first-wide = same v; second-wide = λ e. same v; in-row = (sized v .most, same-le v, never) }
-row URHADD v i h l m = record { second = refl; old = refl; wide = same v; old-wide = never; first-wide = same v; second-wide = λ e. same v; in-row = (sized v .most, same-le v, never) }
-row SQXTN v i h l m = record { second = refl; old = refl; wide = narrow-wide v; old-wide = narrow-old v; first-wide = narrow-source v; second-wide = never; in-row = (small v h, omega (arith, half v), λ e. omega (arith, half v)) }
-row UQXTN v i h l m = record { second = refl; old = refl; wide = narrow-wide v; old-wide = narrow-old v; first-wide = narrow-source v; second-wide = never; in-row = (small v h, omega (arith, half v), λ e. omega (arith, half v)) }
-row SQXTUN v i h l m = record { second = refl; old = refl; wide = narrow-wide v; old-wide = narrow-old v; first-wide = narrow-source v; second-wide = never; in-row = (small v h, omega (arith, half v), λ e. omega (arith, half v)) }
-row SHRN v i h l m = record { second = refl; old = refl; wide = narrow-wide v; old-wide = narrow-old v; first-wide = narrow-source v; second-wide = never; in-row = ((small v h, l, m), omega (arith, half v), λ e. omega (arith, half v)) }
-row RSHRN v i h l m = record { second = refl; old = refl; wide = narrow-wide v; old-wide = narrow-old v; first-wide = narrow-source v; second-wide = never; in-row = ((small v h, l, m), omega (arith, half v), λ e. omega (arith, half v)) }
-row SQSHRN v i h l m = record { second = refl; old = refl; wide = narrow-wide v; old-wide = narrow-old v; first-wide = narrow-source v; second-wide = never; in-row = ((small v h, l, m), omega (arith, half v), λ e. omega (arith, half v)) }
-row SQRSHRN v i h l m = record { second = refl; old = refl; wide = narrow-wide v; old-wide = narrow-old v; first-wide = narrow-source v; second-wide = never; in-row = ((small v h, l, m), omega (arith, half v), λ e. omega (arith, half v)) }
-row UQSHRN v i h l m = record { second = refl; old = refl; wide = narrow-wide v; old-wide = narrow-old v; first-wide = narrow-source v; second-wide = never; in-row = ((small v h, l, m), omega (arith, half v), λ e. omega (arith, half v)) }
-row UQRSHRN v i h l m = record { second = refl; old = refl; wide = narrow-wide v; old-wide = narrow-old v; first-wide = narrow-source v; second-wide = never; in-row = ((small v h, l, m), omega (arith, half v), λ e. omega (arith, half v)) }
-row SQSHRUN v i h l m = record { second = refl; old = refl; wide = narrow-wide v; old-wide = narrow-old v; first-wide = narrow-source v; second-wide = never; in-row = ((small v h, l, m), omega (arith, half v), λ e. omega (arith, half v)) }
-row SQRSHRUN v i h l m = record { second = refl; old = refl; wide = narrow-wide v; old-wide = narrow-old v; first-wide = narrow-source v; second-wide = never; in-row = ((small v h, l, m), omega (arith, half v), λ e. omega (arith, half v)) }
-row SQABS v i h l m = record { second = refl; old = refl; wide = same v; old-wide = never; first-wide = same v; second-wide = never; in-row = (sized v .most, same-le v, never) }
-row SQNEG v i h l m = record { second = refl; old = refl; wide = same v; old-wide = never; first-wide = same v; second-wide = never; in-row = (sized v .most, same-le v, never) }
-row SQDMULH v i h l m = record { second = refl; old = refl; wide = same v; old-wide = never; first-wide = same v; second-wide = λ e. same v; in-row = (middle v h, same-le v, never) }
-row SQRDMULH v i h l m = record { second = refl; old = refl; wide = same v; old-wide = never; first-wide = same v; second-wide = λ e. same v; in-row = (middle v h, same-le v, never) }
-row SQDMULL v i h l m = record { second = refl; old = refl; wide = same v; old-wide = never; first-wide = long-first v false (whole v h); second-wide = λ e. long-second v false (whole v h); in-row = no-element v i m }
-row SQDMLAL v i h l m = record { second = refl; old = refl; wide = same v; old-wide = λ e. same v; first-wide = long-first v false (whole v h); second-wide = λ e. long-second v false (whole v h); in-row = no-element v i m }
-row SQDMLSL v i h l m = record { second = refl; old = refl; wide = same v; old-wide = λ e. same v; first-wide = long-first v false (whole v h); second-wide = λ e. long-second v false (whole v h); in-row = no-element v i m }
-row SQDMULL2 v i h l m = record { second = refl; old = refl; wide = same v; old-wide = never; first-wide = long-first v true (whole v h); second-wide = λ e. long-second v true (whole v h); in-row = no-element v i m }
-row SQDMLAL2 v i h l m = record { second = refl; old = refl; wide = same v; old-wide = λ e. same v; first-wide = long-first v true (whole v h); second-wide = λ e. long-second v true (whole v h); in-row = no-element v i m }
-row SQDMLSL2 v i h l m = record { second = refl; old = refl; wide = same v; old-wide = λ e. same v; first-wide = long-first v true (whole v h); second-wide = λ e. long-second v true (whole v h); in-row = no-element v i m }
-row SQDMULLE v i h l m = record { second = refl; old = refl; wide = same v; old-wide = never; first-wide = long-first v false (whole v h); second-wide = λ e. refl; in-row = element v i m }
-row SQDMLALE v i h l m = record { second = refl; old = refl; wide = same v; old-wide = λ e. same v; first-wide = long-first v false (whole v h); second-wide = λ e. refl; in-row = element v i m }
-row SQDMLSLE v i h l m = record { second = refl; old = refl; wide = same v; old-wide = λ e. same v; first-wide = long-first v false (whole v h); second-wide = λ e. refl; in-row = element v i m }
-row SQDMULL2E v i h l m = record { second = refl; old = refl; wide = same v; old-wide = never; first-wide = long-first v true (whole v h); second-wide = λ e. refl; in-row = element v i m }
-row SQDMLAL2E v i h l m = record { second = refl; old = refl; wide = same v; old-wide = λ e. same v; first-wide = long-first v true (whole v h); second-wide = λ e. refl; in-row = element v i m }
-row SQDMLSL2E v i h l m = record { second = refl; old = refl; wide = same v; old-wide = λ e. same v; first-wide = long-first v true (whole v h); second-wide = λ e. refl; in-row = element v i m }
-row SUQADD v i h l m = record { second = refl; old = refl; wide = same v; old-wide = λ e. same v; first-wide = same v; second-wide = never; in-row = tt }
-row USQADD v i h l m = record { second = refl; old = refl; wide = same v; old-wide = λ e. same v; first-wide = same v; second-wide = never; in-row = tt }
-row SABD v i h l m = record { second = refl; old = refl; wide = same v; old-wide = never; first-wide = same v; second-wide = λ e. same v; in-row = tt }
-row UABD v i h l m = record { second = refl; old = refl; wide = same v; old-wide = never; first-wide = same v; second-wide = λ e. same v; in-row = tt }
-row SABA v i h l m = record { second = refl; old = refl; wide = same v; old-wide = λ e. same v; first-wide = same v; second-wide = λ e. same v; in-row = tt }
-row UABA v i h l m = record { second = refl; old = refl; wide = same v; old-wide = λ e. same v; first-wide = same v; second-wide = λ e. same v; in-row = tt }
-row CNT v i h l m = record { second = refl; old = refl; wide = same v; old-wide = never; first-wide = same v; second-wide = never; in-row = tt }
-row CLZ v i h l m = record { second = refl; old = refl; wide = same v; old-wide = never; first-wide = same v; second-wide = never; in-row = tt }
-row CLS v i h l m = record { second = refl; old = refl; wide = same v; old-wide = never; first-wide = same v; second-wide = never; in-row = tt }
-row RBIT v i h l m = record { second = refl; old = refl; wide = same v; old-wide = never; first-wide = same v; second-wide = never; in-row = tt }
-row ADDHN v i h l m = record { second = refl; old = refl; wide = narrow-wide v; old-wide = narrow-old v; first-wide = narrow-source v; second-wide = λ e. narrow-source v; in-row = (small v h, omega (arith, half v)) }
-row RADDHN v i h l m = record { second = refl; old = refl; wide = narrow-wide v; old-wide = narrow-old v; first-wide = narrow-source v; second-wide = λ e. narrow-source v; in-row = (small v h, omega (arith, half v)) }
-row SUBHN v i h l m = record { second = refl; old = refl; wide = narrow-wide v; old-wide = narrow-old v; first-wide = narrow-source v; second-wide = λ e. narrow-source v; in-row = (small v h, omega (arith, half v)) }
-row RSUBHN v i h l m = record { second = refl; old = refl; wide = narrow-wide v; old-wide = narrow-old v; first-wide = narrow-source v; second-wide = λ e. narrow-source v; in-row = (small v h, omega (arith, half v)) }
+row Op.SHL v i h l m = record { second = refl; old = refl; wide = same v; old-wide = never; first-wide = same v; second-wide = never; in-row = omega (arith, m, sized v .eight) }
+row Op.SQSHLI v i h l m = record { second = refl; old = refl; wide = same v; old-wide = never; first-wide = same v; second-wide = never; in-row = omega (arith, m, sized v .eight) }
+row Op.UQSHLI v i h l m = record { second = refl; old = refl; wide = same v; old-wide = never; first-wide = same v; second-wide = never; in-row = omega (arith, m, sized v .eight) }
+row Op.SQSHLU v i h l m = record { second = refl; old = refl; wide = same v; old-wide = never; first-wide = same v; second-wide = never; in-row = omega (arith, m, sized v .eight) }
+row Op.SSHR v i h l m = record { second = refl; old = refl; wide = same v; old-wide = never; first-wide = same v; second-wide = never; in-row = (l, m) }
+row Op.USHR v i h l m = record { second = refl; old = refl; wide = same v; old-wide = never; first-wide = same v; second-wide = never; in-row = (l, m) }
+row Op.SRSHR v i h l m = record { second = refl; old = refl; wide = same v; old-wide = never; first-wide = same v; second-wide = never; in-row = (l, m) }
+row Op.URSHR v i h l m = record { second = refl; old = refl; wide = same v; old-wide = never; first-wide = same v; second-wide = never; in-row = (l, m) }
+row Op.SSHL v i h l m = record { second = refl; old = refl; wide = same v; old-wide = never; first-wide = same v; second-wide = λ e. same v; in-row = tt }
+row Op.USHL v i h l m = record { second = refl; old = refl; wide = same v; old-wide = never; first-wide = same v; second-wide = λ e. same v; in-row = tt }
+row Op.SRSHL v i h l m = record { second = refl; old = refl; wide = same v; old-wide = never; first-wide = same v; second-wide = λ e. same v; in-row = tt }
+row Op.URSHL v i h l m = record { second = refl; old = refl; wide = same v; old-wide = never; first-wide = same v; second-wide = λ e. same v; in-row = tt }
+row Op.SQSHL v i h l m = record { second = refl; old = refl; wide = same v; old-wide = never; first-wide = same v; second-wide = λ e. same v; in-row = tt }
+row Op.UQSHL v i h l m = record { second = refl; old = refl; wide = same v; old-wide = never; first-wide = same v; second-wide = λ e. same v; in-row = tt }
+row Op.SQRSHL v i h l m = record { second = refl; old = refl; wide = same v; old-wide = never; first-wide = same v; second-wide = λ e. same v; in-row = tt }
+row Op.UQRSHL v i h l m = record { second = refl; old = refl; wide = same v; old-wide = never; first-wide = same v; second-wide = λ e. same v; in-row = tt }
+row Op.SLI v i h l m = record { second = refl; old = refl; wide = same v; old-wide = λ e. same v; first-wide = same v; second-wide = never; in-row = omega (arith, m) }
+row Op.SRI v i h l m = record { second = refl; old = refl; wide = same v; old-wide = λ e. same v; first-wide = same v; second-wide = never; in-row = m }
+row Op.SQADD v i h l m = record { second = refl; old = refl; wide = same v; old-wide = never; first-wide = same v; second-wide = λ e. same v; in-row = (sized v .most, same-le v, never) }
+row Op.UQADD v i h l m = record { second = refl; old = refl; wide = same v; old-wide = never; first-wide = same v; second-wide = λ e. same v; in-row = (sized v .most, same-le v, never) }
+row Op.SQSUB v i h l m = record { second = refl; old = refl; wide = same v; old-wide = never; first-wide = same v; second-wide = λ e. same v; in-row = (sized v .most, same-le v, never) }
+row Op.UQSUB v i h l m = record { second = refl; old = refl; wide = same v; old-wide = never; first-wide = same v; second-wide = λ e. same v; in-row = (sized v .most, same-le v, never) }
+row Op.SHADD v i h l m = record { second = refl; old = refl; wide = same v; old-wide = never; first-wide = same v; second-wide = λ e. same v; in-row = (sized v .most, same-le v, never) }
+row Op.UHADD v i h l m = record { second = refl; old = refl; wide = same v; old-wide = never; first-wide = same v; second-wide = λ e. same v; in-row = (sized v .most, same-le v, never) }
+row Op.SRHADD v i h l m = record { second = refl; old = refl; wide = same v; old-wide = never; first-wide = same v; second-wide = λ e. same v; in-row = (sized v .most, same-le v, never) }
+row Op.URHADD v i h l m = record { second = refl; old = refl; wide = same v; old-wide = never; first-wide = same v; second-wide = λ e. same v; in-row = (sized v .most, same-le v, never) }
+row Op.SQXTN v i h l m =
+    record { second = refl; old = refl; wide = narrow-wide v; old-wide = narrow-old v; first-wide = narrow-source v; second-wide = never; in-row = (small v h, narrow-le v, half-le v) }
+row Op.UQXTN v i h l m =
+    record { second = refl; old = refl; wide = narrow-wide v; old-wide = narrow-old v; first-wide = narrow-source v; second-wide = never; in-row = (small v h, narrow-le v, half-le v) }
+row Op.SQXTUN v i h l m =
+    record { second = refl; old = refl; wide = narrow-wide v; old-wide = narrow-old v; first-wide = narrow-source v; second-wide = never; in-row = (small v h, narrow-le v, half-le v) }
+row Op.SHRN v i h l m =
+    record { second = refl; old = refl; wide = narrow-wide v; old-wide = narrow-old v; first-wide = narrow-source v; second-wide = never; in-row = ((small v h, l, m), narrow-le v, half-le v) }
+row Op.RSHRN v i h l m =
+    record { second = refl; old = refl; wide = narrow-wide v; old-wide = narrow-old v; first-wide = narrow-source v; second-wide = never; in-row = ((small v h, l, m), narrow-le v, half-le v) }
+row Op.SQSHRN v i h l m =
+    record { second = refl; old = refl; wide = narrow-wide v; old-wide = narrow-old v; first-wide = narrow-source v; second-wide = never; in-row = ((small v h, l, m), narrow-le v, half-le v) }
+row Op.SQRSHRN v i h l m =
+    record { second = refl; old = refl; wide = narrow-wide v; old-wide = narrow-old v; first-wide = narrow-source v; second-wide = never; in-row = ((small v h, l, m), narrow-le v, half-le v) }
+row Op.UQSHRN v i h l m =
+    record { second = refl; old = refl; wide = narrow-wide v; old-wide = narrow-old v; first-wide = narrow-source v; second-wide = never; in-row = ((small v h, l, m), narrow-le v, half-le v) }
+row Op.UQRSHRN v i h l m =
+    record { second = refl; old = refl; wide = narrow-wide v; old-wide = narrow-old v; first-wide = narrow-source v; second-wide = never; in-row = ((small v h, l, m), narrow-le v, half-le v) }
+row Op.SQSHRUN v i h l m =
+    record { second = refl; old = refl; wide = narrow-wide v; old-wide = narrow-old v; first-wide = narrow-source v; second-wide = never; in-row = ((small v h, l, m), narrow-le v, half-le v) }
+row Op.SQRSHRUN v i h l m =
+    record { second = refl; old = refl; wide = narrow-wide v; old-wide = narrow-old v; first-wide = narrow-source v; second-wide = never; in-row = ((small v h, l, m), narrow-le v, half-le v) }
+row Op.SQABS v i h l m = record { second = refl; old = refl; wide = same v; old-wide = never; first-wide = same v; second-wide = never; in-row = (sized v .most, same-le v, never) }
+row Op.SQNEG v i h l m = record { second = refl; old = refl; wide = same v; old-wide = never; first-wide = same v; second-wide = never; in-row = (sized v .most, same-le v, never) }
+row Op.SQDMULH v i h l m = record { second = refl; old = refl; wide = same v; old-wide = never; first-wide = same v; second-wide = λ e. same v; in-row = (middle v h, same-le v, never) }
+row Op.SQRDMULH v i h l m = record { second = refl; old = refl; wide = same v; old-wide = never; first-wide = same v; second-wide = λ e. same v; in-row = (middle v h, same-le v, never) }
+row Op.SQDMULL v i h l m =
+    record { second = refl; old = refl; wide = same v; old-wide = never; first-wide = long-first v false (all v h); second-wide = λ e. long-second v false (all v h); in-row = no-element v i m }
+row Op.SQDMLAL v i h l m =
+    record { second = refl; old = refl; wide = same v; old-wide = λ e. same v; first-wide = long-first v false (all v h); second-wide = λ e. long-second v false (all v h); in-row = no-element v i m }
+row Op.SQDMLSL v i h l m =
+    record { second = refl; old = refl; wide = same v; old-wide = λ e. same v; first-wide = long-first v false (all v h); second-wide = λ e. long-second v false (all v h); in-row = no-element v i m }
+row Op.SQDMULL2 v i h l m =
+    record { second = refl; old = refl; wide = same v; old-wide = never; first-wide = long-first v true (all v h); second-wide = λ e. long-second v true (all v h); in-row = no-element v i m }
+row Op.SQDMLAL2 v i h l m =
+    record { second = refl; old = refl; wide = same v; old-wide = λ e. same v; first-wide = long-first v true (all v h); second-wide = λ e. long-second v true (all v h); in-row = no-element v i m }
+row Op.SQDMLSL2 v i h l m =
+    record { second = refl; old = refl; wide = same v; old-wide = λ e. same v; first-wide = long-first v true (all v h); second-wide = λ e. long-second v true (all v h); in-row = no-element v i m }
+row Op.SQDMULLE v i h l m = record { second = refl; old = refl; wide = same v; old-wide = never; first-wide = long-first v false (all v h); second-wide = λ e. refl; in-row = element v i m }
+row Op.SQDMLALE v i h l m =
+    record { second = refl; old = refl; wide = same v; old-wide = λ e. same v; first-wide = long-first v false (all v h); second-wide = λ e. refl; in-row = element v i m }
+row Op.SQDMLSLE v i h l m =
+    record { second = refl; old = refl; wide = same v; old-wide = λ e. same v; first-wide = long-first v false (all v h); second-wide = λ e. refl; in-row = element v i m }
+row Op.SQDMULL2E v i h l m = record { second = refl; old = refl; wide = same v; old-wide = never; first-wide = long-first v true (all v h); second-wide = λ e. refl; in-row = element v i m }
+row Op.SQDMLAL2E v i h l m =
+    record { second = refl; old = refl; wide = same v; old-wide = λ e. same v; first-wide = long-first v true (all v h); second-wide = λ e. refl; in-row = element v i m }
+row Op.SQDMLSL2E v i h l m =
+    record { second = refl; old = refl; wide = same v; old-wide = λ e. same v; first-wide = long-first v true (all v h); second-wide = λ e. refl; in-row = element v i m }
+row Op.SUQADD v i h l m = record { second = refl; old = refl; wide = same v; old-wide = λ e. same v; first-wide = same v; second-wide = never; in-row = tt }
+row Op.USQADD v i h l m = record { second = refl; old = refl; wide = same v; old-wide = λ e. same v; first-wide = same v; second-wide = never; in-row = tt }
+row Op.SABD v i h l m = record { second = refl; old = refl; wide = same v; old-wide = never; first-wide = same v; second-wide = λ e. same v; in-row = tt }
+row Op.UABD v i h l m = record { second = refl; old = refl; wide = same v; old-wide = never; first-wide = same v; second-wide = λ e. same v; in-row = tt }
+row Op.SABA v i h l m = record { second = refl; old = refl; wide = same v; old-wide = λ e. same v; first-wide = same v; second-wide = λ e. same v; in-row = tt }
+row Op.UABA v i h l m = record { second = refl; old = refl; wide = same v; old-wide = λ e. same v; first-wide = same v; second-wide = λ e. same v; in-row = tt }
+row Op.CNT v i h l m = record { second = refl; old = refl; wide = same v; old-wide = never; first-wide = same v; second-wide = never; in-row = tt }
+row Op.CLZ v i h l m = record { second = refl; old = refl; wide = same v; old-wide = never; first-wide = same v; second-wide = never; in-row = tt }
+row Op.CLS v i h l m = record { second = refl; old = refl; wide = same v; old-wide = never; first-wide = same v; second-wide = never; in-row = tt }
+row Op.RBIT v i h l m = record { second = refl; old = refl; wide = same v; old-wide = never; first-wide = same v; second-wide = never; in-row = tt }
+row Op.ADDHN v i h l m =
+    record { second = refl; old = refl; wide = narrow-wide v; old-wide = narrow-old v; first-wide = narrow-source v; second-wide = λ e. narrow-source v; in-row = (small v h, narrow-le v) }
+row Op.RADDHN v i h l m =
+    record { second = refl; old = refl; wide = narrow-wide v; old-wide = narrow-old v; first-wide = narrow-source v; second-wide = λ e. narrow-source v; in-row = (small v h, narrow-le v) }
+row Op.SUBHN v i h l m =
+    record { second = refl; old = refl; wide = narrow-wide v; old-wide = narrow-old v; first-wide = narrow-source v; second-wide = λ e. narrow-source v; in-row = (small v h, narrow-le v) }
+row Op.RSUBHN v i h l m =
+    record { second = refl; old = refl; wide = narrow-wide v; old-wide = narrow-old v; first-wide = narrow-source v; second-wide = λ e. narrow-source v; in-row = (small v h, narrow-le v) }

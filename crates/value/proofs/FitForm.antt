@@ -10,7 +10,7 @@ use Rattle.terms.specs.declared.BinOp.the-variants.{Add, Sub, Shl}
 use Rattle.terms.specs.Expr.{Expr, Var, width}
 use Rattle.terms.specs.Rules.{Good}
 use Rattle.neon.specs.declared.Instruction.{Instruction}
-use Rattle.neon.specs.Op.{Op, opAt, Arrangement, arrangementAt, laneBits, full, bitsIf, view, SHL, SQSHLI, UQSHLI, SQSHLU, SSHR, USHR, SRSHR, URSHR, SSHL, USHL, SRSHL, URSHL, SQSHL, UQSHL, SQRSHL, UQRSHL, SLI, SRI, SQADD, UQADD, SQSUB, UQSUB, SHADD, UHADD, SRHADD, URHADD, SQXTN, UQXTN, SQXTUN, SHRN, RSHRN, SQSHRN, SQRSHRN, UQSHRN, UQRSHRN, SQSHRUN, SQRSHRUN, SQABS, SQNEG, SQDMULH, SQRDMULH, SQDMULL, SQDMLAL, SQDMLSL, SQDMULL2, SQDMLAL2, SQDMLSL2, SQDMULLE, SQDMLALE, SQDMLSLE, SQDMULL2E, SQDMLAL2E, SQDMLSL2E, SUQADD, USQADD, SABD, UABD, SABA, UABA, CNT, CLZ, CLS, RBIT, ADDHN, RADDHN, SUBHN, RSUBHN}
+use Rattle.neon.specs.Op.{Op, opAt, Arrangement, arrangementAt, laneBits, full, bitsIf, view}
 use Rattle.neon.specs.Form.{Lanes, Same, Narrow, Long, form, least, most, byElement, sourceBits, madeBits, laneCount, firstLane, secondLane, firstFull, secondFull, firstBits, secondBits}
 use Rattle.neon.specs.Refusal.{Legal, AllLegal}
 use Rattle.neon.proofs.Geometry.{sized, source-some, filled, made-max, made-view, inside, first-in, second-in}
@@ -28,73 +28,73 @@ use Rattle.value.proofs.Whole.{treeAt, placeTree, as-lanes}
 pub fit-lane : (o : Op) (n i : ℕ) (d a b : Expr) → 8 ≤ n → n ≤ 64 → least o ≤ i → i ≤ most o n → Fit d n → Fit a (sourceBits (form o .lanes) n) → Fit b (sourceBits (form o .lanes) n)
     → (upper : Bool) → Fit (laneTree (neonOp o i upper) n d a b) n
 unfolding shiftLane bitwiseUnaryLane doublingLongLane
-fit-lane SHL n i d a b h8 h64 l h o p q u = fit-bv Shl p (fit-imm n h8 h64 i (omega arith))
-fit-lane SQSHLI n i d a b h8 h64 l h o p q u = fit-saturating n h8 h64 true p (fit-imm n h8 h64 i (omega arith))
-fit-lane UQSHLI n i d a b h8 h64 l h o p q u = fit-saturating n h8 h64 false p (fit-imm n h8 h64 i (omega arith))
-fit-lane SQSHLU n i d a b h8 h64 l h o p q u = fit-sqshlu n h8 h64 i (omega arith) p
-fit-lane SSHR n i d a b h8 h64 l h o p q u = fit-right n h8 h64 true false i (omega arith) p (fit-imm n h8 h64 i h)
-fit-lane USHR n i d a b h8 h64 l h o p q u = fit-right n h8 h64 false false i (omega arith) p (fit-imm n h8 h64 i h)
-fit-lane SRSHR n i d a b h8 h64 l h o p q u = fit-right n h8 h64 true true i (omega arith) p (fit-imm n h8 h64 i h)
-fit-lane URSHR n i d a b h8 h64 l h o p q u = fit-right n h8 h64 false true i (omega arith) p (fit-imm n h8 h64 i h)
-fit-lane SSHL n i d a b h8 h64 l h o p q u = fit-register n h8 h64 false false true p q
-fit-lane USHL n i d a b h8 h64 l h o p q u = fit-register n h8 h64 false false false p q
-fit-lane SRSHL n i d a b h8 h64 l h o p q u = fit-register n h8 h64 true false true p q
-fit-lane URSHL n i d a b h8 h64 l h o p q u = fit-register n h8 h64 true false false p q
-fit-lane SQSHL n i d a b h8 h64 l h o p q u = fit-register n h8 h64 false true true p q
-fit-lane UQSHL n i d a b h8 h64 l h o p q u = fit-register n h8 h64 false true false p q
-fit-lane SQRSHL n i d a b h8 h64 l h o p q u = fit-register n h8 h64 true true true p q
-fit-lane UQRSHL n i d a b h8 h64 l h o p q u = fit-register n h8 h64 true true false p q
-fit-lane SLI n i d a b h8 h64 l h o p q u = fit-insert n h8 h64 true i (omega arith) o p
-fit-lane SRI n i d a b h8 h64 l h o p q u = fit-insert n h8 h64 false i h o p
-fit-lane SQADD n i d a b h8 h64 l h o p q u = fit-sat n h8 h64 Add Signed true p q
-fit-lane UQADD n i d a b h8 h64 l h o p q u = fit-sat n h8 h64 Add Unsigned false p q
-fit-lane SQSUB n i d a b h8 h64 l h o p q u = fit-sat n h8 h64 Sub Signed true p q
-fit-lane UQSUB n i d a b h8 h64 l h o p q u = fit-sat n h8 h64 Sub SignedToUnsigned false p q
-fit-lane SHADD n i d a b h8 h64 l h o p q u = fit-halving n h8 h64 false true p q
-fit-lane UHADD n i d a b h8 h64 l h o p q u = fit-halving n h8 h64 false false p q
-fit-lane SRHADD n i d a b h8 h64 l h o p q u = fit-halving n h8 h64 true true p q
-fit-lane URHADD n i d a b h8 h64 l h o p q u = fit-halving n h8 h64 true false p q
-fit-lane SQXTN n i d a b h8 h64 l h o p q u = fit-narrow n h8 h64 Signed true b p
-fit-lane UQXTN n i d a b h8 h64 l h o p q u = fit-narrow n h8 h64 Unsigned false b p
-fit-lane SQXTUN n i d a b h8 h64 l h o p q u = fit-narrow n h8 h64 SignedToUnsigned true b p
-fit-lane SHRN n i d a b h8 h64 l h o p q u = fit-shift-narrow n h8 h64 i false Never false b h p
-fit-lane RSHRN n i d a b h8 h64 l h o p q u = fit-shift-narrow n h8 h64 i true Never false b h p
-fit-lane SQSHRN n i d a b h8 h64 l h o p q u = fit-shift-narrow n h8 h64 i false (Into Signed) true b h p
-fit-lane SQRSHRN n i d a b h8 h64 l h o p q u = fit-shift-narrow n h8 h64 i true (Into Signed) true b h p
-fit-lane UQSHRN n i d a b h8 h64 l h o p q u = fit-shift-narrow n h8 h64 i false (Into Unsigned) false b h p
-fit-lane UQRSHRN n i d a b h8 h64 l h o p q u = fit-shift-narrow n h8 h64 i true (Into Unsigned) false b h p
-fit-lane SQSHRUN n i d a b h8 h64 l h o p q u = fit-shift-narrow n h8 h64 i false (Into SignedToUnsigned) true b h p
-fit-lane SQRSHRUN n i d a b h8 h64 l h o p q u = fit-shift-narrow n h8 h64 i true (Into SignedToUnsigned) true b h p
-fit-lane SQABS n i d a b h8 h64 l h o p q u = fit-unary n h8 h64 false true b p
-fit-lane SQNEG n i d a b h8 h64 l h o p q u = fit-unary n h8 h64 true true b p
-fit-lane SQDMULH n i d a b h8 h64 l h o p q u = fit-dmulh n h8 h64 false true p q
-fit-lane SQRDMULH n i d a b h8 h64 l h o p q u = fit-dmulh n h8 h64 true true p q
-fit-lane SQDMULL n i d a b h8 h64 l h o p q u = fit-product n h8 h64 p q
-fit-lane SQDMLAL n i d a b h8 h64 l h o p q u = fit-combined n h8 h64 Add o p q
-fit-lane SQDMLSL n i d a b h8 h64 l h o p q u = fit-combined n h8 h64 Sub o p q
-fit-lane SQDMULL2 n i d a b h8 h64 l h o p q u = fit-product n h8 h64 p q
-fit-lane SQDMLAL2 n i d a b h8 h64 l h o p q u = fit-combined n h8 h64 Add o p q
-fit-lane SQDMLSL2 n i d a b h8 h64 l h o p q u = fit-combined n h8 h64 Sub o p q
-fit-lane SQDMULLE n i d a b h8 h64 l h o p q u = fit-product n h8 h64 p q
-fit-lane SQDMLALE n i d a b h8 h64 l h o p q u = fit-combined n h8 h64 Add o p q
-fit-lane SQDMLSLE n i d a b h8 h64 l h o p q u = fit-combined n h8 h64 Sub o p q
-fit-lane SQDMULL2E n i d a b h8 h64 l h o p q u = fit-product n h8 h64 p q
-fit-lane SQDMLAL2E n i d a b h8 h64 l h o p q u = fit-combined n h8 h64 Add o p q
-fit-lane SQDMLSL2E n i d a b h8 h64 l h o p q u = fit-combined n h8 h64 Sub o p q
-fit-lane SUQADD n i d a b h8 h64 l h o p q u = fit-mixed n h8 h64 true o p
-fit-lane USQADD n i d a b h8 h64 l h o p q u = fit-mixed n h8 h64 false o p
-fit-lane SABD n i d a b h8 h64 l h o p q u = fit-abd n h8 h64 true p q
-fit-lane UABD n i d a b h8 h64 l h o p q u = fit-abd n h8 h64 false p q
-fit-lane SABA n i d a b h8 h64 l h o p q u = fit-bv Add o (fit-abd n h8 h64 true p q)
-fit-lane UABA n i d a b h8 h64 l h o p q u = fit-bv Add o (fit-abd n h8 h64 false p q)
-fit-lane CNT n i d a b h8 h64 l h o p q u = fit-count n h8 h64 n (omega arith) p
-fit-lane CLZ n i d a b h8 h64 l h o p q u = fit-leading n h8 h64 n h64 (omega arith) p
-fit-lane CLS n i d a b h8 h64 l h o p q u = fit-signs n h8 h64 p
-fit-lane RBIT n i d a b h8 h64 l h o p q u = fit-reverse n (omega arith) (omega arith) p
-fit-lane ADDHN n i d a b h8 h64 l h o p q u = fit-high n h8 h64 false false p q
-fit-lane RADDHN n i d a b h8 h64 l h o p q u = fit-high n h8 h64 false true p q
-fit-lane SUBHN n i d a b h8 h64 l h o p q u = fit-high n h8 h64 true false p q
-fit-lane RSUBHN n i d a b h8 h64 l h o p q u = fit-high n h8 h64 true true p q
+fit-lane Op.SHL n i d a b h8 h64 l h o p q u = fit-bv Shl p (fit-imm n h8 h64 i (omega arith))
+fit-lane Op.SQSHLI n i d a b h8 h64 l h o p q u = fit-saturating n h8 h64 true p (fit-imm n h8 h64 i (omega arith))
+fit-lane Op.UQSHLI n i d a b h8 h64 l h o p q u = fit-saturating n h8 h64 false p (fit-imm n h8 h64 i (omega arith))
+fit-lane Op.SQSHLU n i d a b h8 h64 l h o p q u = fit-sqshlu n h8 h64 i (omega arith) p
+fit-lane Op.SSHR n i d a b h8 h64 l h o p q u = fit-right n h8 h64 true false i (omega arith) p (fit-imm n h8 h64 i h)
+fit-lane Op.USHR n i d a b h8 h64 l h o p q u = fit-right n h8 h64 false false i (omega arith) p (fit-imm n h8 h64 i h)
+fit-lane Op.SRSHR n i d a b h8 h64 l h o p q u = fit-right n h8 h64 true true i (omega arith) p (fit-imm n h8 h64 i h)
+fit-lane Op.URSHR n i d a b h8 h64 l h o p q u = fit-right n h8 h64 false true i (omega arith) p (fit-imm n h8 h64 i h)
+fit-lane Op.SSHL n i d a b h8 h64 l h o p q u = fit-register n h8 h64 false false true p q
+fit-lane Op.USHL n i d a b h8 h64 l h o p q u = fit-register n h8 h64 false false false p q
+fit-lane Op.SRSHL n i d a b h8 h64 l h o p q u = fit-register n h8 h64 true false true p q
+fit-lane Op.URSHL n i d a b h8 h64 l h o p q u = fit-register n h8 h64 true false false p q
+fit-lane Op.SQSHL n i d a b h8 h64 l h o p q u = fit-register n h8 h64 false true true p q
+fit-lane Op.UQSHL n i d a b h8 h64 l h o p q u = fit-register n h8 h64 false true false p q
+fit-lane Op.SQRSHL n i d a b h8 h64 l h o p q u = fit-register n h8 h64 true true true p q
+fit-lane Op.UQRSHL n i d a b h8 h64 l h o p q u = fit-register n h8 h64 true true false p q
+fit-lane Op.SLI n i d a b h8 h64 l h o p q u = fit-insert n h8 h64 true i (omega arith) o p
+fit-lane Op.SRI n i d a b h8 h64 l h o p q u = fit-insert n h8 h64 false i h o p
+fit-lane Op.SQADD n i d a b h8 h64 l h o p q u = fit-sat n h8 h64 Add Signed true p q
+fit-lane Op.UQADD n i d a b h8 h64 l h o p q u = fit-sat n h8 h64 Add Unsigned false p q
+fit-lane Op.SQSUB n i d a b h8 h64 l h o p q u = fit-sat n h8 h64 Sub Signed true p q
+fit-lane Op.UQSUB n i d a b h8 h64 l h o p q u = fit-sat n h8 h64 Sub SignedToUnsigned false p q
+fit-lane Op.SHADD n i d a b h8 h64 l h o p q u = fit-halving n h8 h64 false true p q
+fit-lane Op.UHADD n i d a b h8 h64 l h o p q u = fit-halving n h8 h64 false false p q
+fit-lane Op.SRHADD n i d a b h8 h64 l h o p q u = fit-halving n h8 h64 true true p q
+fit-lane Op.URHADD n i d a b h8 h64 l h o p q u = fit-halving n h8 h64 true false p q
+fit-lane Op.SQXTN n i d a b h8 h64 l h o p q u = fit-narrow n h8 h64 Signed true b p
+fit-lane Op.UQXTN n i d a b h8 h64 l h o p q u = fit-narrow n h8 h64 Unsigned false b p
+fit-lane Op.SQXTUN n i d a b h8 h64 l h o p q u = fit-narrow n h8 h64 SignedToUnsigned true b p
+fit-lane Op.SHRN n i d a b h8 h64 l h o p q u = fit-shift-narrow n h8 h64 i false Never false b h p
+fit-lane Op.RSHRN n i d a b h8 h64 l h o p q u = fit-shift-narrow n h8 h64 i true Never false b h p
+fit-lane Op.SQSHRN n i d a b h8 h64 l h o p q u = fit-shift-narrow n h8 h64 i false (Into Signed) true b h p
+fit-lane Op.SQRSHRN n i d a b h8 h64 l h o p q u = fit-shift-narrow n h8 h64 i true (Into Signed) true b h p
+fit-lane Op.UQSHRN n i d a b h8 h64 l h o p q u = fit-shift-narrow n h8 h64 i false (Into Unsigned) false b h p
+fit-lane Op.UQRSHRN n i d a b h8 h64 l h o p q u = fit-shift-narrow n h8 h64 i true (Into Unsigned) false b h p
+fit-lane Op.SQSHRUN n i d a b h8 h64 l h o p q u = fit-shift-narrow n h8 h64 i false (Into SignedToUnsigned) true b h p
+fit-lane Op.SQRSHRUN n i d a b h8 h64 l h o p q u = fit-shift-narrow n h8 h64 i true (Into SignedToUnsigned) true b h p
+fit-lane Op.SQABS n i d a b h8 h64 l h o p q u = fit-unary n h8 h64 false true b p
+fit-lane Op.SQNEG n i d a b h8 h64 l h o p q u = fit-unary n h8 h64 true true b p
+fit-lane Op.SQDMULH n i d a b h8 h64 l h o p q u = fit-dmulh n h8 h64 false true p q
+fit-lane Op.SQRDMULH n i d a b h8 h64 l h o p q u = fit-dmulh n h8 h64 true true p q
+fit-lane Op.SQDMULL n i d a b h8 h64 l h o p q u = fit-product n h8 h64 p q
+fit-lane Op.SQDMLAL n i d a b h8 h64 l h o p q u = fit-combined n h8 h64 Add o p q
+fit-lane Op.SQDMLSL n i d a b h8 h64 l h o p q u = fit-combined n h8 h64 Sub o p q
+fit-lane Op.SQDMULL2 n i d a b h8 h64 l h o p q u = fit-product n h8 h64 p q
+fit-lane Op.SQDMLAL2 n i d a b h8 h64 l h o p q u = fit-combined n h8 h64 Add o p q
+fit-lane Op.SQDMLSL2 n i d a b h8 h64 l h o p q u = fit-combined n h8 h64 Sub o p q
+fit-lane Op.SQDMULLE n i d a b h8 h64 l h o p q u = fit-product n h8 h64 p q
+fit-lane Op.SQDMLALE n i d a b h8 h64 l h o p q u = fit-combined n h8 h64 Add o p q
+fit-lane Op.SQDMLSLE n i d a b h8 h64 l h o p q u = fit-combined n h8 h64 Sub o p q
+fit-lane Op.SQDMULL2E n i d a b h8 h64 l h o p q u = fit-product n h8 h64 p q
+fit-lane Op.SQDMLAL2E n i d a b h8 h64 l h o p q u = fit-combined n h8 h64 Add o p q
+fit-lane Op.SQDMLSL2E n i d a b h8 h64 l h o p q u = fit-combined n h8 h64 Sub o p q
+fit-lane Op.SUQADD n i d a b h8 h64 l h o p q u = fit-mixed n h8 h64 true o p
+fit-lane Op.USQADD n i d a b h8 h64 l h o p q u = fit-mixed n h8 h64 false o p
+fit-lane Op.SABD n i d a b h8 h64 l h o p q u = fit-abd n h8 h64 true p q
+fit-lane Op.UABD n i d a b h8 h64 l h o p q u = fit-abd n h8 h64 false p q
+fit-lane Op.SABA n i d a b h8 h64 l h o p q u = fit-bv Add o (fit-abd n h8 h64 true p q)
+fit-lane Op.UABA n i d a b h8 h64 l h o p q u = fit-bv Add o (fit-abd n h8 h64 false p q)
+fit-lane Op.CNT n i d a b h8 h64 l h o p q u = fit-count n h8 h64 n (omega arith) p
+fit-lane Op.CLZ n i d a b h8 h64 l h o p q u = fit-leading n h8 h64 n h64 (omega arith) p
+fit-lane Op.CLS n i d a b h8 h64 l h o p q u = fit-signs n h8 h64 p
+fit-lane Op.RBIT n i d a b h8 h64 l h o p q u = fit-reverse n (omega arith) (omega arith) p
+fit-lane Op.ADDHN n i d a b h8 h64 l h o p q u = fit-high n h8 h64 false false p q
+fit-lane Op.RADDHN n i d a b h8 h64 l h o p q u = fit-high n h8 h64 false true p q
+fit-lane Op.SUBHN n i d a b h8 h64 l h o p q u = fit-high n h8 h64 true false p q
+fit-lane Op.RSUBHN n i d a b h8 h64 l h o p q u = fit-high n h8 h64 true true p q
 
 module _ (o : Op) (v : Arrangement) (i : ℕ) (d a b : Expr) (l : least o ≤ i) (h : i ≤ most o (laneBits v))
     (fd : Fit d (view v)) (fa : Fit a (firstBits o v)) (fb : Fit b (secondBits o v)) where

@@ -6,7 +6,7 @@ use native.Mathlib.Omega.{arith}
 use lib.IntN.{pos, _*ℤ_}
 use Rattle.facts.proofs.Numbers.{below}
 use Rattle.terms.specs.Expr.{Expr}
-use Rattle.neon.specs.Op.{Op, SHL, SQSHLI, UQSHLI, SQSHLU, SSHR, USHR, SRSHR, URSHR, SSHL, USHL, SRSHL, URSHL, SQSHL, UQSHL, SQRSHL, UQRSHL, SLI, SRI, SQADD, UQADD, SQSUB, UQSUB, SHADD, UHADD, SRHADD, URHADD, SQXTN, UQXTN, SQXTUN, SHRN, RSHRN, SQSHRN, SQRSHRN, UQSHRN, UQRSHRN, SQSHRUN, SQRSHRUN, SQABS, SQNEG, SQDMULH, SQRDMULH, SQDMULL, SQDMLAL, SQDMLSL, SQDMULL2, SQDMLAL2, SQDMLSL2, SQDMULLE, SQDMLALE, SQDMLSLE, SQDMULL2E, SQDMLAL2E, SQDMLSL2E, SUQADD, USQADD, SABD, UABD, SABA, UABA, CNT, CLZ, CLS, RBIT, ADDHN, RADDHN, SUBHN, RSUBHN}
+use Rattle.neon.specs.Op.{Op}
 use Rattle.neon.specs.Arm.{S, cS, bitAt, doubled, armLane}
 use Rattle.neon.specs.Form.{form, least, most, sourceBits}
 use Rattle.trees.specs.declared.NeonOp.{NeonOp}
@@ -100,75 +100,82 @@ module _ (r : ℕ → ℕ) (n i : ℕ) (d a b : Expr) (w x y : ℕ) (h8 : 8 ≤ 
 
   long-combined : (subtract : Bool) → Sources r a b x y (n / 2) → Is r (doublingLongLane (With (cond subtract Sub Add)) d a b n) n (cS n (applyZ subtract (S n w) (doubled n x y)))
   long-combined subtract g =
-      subst (λ (m : ℕ). FitsS m (S n w) → Is r d m (S n w) → Is r (doublingLongLane (With (cond subtract Sub Add)) d a b m) m (cS m (applyZ subtract (S n w) (cS m (S (n / 2) x *ℤ S (n / 2) y *ℤ pos 2))))) even
+      subst (λ (m : ℕ). FitsS m (S n w) → Is r d m (S n w)
+      → Is r (doublingLongLane (With (cond subtract Sub Add)) d a b m) m (cS m (applyZ subtract (S n w) (cS m (S (n / 2) x *ℤ S (n / 2) y *ℤ pos 2))))) even
       (is-dmlal r a b (n / 2) (S (n / 2) x) (S (n / 2) y) (omega arith) (g .sx) (g .sy) (g .qa) (g .qb) subtract d (S n w)) sw qd
 
   pub lane-is : (o : Op) → least o ≤ i → i ≤ most o n → Sources r a b x y (sourceBits (form o .lanes) n) → (upper : Bool) → Has r (laneTree (neonOp o i upper) n d a b) n (armLane o n i w x y)
   unfolding armLane shiftLane doublingLongLane bitwiseUnaryLane
-  lane-is SHL l h g u = has-is r (is-shl-immediate r false a n i (pos x) hn (g .ux) (g .pa))
-  lane-is SQSHLI l h g u = has-is r (is-sqshl-immediate r true a n i (S n x) hn (g .sx) (g .qa))
-  lane-is UQSHLI l h g u = has-is r (is-sqshl-immediate r false a n i (pos x) hn (g .ux) (g .pa))
-  lane-is SQSHLU l h g u = has-is r (is-sqshlu r a n i (S n x) hn (g .sx) (g .qa))
-  lane-is SSHR l h g u = has-is r (is-shr-immediate r true a n i (S n x) hn (g .sx) (g .qa))
-  lane-is USHR l h g u = has-is r (is-shr-immediate r false a n i (pos x) hn (g .ux) (g .pa))
-  lane-is SRSHR l h g u = has-is r (is-rshr-immediate r true a n i (S n x) hn (g .sx) (g .qa) l h)
-  lane-is URSHR l h g u = has-is r (is-rshr-immediate r false a n i (pos x) hn (g .ux) (g .pa) l h)
-  lane-is SSHL l h g u = has-is r (is-register r false false true a b n (S n x) h8 (g .sx) (g .qa) y (g .hy) (g .pb))
-  lane-is USHL l h g u = has-is r (is-register r false false false a b n (pos x) h8 (g .ux) (g .pa) y (g .hy) (g .pb))
-  lane-is SRSHL l h g u = has-is r (is-register r true false true a b n (S n x) h8 (g .sx) (g .qa) y (g .hy) (g .pb))
-  lane-is URSHL l h g u = has-is r (is-register r true false false a b n (pos x) h8 (g .ux) (g .pa) y (g .hy) (g .pb))
-  lane-is SQSHL l h g u = has-is r (is-register r false true true a b n (S n x) h8 (g .sx) (g .qa) y (g .hy) (g .pb))
-  lane-is UQSHL l h g u = has-is r (is-register r false true false a b n (pos x) h8 (g .ux) (g .pa) y (g .hy) (g .pb))
-  lane-is SQRSHL l h g u = has-is r (is-register r true true true a b n (S n x) h8 (g .sx) (g .qa) y (g .hy) (g .pb))
-  lane-is UQRSHL l h g u = has-is r (is-register r true true false a b n (pos x) h8 (g .ux) (g .pa) y (g .hy) (g .pb))
-  lane-is SLI l h g u = record { wide = insert-width r d a n i w x (g .ha .wide) (hd .val) (g .ha .val) hw (g .hx) (omega arith) true; val = sli-value r d a n i w x (g .ha .wide) (hd .val) (g .ha .val) hw (g .hx) (omega arith) }
-  lane-is SRI l h g u = record { wide = insert-width r d a n i w x (g .ha .wide) (hd .val) (g .ha .val) hw (g .hx) h false; val = sri-value r d a n i w x (g .ha .wide) (hd .val) (g .ha .val) hw (g .hx) h }
-  lane-is SQADD l h g u = has-is r (is-sqaddsub r a b n (S n x) (S n y) hn (g .sx) (g .sy) (g .qa) (g .qb) false)
-  lane-is UQADD l h g u = has-is r (is-uqadd r a b n (pos x) (pos y) hn (g .ux) (g .uy) (g .pa) (g .pb))
-  lane-is SQSUB l h g u = has-is r (is-sqaddsub r a b n (S n x) (S n y) hn (g .sx) (g .sy) (g .qa) (g .qb) true)
-  lane-is UQSUB l h g u = has-is r (is-uqsub r a b n (pos x) (pos y) hn (g .ux) (g .uy) (g .pa) (g .pb))
-  lane-is SHADD l h g u = has-is r (is-halving r true a b n (S n x) (S n y) hn (g .sx) (g .sy) (g .qa) (g .qb) false)
-  lane-is UHADD l h g u = has-is r (is-halving r false a b n (pos x) (pos y) hn (g .ux) (g .uy) (g .pa) (g .pb) false)
-  lane-is SRHADD l h g u = has-is r (is-halving r true a b n (S n x) (S n y) hn (g .sx) (g .sy) (g .qa) (g .qb) true)
-  lane-is URHADD l h g u = has-is r (is-halving r false a b n (pos x) (pos y) hn (g .ux) (g .uy) (g .pa) (g .pb) true)
-  lane-is SQXTN l h g u = has-is r (is-sqxtn r a b n (S (n * 2) x) hn (g .qa) (g .sx))
-  lane-is UQXTN l h g u = has-is r (is-uqxtn r a b n (pos x) hn (g .pa) (g .ux))
-  lane-is SQXTUN l h g u = has-is r (is-sqxtun r a b n (S (n * 2) x) hn (g .qa) (g .sx))
-  lane-is SHRN l h g u = has-is r (is-shrn r a b n (pos x) hn (g .pa) false false i (g .ux) l h)
-  lane-is RSHRN l h g u = has-is r (is-shrn r a b n (pos x) hn (g .pa) false true i (g .ux) l h)
-  lane-is SQSHRN l h g u = has-is r (is-sqshrn r a b n (S (n * 2) x) hn (g .qa) false i (g .sx) l h)
-  lane-is SQRSHRN l h g u = has-is r (is-sqshrn r a b n (S (n * 2) x) hn (g .qa) true i (g .sx) l h)
-  lane-is UQSHRN l h g u = has-is r (is-uqshrn r a b n (pos x) hn (g .pa) false i (g .ux) l h)
-  lane-is UQRSHRN l h g u = has-is r (is-uqshrn r a b n (pos x) hn (g .pa) true i (g .ux) l h)
-  lane-is SQSHRUN l h g u = has-is r (is-sqshrun r a b n (S (n * 2) x) hn (g .qa) false i (g .sx) l h)
-  lane-is SQRSHRUN l h g u = has-is r (is-sqshrun r a b n (S (n * 2) x) hn (g .qa) true i (g .sx) l h)
-  lane-is SQABS l h g u = has-is r (is-sqabs r a b n (S n x) hn (g .sx) (g .qa))
-  lane-is SQNEG l h g u = has-is r (is-sqneg r a b n (S n x) hn (g .sx) (g .qa))
-  lane-is SQDMULH l h g u = has-is r (is-dmulh r a b n (S n x) (S n y) hn (g .sx) (g .sy) (g .qa) (g .qb) false)
-  lane-is SQRDMULH l h g u = has-is r (is-dmulh r a b n (S n x) (S n y) hn (g .sx) (g .sy) (g .qa) (g .qb) true)
-  lane-is SQDMULL l h g u = has-is r (long-product g)
-  lane-is SQDMLAL l h g u = has-is r (long-combined false g)
-  lane-is SQDMLSL l h g u = has-is r (long-combined true g)
-  lane-is SQDMULL2 l h g u = has-is r (long-product g)
-  lane-is SQDMLAL2 l h g u = has-is r (long-combined false g)
-  lane-is SQDMLSL2 l h g u = has-is r (long-combined true g)
-  lane-is SQDMULLE l h g u = has-is r (long-product g)
-  lane-is SQDMLALE l h g u = has-is r (long-combined false g)
-  lane-is SQDMLSLE l h g u = has-is r (long-combined true g)
-  lane-is SQDMULL2E l h g u = has-is r (long-product g)
-  lane-is SQDMLAL2E l h g u = has-is r (long-combined false g)
-  lane-is SQDMLSL2E l h g u = has-is r (long-combined true g)
-  lane-is SUQADD l h g u = has-is r (is-suqadd r d a n (S n w) (pos x) hn qd (g .pa) sw (g .ux))
-  lane-is USQADD l h g u = has-is r (is-usqadd r d a n (pos w) (S n x) hn pd (g .qa) uw (g .sx))
-  lane-is SABD l h g u = has-is r (is-abd r true a b n (S n x) (S n y) hn (g .sx) (g .sy) (g .qa) (g .qb))
-  lane-is UABD l h g u = has-is r (is-abd r false a b n (pos x) (pos y) hn (g .ux) (g .uy) (g .pa) (g .pb))
-  lane-is SABA l h g u = has-is r (is-add r pd (is-abd r true a b n (S n x) (S n y) hn (g .sx) (g .sy) (g .qa) (g .qb)))
-  lane-is UABA l h g u = has-is r (is-add r pd (is-abd r false a b n (pos x) (pos y) hn (g .ux) (g .uy) (g .pa) (g .pb)))
-  lane-is CNT l h g u = has-number r (omega (arith, ones-le n x, below n)) (is-count r a x (g .ha .val) n n hn (omega arith))
-  lane-is CLZ l h g u = has-number r (omega (arith, run-le 0 n x, below n)) (is-eq r (ap pos (omega arith)) (is-leading r a x (g .ha .val) n n hn (omega arith)))
-  lane-is CLS l h g u = has-number r (omega (arith, run-le (bitAt (n - 1) x) (n - 1) x, below n)) (is-signs r a n x (g .ha .val) (omega arith))
-  lane-is RBIT l h g u = record { wide = reverse-width r a n x (g .ha .val) hn; val = reverse-value r a n x (g .ha .val) hn }
-  lane-is ADDHN l h g u = record { wide = high-width r a b n (pos x) (pos y) hn (g .pa) (g .pb) false false; val = high-value r a b n (pos x) (pos y) hn (g .pa) (g .pb) false false }
-  lane-is RADDHN l h g u = record { wide = high-width r a b n (pos x) (pos y) hn (g .pa) (g .pb) false true; val = high-value r a b n (pos x) (pos y) hn (g .pa) (g .pb) false true }
-  lane-is SUBHN l h g u = record { wide = high-width r a b n (pos x) (pos y) hn (g .pa) (g .pb) true false; val = high-value r a b n (pos x) (pos y) hn (g .pa) (g .pb) true false }
-  lane-is RSUBHN l h g u = record { wide = high-width r a b n (pos x) (pos y) hn (g .pa) (g .pb) true true; val = high-value r a b n (pos x) (pos y) hn (g .pa) (g .pb) true true }
+  lane-is Op.SHL l h g u = has-is r (is-shl-immediate r false a n i (pos x) hn (g .ux) (g .pa))
+  lane-is Op.SQSHLI l h g u = has-is r (is-sqshl-immediate r true a n i (S n x) hn (g .sx) (g .qa))
+  lane-is Op.UQSHLI l h g u = has-is r (is-sqshl-immediate r false a n i (pos x) hn (g .ux) (g .pa))
+  lane-is Op.SQSHLU l h g u = has-is r (is-sqshlu r a n i (S n x) hn (g .sx) (g .qa))
+  lane-is Op.SSHR l h g u = has-is r (is-shr-immediate r true a n i (S n x) hn (g .sx) (g .qa))
+  lane-is Op.USHR l h g u = has-is r (is-shr-immediate r false a n i (pos x) hn (g .ux) (g .pa))
+  lane-is Op.SRSHR l h g u = has-is r (is-rshr-immediate r true a n i (S n x) hn (g .sx) (g .qa) l h)
+  lane-is Op.URSHR l h g u = has-is r (is-rshr-immediate r false a n i (pos x) hn (g .ux) (g .pa) l h)
+  lane-is Op.SSHL l h g u = has-is r (is-register r false false true a b n (S n x) h8 (g .sx) (g .qa) y (g .hy) (g .pb))
+  lane-is Op.USHL l h g u = has-is r (is-register r false false false a b n (pos x) h8 (g .ux) (g .pa) y (g .hy) (g .pb))
+  lane-is Op.SRSHL l h g u = has-is r (is-register r true false true a b n (S n x) h8 (g .sx) (g .qa) y (g .hy) (g .pb))
+  lane-is Op.URSHL l h g u = has-is r (is-register r true false false a b n (pos x) h8 (g .ux) (g .pa) y (g .hy) (g .pb))
+  lane-is Op.SQSHL l h g u = has-is r (is-register r false true true a b n (S n x) h8 (g .sx) (g .qa) y (g .hy) (g .pb))
+  lane-is Op.UQSHL l h g u = has-is r (is-register r false true false a b n (pos x) h8 (g .ux) (g .pa) y (g .hy) (g .pb))
+  lane-is Op.SQRSHL l h g u = has-is r (is-register r true true true a b n (S n x) h8 (g .sx) (g .qa) y (g .hy) (g .pb))
+  lane-is Op.UQRSHL l h g u = has-is r (is-register r true true false a b n (pos x) h8 (g .ux) (g .pa) y (g .hy) (g .pb))
+  lane-is Op.SLI l h g u = record {
+    wide = insert-width r d a n i w x (g .ha .wide) (hd .val) (g .ha .val) hw (g .hx) (omega arith) true;
+    val = sli-value r d a n i w x (g .ha .wide) (hd .val) (g .ha .val) hw (g .hx) (omega arith);
+  }
+  lane-is Op.SRI l h g u = record {
+    wide = insert-width r d a n i w x (g .ha .wide) (hd .val) (g .ha .val) hw (g .hx) h false;
+    val = sri-value r d a n i w x (g .ha .wide) (hd .val) (g .ha .val) hw (g .hx) h;
+  }
+  lane-is Op.SQADD l h g u = has-is r (is-sqaddsub r a b n (S n x) (S n y) hn (g .sx) (g .sy) (g .qa) (g .qb) false)
+  lane-is Op.UQADD l h g u = has-is r (is-uqadd r a b n (pos x) (pos y) hn (g .ux) (g .uy) (g .pa) (g .pb))
+  lane-is Op.SQSUB l h g u = has-is r (is-sqaddsub r a b n (S n x) (S n y) hn (g .sx) (g .sy) (g .qa) (g .qb) true)
+  lane-is Op.UQSUB l h g u = has-is r (is-uqsub r a b n (pos x) (pos y) hn (g .ux) (g .uy) (g .pa) (g .pb))
+  lane-is Op.SHADD l h g u = has-is r (is-halving r true a b n (S n x) (S n y) hn (g .sx) (g .sy) (g .qa) (g .qb) false)
+  lane-is Op.UHADD l h g u = has-is r (is-halving r false a b n (pos x) (pos y) hn (g .ux) (g .uy) (g .pa) (g .pb) false)
+  lane-is Op.SRHADD l h g u = has-is r (is-halving r true a b n (S n x) (S n y) hn (g .sx) (g .sy) (g .qa) (g .qb) true)
+  lane-is Op.URHADD l h g u = has-is r (is-halving r false a b n (pos x) (pos y) hn (g .ux) (g .uy) (g .pa) (g .pb) true)
+  lane-is Op.SQXTN l h g u = has-is r (is-sqxtn r a b n (S (n * 2) x) hn (g .qa) (g .sx))
+  lane-is Op.UQXTN l h g u = has-is r (is-uqxtn r a b n (pos x) hn (g .pa) (g .ux))
+  lane-is Op.SQXTUN l h g u = has-is r (is-sqxtun r a b n (S (n * 2) x) hn (g .qa) (g .sx))
+  lane-is Op.SHRN l h g u = has-is r (is-shrn r a b n (pos x) hn (g .pa) false false i (g .ux) l h)
+  lane-is Op.RSHRN l h g u = has-is r (is-shrn r a b n (pos x) hn (g .pa) false true i (g .ux) l h)
+  lane-is Op.SQSHRN l h g u = has-is r (is-sqshrn r a b n (S (n * 2) x) hn (g .qa) false i (g .sx) l h)
+  lane-is Op.SQRSHRN l h g u = has-is r (is-sqshrn r a b n (S (n * 2) x) hn (g .qa) true i (g .sx) l h)
+  lane-is Op.UQSHRN l h g u = has-is r (is-uqshrn r a b n (pos x) hn (g .pa) false i (g .ux) l h)
+  lane-is Op.UQRSHRN l h g u = has-is r (is-uqshrn r a b n (pos x) hn (g .pa) true i (g .ux) l h)
+  lane-is Op.SQSHRUN l h g u = has-is r (is-sqshrun r a b n (S (n * 2) x) hn (g .qa) false i (g .sx) l h)
+  lane-is Op.SQRSHRUN l h g u = has-is r (is-sqshrun r a b n (S (n * 2) x) hn (g .qa) true i (g .sx) l h)
+  lane-is Op.SQABS l h g u = has-is r (is-sqabs r a b n (S n x) hn (g .sx) (g .qa))
+  lane-is Op.SQNEG l h g u = has-is r (is-sqneg r a b n (S n x) hn (g .sx) (g .qa))
+  lane-is Op.SQDMULH l h g u = has-is r (is-dmulh r a b n (S n x) (S n y) hn (g .sx) (g .sy) (g .qa) (g .qb) false)
+  lane-is Op.SQRDMULH l h g u = has-is r (is-dmulh r a b n (S n x) (S n y) hn (g .sx) (g .sy) (g .qa) (g .qb) true)
+  lane-is Op.SQDMULL l h g u = has-is r (long-product g)
+  lane-is Op.SQDMLAL l h g u = has-is r (long-combined false g)
+  lane-is Op.SQDMLSL l h g u = has-is r (long-combined true g)
+  lane-is Op.SQDMULL2 l h g u = has-is r (long-product g)
+  lane-is Op.SQDMLAL2 l h g u = has-is r (long-combined false g)
+  lane-is Op.SQDMLSL2 l h g u = has-is r (long-combined true g)
+  lane-is Op.SQDMULLE l h g u = has-is r (long-product g)
+  lane-is Op.SQDMLALE l h g u = has-is r (long-combined false g)
+  lane-is Op.SQDMLSLE l h g u = has-is r (long-combined true g)
+  lane-is Op.SQDMULL2E l h g u = has-is r (long-product g)
+  lane-is Op.SQDMLAL2E l h g u = has-is r (long-combined false g)
+  lane-is Op.SQDMLSL2E l h g u = has-is r (long-combined true g)
+  lane-is Op.SUQADD l h g u = has-is r (is-suqadd r d a n (S n w) (pos x) hn qd (g .pa) sw (g .ux))
+  lane-is Op.USQADD l h g u = has-is r (is-usqadd r d a n (pos w) (S n x) hn pd (g .qa) uw (g .sx))
+  lane-is Op.SABD l h g u = has-is r (is-abd r true a b n (S n x) (S n y) hn (g .sx) (g .sy) (g .qa) (g .qb))
+  lane-is Op.UABD l h g u = has-is r (is-abd r false a b n (pos x) (pos y) hn (g .ux) (g .uy) (g .pa) (g .pb))
+  lane-is Op.SABA l h g u = has-is r (is-add r pd (is-abd r true a b n (S n x) (S n y) hn (g .sx) (g .sy) (g .qa) (g .qb)))
+  lane-is Op.UABA l h g u = has-is r (is-add r pd (is-abd r false a b n (pos x) (pos y) hn (g .ux) (g .uy) (g .pa) (g .pb)))
+  lane-is Op.CNT l h g u = has-number r (omega (arith, ones-le n x, below n)) (is-count r a x (g .ha .val) n n hn (omega arith))
+  lane-is Op.CLZ l h g u = has-number r (omega (arith, run-le 0 n x, below n)) (is-eq r (ap pos (omega arith)) (is-leading r a x (g .ha .val) n n hn (omega arith)))
+  lane-is Op.CLS l h g u = has-number r (omega (arith, run-le (bitAt (n - 1) x) (n - 1) x, below n)) (is-signs r a n x (g .ha .val) (omega arith))
+  lane-is Op.RBIT l h g u = record { wide = reverse-width r a n x (g .ha .val) hn; val = reverse-value r a n x (g .ha .val) hn }
+  lane-is Op.ADDHN l h g u = record { wide = high-width r a b n (pos x) (pos y) hn (g .pa) (g .pb) false false; val = high-value r a b n (pos x) (pos y) hn (g .pa) (g .pb) false false }
+  lane-is Op.RADDHN l h g u = record { wide = high-width r a b n (pos x) (pos y) hn (g .pa) (g .pb) false true; val = high-value r a b n (pos x) (pos y) hn (g .pa) (g .pb) false true }
+  lane-is Op.SUBHN l h g u = record { wide = high-width r a b n (pos x) (pos y) hn (g .pa) (g .pb) true false; val = high-value r a b n (pos x) (pos y) hn (g .pa) (g .pb) true false }
+  lane-is Op.RSUBHN l h g u = record { wide = high-width r a b n (pos x) (pos y) hn (g .pa) (g .pb) true true; val = high-value r a b n (pos x) (pos y) hn (g .pa) (g .pb) true true }

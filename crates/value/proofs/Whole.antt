@@ -6,7 +6,7 @@ use native.Mathlib.Omega.{arith}
 use native.Mathlib.Nat.{div-one}
 use Rattle.terms.specs.Expr.{Expr, Concat, width}
 use Rattle.terms.specs.Value.{value}
-use Rattle.neon.specs.Op.{Op, Arrangement, laneBits, full, bitsIf, view, SHL, SQSHLI, UQSHLI, SQSHLU, SSHR, USHR, SRSHR, URSHR, SSHL, USHL, SRSHL, URSHL, SQSHL, UQSHL, SQRSHL, UQRSHL, SLI, SRI, SQADD, UQADD, SQSUB, UQSUB, SHADD, UHADD, SRHADD, URHADD, SQXTN, UQXTN, SQXTUN, SHRN, RSHRN, SQSHRN, SQRSHRN, UQSHRN, UQRSHRN, SQSHRUN, SQRSHRUN, SQABS, SQNEG, SQDMULH, SQRDMULH, SQDMULL, SQDMLAL, SQDMLSL, SQDMULL2, SQDMLAL2, SQDMLSL2, SQDMULLE, SQDMLALE, SQDMLSLE, SQDMULL2E, SQDMLAL2E, SQDMLSL2E, SUQADD, USQADD, SABD, UABD, SABA, UABA, CNT, CLZ, CLS, RBIT, ADDHN, RADDHN, SUBHN, RSUBHN}
+use Rattle.neon.specs.Op.{Op, Arrangement, laneBits, full, bitsIf, view}
 use Rattle.neon.specs.Form.{Lanes, Same, Narrow, Long, form, least, most, sourceBits, madeBits, laneCount, firstLane, secondLane, byElement}
 use Rattle.neon.specs.Arm.{lane, lanes, armAt, placeBits, armResult}
 use Rattle.neon.proofs.Lanes.{lanes-eq}
@@ -44,73 +44,73 @@ keeps v false new d = refl
 pub as-lanes : (o : Op) (v : Arrangement) (i : ℕ) (d a b : Expr)
     → resultTree o v i d a b ≡ placeTree (form o .lanes) (full v) (concatLanes (laneCount o v - 1) (treeAt o v i d a b)) d
 unfolding resultTree shiftLanes shiftInsertLane shiftInsertLanes mixedSignAddLanes doublingLongLanes saturatingLanes bitwiseUnaryLanes absoluteDifferenceLanes highNarrowLanes
-as-lanes SHL v i d a b = refl
-as-lanes SQSHLI v i d a b = refl
-as-lanes UQSHLI v i d a b = refl
-as-lanes SQSHLU v i d a b = refl
-as-lanes SSHR v i d a b = refl
-as-lanes USHR v i d a b = refl
-as-lanes SRSHR v i d a b = refl
-as-lanes URSHR v i d a b = refl
-as-lanes SSHL v i d a b = refl
-as-lanes USHL v i d a b = refl
-as-lanes SRSHL v i d a b = refl
-as-lanes URSHL v i d a b = refl
-as-lanes SQSHL v i d a b = refl
-as-lanes UQSHL v i d a b = refl
-as-lanes SQRSHL v i d a b = refl
-as-lanes UQRSHL v i d a b = refl
-as-lanes SLI v i d a b = refl
-as-lanes SRI v i d a b = refl
-as-lanes SQADD v i d a b = refl
-as-lanes UQADD v i d a b = refl
-as-lanes SQSUB v i d a b = refl
-as-lanes UQSUB v i d a b = refl
-as-lanes SHADD v i d a b = refl
-as-lanes UHADD v i d a b = refl
-as-lanes SRHADD v i d a b = refl
-as-lanes URHADD v i d a b = refl
-as-lanes SQXTN v i d a b = keeps v (full v) _ d
-as-lanes UQXTN v i d a b = keeps v (full v) _ d
-as-lanes SQXTUN v i d a b = keeps v (full v) _ d
-as-lanes SHRN v i d a b = keeps v (full v) _ d
-as-lanes RSHRN v i d a b = keeps v (full v) _ d
-as-lanes SQSHRN v i d a b = keeps v (full v) _ d
-as-lanes SQRSHRN v i d a b = keeps v (full v) _ d
-as-lanes UQSHRN v i d a b = keeps v (full v) _ d
-as-lanes UQRSHRN v i d a b = keeps v (full v) _ d
-as-lanes SQSHRUN v i d a b = keeps v (full v) _ d
-as-lanes SQRSHRUN v i d a b = keeps v (full v) _ d
-as-lanes SQABS v i d a b = refl
-as-lanes SQNEG v i d a b = refl
-as-lanes SQDMULH v i d a b = refl
-as-lanes SQRDMULH v i d a b = refl
-as-lanes SQDMULL v i d a b = refl
-as-lanes SQDMLAL v i d a b = refl
-as-lanes SQDMLSL v i d a b = refl
-as-lanes SQDMULL2 v i d a b = refl
-as-lanes SQDMLAL2 v i d a b = refl
-as-lanes SQDMLSL2 v i d a b = refl
-as-lanes SQDMULLE v i d a b = refl
-as-lanes SQDMLALE v i d a b = refl
-as-lanes SQDMLSLE v i d a b = refl
-as-lanes SQDMULL2E v i d a b = refl
-as-lanes SQDMLAL2E v i d a b = refl
-as-lanes SQDMLSL2E v i d a b = refl
-as-lanes SUQADD v i d a b = refl
-as-lanes USQADD v i d a b = refl
-as-lanes SABD v i d a b = refl
-as-lanes UABD v i d a b = refl
-as-lanes SABA v i d a b = refl
-as-lanes UABA v i d a b = refl
-as-lanes CNT v i d a b = refl
-as-lanes CLZ v i d a b = refl
-as-lanes CLS v i d a b = refl
-as-lanes RBIT v i d a b = refl
-as-lanes ADDHN v i d a b = keeps v (full v) _ d
-as-lanes RADDHN v i d a b = keeps v (full v) _ d
-as-lanes SUBHN v i d a b = keeps v (full v) _ d
-as-lanes RSUBHN v i d a b = keeps v (full v) _ d
+as-lanes Op.SHL v i d a b = refl
+as-lanes Op.SQSHLI v i d a b = refl
+as-lanes Op.UQSHLI v i d a b = refl
+as-lanes Op.SQSHLU v i d a b = refl
+as-lanes Op.SSHR v i d a b = refl
+as-lanes Op.USHR v i d a b = refl
+as-lanes Op.SRSHR v i d a b = refl
+as-lanes Op.URSHR v i d a b = refl
+as-lanes Op.SSHL v i d a b = refl
+as-lanes Op.USHL v i d a b = refl
+as-lanes Op.SRSHL v i d a b = refl
+as-lanes Op.URSHL v i d a b = refl
+as-lanes Op.SQSHL v i d a b = refl
+as-lanes Op.UQSHL v i d a b = refl
+as-lanes Op.SQRSHL v i d a b = refl
+as-lanes Op.UQRSHL v i d a b = refl
+as-lanes Op.SLI v i d a b = refl
+as-lanes Op.SRI v i d a b = refl
+as-lanes Op.SQADD v i d a b = refl
+as-lanes Op.UQADD v i d a b = refl
+as-lanes Op.SQSUB v i d a b = refl
+as-lanes Op.UQSUB v i d a b = refl
+as-lanes Op.SHADD v i d a b = refl
+as-lanes Op.UHADD v i d a b = refl
+as-lanes Op.SRHADD v i d a b = refl
+as-lanes Op.URHADD v i d a b = refl
+as-lanes Op.SQXTN v i d a b = keeps v (full v) _ d
+as-lanes Op.UQXTN v i d a b = keeps v (full v) _ d
+as-lanes Op.SQXTUN v i d a b = keeps v (full v) _ d
+as-lanes Op.SHRN v i d a b = keeps v (full v) _ d
+as-lanes Op.RSHRN v i d a b = keeps v (full v) _ d
+as-lanes Op.SQSHRN v i d a b = keeps v (full v) _ d
+as-lanes Op.SQRSHRN v i d a b = keeps v (full v) _ d
+as-lanes Op.UQSHRN v i d a b = keeps v (full v) _ d
+as-lanes Op.UQRSHRN v i d a b = keeps v (full v) _ d
+as-lanes Op.SQSHRUN v i d a b = keeps v (full v) _ d
+as-lanes Op.SQRSHRUN v i d a b = keeps v (full v) _ d
+as-lanes Op.SQABS v i d a b = refl
+as-lanes Op.SQNEG v i d a b = refl
+as-lanes Op.SQDMULH v i d a b = refl
+as-lanes Op.SQRDMULH v i d a b = refl
+as-lanes Op.SQDMULL v i d a b = refl
+as-lanes Op.SQDMLAL v i d a b = refl
+as-lanes Op.SQDMLSL v i d a b = refl
+as-lanes Op.SQDMULL2 v i d a b = refl
+as-lanes Op.SQDMLAL2 v i d a b = refl
+as-lanes Op.SQDMLSL2 v i d a b = refl
+as-lanes Op.SQDMULLE v i d a b = refl
+as-lanes Op.SQDMLALE v i d a b = refl
+as-lanes Op.SQDMLSLE v i d a b = refl
+as-lanes Op.SQDMULL2E v i d a b = refl
+as-lanes Op.SQDMLAL2E v i d a b = refl
+as-lanes Op.SQDMLSL2E v i d a b = refl
+as-lanes Op.SUQADD v i d a b = refl
+as-lanes Op.USQADD v i d a b = refl
+as-lanes Op.SABD v i d a b = refl
+as-lanes Op.UABD v i d a b = refl
+as-lanes Op.SABA v i d a b = refl
+as-lanes Op.UABA v i d a b = refl
+as-lanes Op.CNT v i d a b = refl
+as-lanes Op.CLZ v i d a b = refl
+as-lanes Op.CLS v i d a b = refl
+as-lanes Op.RBIT v i d a b = refl
+as-lanes Op.ADDHN v i d a b = keeps v (full v) _ d
+as-lanes Op.RADDHN v i d a b = keeps v (full v) _ d
+as-lanes Op.SUBHN v i d a b = keeps v (full v) _ d
+as-lanes Op.RSUBHN v i d a b = keeps v (full v) _ d
 
 module _ (r : ℕ → ℕ) (o : Op) (v : Arrangement) (i : ℕ) (d a b : Expr) (l : least o ≤ i) (h : i ≤ most o (laneBits v)) where
   abbrev arm-at : ℕ → ℕ

@@ -1,3 +1,4 @@
+-- block_refusal is `blockRefusal`: the number of the size, else the first bad record
 use native.Mathlib.Omega.{arith}
 use mathlib.Core.Path.{_≡_, sym, ap, _∙_}
 use Prim.Native.Nat.{ℕ, _/_}

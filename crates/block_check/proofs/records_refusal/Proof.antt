@@ -1,3 +1,4 @@
+-- records_refusal is `recordsRefusal`: what refuses the records from place j on refuses them all
 use native.Mathlib.Omega.{arith}
 use mathlib.Core.Path.{_≡_, refl, sym, ap, _∙_}
 use Prim.Native.Nat.{_-_, _/_, _≤_}
@@ -60,8 +61,11 @@ loop-again c =
     let l-loop-test = l-record-at .before in
     let l-loop = l-loop-test .before in
     let st = l-loop .before .before in
-    let n = rw (l-record-at .record-at .ensures) at (l-record-number .record-number .ensures) in
-    (l-loop .loop .inv .0, omega (arith, (l-loop-test .loop-test .taken)), sym (passed-here (st .args .records .now) (l-loop .loop .j) _ (l-loop-test .loop-test .taken) (omega (arith, n, l-if1 .if1 .left))) ∙ l-loop .loop .inv .2)
+    let n = rw (l-record-at .record-at .ensures) at (l-record-number .record-number .ensures) in (
+      l-loop .loop .inv .0,
+      omega (arith, (l-loop-test .loop-test .taken)),
+      sym (passed-here (st .args .records .now) (l-loop .loop .j) _ (l-loop-test .loop-test .taken) (omega (arith, n, l-if1 .if1 .left))) ∙ l-loop .loop .inv .2,
+    )
 
 returns-2 : tie.Need-returns-2 Inv-loop μ-loop
 returns-2 c =

@@ -1,3 +1,4 @@
+-- first_full reads the bit of a form code that says whether the first source is read at 128 bits
 use Rattle.form.proofs.Parts.{parts}
 use Rattle.form.proofs.first_full.Statement.{statement}
 use Rattle.form.proofs.first_full.Tie as tie

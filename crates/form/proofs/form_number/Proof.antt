@@ -1,3 +1,4 @@
+-- form_number is `formNumber`: 2, 3 and 4 by its tests in order, and 0 past them all
 use native.Mathlib.Omega.{arith}
 use mathlib.Core.Path.{sym, ap, _∙_}
 use Prim.Native.Nat.{ℕ}
@@ -33,7 +34,11 @@ returns-3 c =
     let l-if2 = l-form-code .before in
     let l-if1 = l-if2 .before in
     let st = l-if1 .before in
-    rw (le-leb 1 (st .args .operation) (l-if1 .if1 .left), le-leb (st .args .operation) 67 (l-if2 .if2 .left), without (st .args .operation) (st .args .arrangement) (l-if1 .if1 .left) (l-if2 .if2 .left) (sym (l-form-code .form-code .ensures) ∙ l-if3 .if3 .taken))
+    rw (
+      le-leb 1 (st .args .operation) (l-if1 .if1 .left),
+      le-leb (st .args .operation) 67 (l-if2 .if2 .left),
+      without (st .args .operation) (st .args .arrangement) (l-if1 .if1 .left) (l-if2 .if2 .left) (sym (l-form-code .form-code .ensures) ∙ l-if3 .if3 .taken),
+    )
 
 least-immediate-requires : tie.Need-least-immediate-requires
 least-immediate-requires c κs = search needs
@@ -49,7 +54,13 @@ returns-4 c =
     let st = l-if1 .before in
     let w = with-form (st .args .operation) (st .args .arrangement) (l-if1 .if1 .left) (l-if2 .if2 .left) (λ z. l-if3 .if3 .left (l-form-code .form-code .ensures ∙ z)) in
     let e = l-least-immediate .least-immediate .ensures (opAt (st .args .operation)) (arrangementAt (st .args .arrangement)) (w .1) (l-form-code .form-code .ensures ∙ w .2) in
-    rw (le-leb 1 (st .args .operation) (l-if1 .if1 .left), le-leb (st .args .operation) 67 (l-if2 .if2 .left), w .0, w .1, lt-leb (least (opAt (st .args .operation))) (st .args .i) (omega (arith, l-if4 .if4 .taken, e)))
+    rw (
+      le-leb 1 (st .args .operation) (l-if1 .if1 .left),
+      le-leb (st .args .operation) 67 (l-if2 .if2 .left),
+      w .0,
+      w .1,
+      lt-leb (least (opAt (st .args .operation))) (st .args .i) (omega (arith, l-if4 .if4 .taken, e)),
+    )
 
 lane-bits-requires : tie.Need-lane-bits-requires
 lane-bits-requires c κs =
@@ -63,8 +74,10 @@ lane-bits-requires c κs =
 most-immediate-requires : tie.Need-most-immediate-requires
 most-immediate-requires c κs =
     let l-lane-bits = c in
-    let st = l-lane-bits .before .before .before .before .before .before .before in
-    (omega (arith, l-lane-bits .lane-bits .ensures, sized (arrangementAt (st .args .arrangement)) .eight), omega (arith, l-lane-bits .lane-bits .ensures, sized (arrangementAt (st .args .arrangement)) .most))
+    let st = l-lane-bits .before .before .before .before .before .before .before in (
+      omega (arith, l-lane-bits .lane-bits .ensures, sized (arrangementAt (st .args .arrangement)) .eight),
+      omega (arith, l-lane-bits .lane-bits .ensures, sized (arrangementAt (st .args .arrangement)) .most),
+    )
 
 returns-5 : tie.Need-returns-5
 returns-5 c =
@@ -81,8 +94,16 @@ returns-5 c =
     let w = with-form (st .args .operation) (st .args .arrangement) (l-if1 .if1 .left) (l-if2 .if2 .left) (λ z. l-if3 .if3 .left (l-form-code .form-code .ensures ∙ z)) in
     let k = l-form-code .form-code .ensures ∙ w .2 in
     let e = l-least-immediate .least-immediate .ensures (opAt (st .args .operation)) (arrangementAt (st .args .arrangement)) (w .1) k in
-    let g = l-most-immediate .most-immediate .ensures (opAt (st .args .operation)) (arrangementAt (st .args .arrangement)) (w .1) k ∙ ap (λ (n : ℕ). most (opAt (st .args .operation)) n) (l-lane-bits .lane-bits .ensures) in
-    rw (le-leb 1 (st .args .operation) (l-if1 .if1 .left), le-leb (st .args .operation) 67 (l-if2 .if2 .left), w .0, w .1, le-leb (least (opAt (st .args .operation))) (st .args .i) (omega (arith, l-if4 .if4 .left, e)), lt-leb (st .args .i) (most (opAt (st .args .operation)) (laneBits (arrangementAt (st .args .arrangement)))) (omega (arith, l-if5 .if5 .taken, g)))
+    let g = l-most-immediate .most-immediate .ensures (opAt (st .args .operation)) (arrangementAt (st .args .arrangement)) (w .1) k ∙ ap (λ (n : ℕ). most (opAt (st .args .operation)) n)
+    (l-lane-bits .lane-bits .ensures) in
+    rw (
+      le-leb 1 (st .args .operation) (l-if1 .if1 .left),
+      le-leb (st .args .operation) 67 (l-if2 .if2 .left),
+      w .0,
+      w .1,
+      le-leb (least (opAt (st .args .operation))) (st .args .i) (omega (arith, l-if4 .if4 .left, e)),
+      lt-leb (st .args .i) (most (opAt (st .args .operation)) (laneBits (arrangementAt (st .args .arrangement)))) (omega (arith, l-if5 .if5 .taken, g)),
+    )
 
 returns-6 : tie.Need-returns-6
 returns-6 c =
@@ -99,8 +120,16 @@ returns-6 c =
     let w = with-form (st .args .operation) (st .args .arrangement) (l-if1 .if1 .left) (l-if2 .if2 .left) (λ z. l-if3 .if3 .left (l-form-code .form-code .ensures ∙ z)) in
     let k = l-form-code .form-code .ensures ∙ w .2 in
     let e = l-least-immediate .least-immediate .ensures (opAt (st .args .operation)) (arrangementAt (st .args .arrangement)) (w .1) k in
-    let g = l-most-immediate .most-immediate .ensures (opAt (st .args .operation)) (arrangementAt (st .args .arrangement)) (w .1) k ∙ ap (λ (n : ℕ). most (opAt (st .args .operation)) n) (l-lane-bits .lane-bits .ensures) in
-    rw (le-leb 1 (st .args .operation) (l-if1 .if1 .left), le-leb (st .args .operation) 67 (l-if2 .if2 .left), w .0, w .1, le-leb (least (opAt (st .args .operation))) (st .args .i) (omega (arith, l-if4 .if4 .left, e)), le-leb (st .args .i) (most (opAt (st .args .operation)) (laneBits (arrangementAt (st .args .arrangement)))) (omega (arith, l-if5 .if5 .left, g)))
+    let g = l-most-immediate .most-immediate .ensures (opAt (st .args .operation)) (arrangementAt (st .args .arrangement)) (w .1) k ∙ ap (λ (n : ℕ). most (opAt (st .args .operation)) n)
+    (l-lane-bits .lane-bits .ensures) in
+    rw (
+      le-leb 1 (st .args .operation) (l-if1 .if1 .left),
+      le-leb (st .args .operation) 67 (l-if2 .if2 .left),
+      w .0,
+      w .1,
+      le-leb (least (opAt (st .args .operation))) (st .args .i) (omega (arith, l-if4 .if4 .left, e)),
+      le-leb (st .args .i) (most (opAt (st .args .operation)) (laneBits (arrangementAt (st .args .arrangement)))) (omega (arith, l-if5 .if5 .left, g)),
+    )
 
 pub form-number-spec : {M : Type 1} → statement M
 form-number-spec =

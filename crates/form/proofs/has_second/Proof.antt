@@ -1,3 +1,4 @@
+-- has_second reads the bit of a form code that says whether there is a second source
 use Rattle.form.proofs.Parts.{parts}
 use Rattle.form.proofs.has_second.Statement.{statement}
 use Rattle.form.proofs.has_second.Tie as tie

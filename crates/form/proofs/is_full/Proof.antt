@@ -1,3 +1,4 @@
+-- is_full is `full` of the arrangement: each arm at its number
 use native.Mathlib.Omega.{arith}
 use mathlib.Core.Path.{_≡_, refl}
 use Rattle.neon.specs.Op.{arrangementAt, arrangements}

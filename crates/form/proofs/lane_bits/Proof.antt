@@ -1,3 +1,4 @@
+-- lane_bits is `laneBits` of the arrangement: each arm at its number
 use native.Mathlib.Omega.{arith}
 use mathlib.Core.Path.{_≡_, refl}
 use Rattle.neon.specs.Op.{arrangementAt, arrangements}

@@ -1,3 +1,4 @@
+-- least_immediate is `least` of each operation with that code: the low bits say 3, or else 0 is the least
 use Rattle.neon.specs.Form.{form}
 use mathlib.Core.Path.{sym, _∙_}
 use Rattle.form.proofs.Parts.{parts, least-right, least-other}

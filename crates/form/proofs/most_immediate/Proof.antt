@@ -1,3 +1,4 @@
+-- most_immediate is `most` of each operation with that code: the low bits say which of its four rows it is
 use native.Mathlib.Omega.{arith}
 use Rattle.neon.specs.Form.{form}
 use mathlib.Core.Path.{sym, _∙_}

@@ -1,3 +1,4 @@
+-- reads_d reads the bit of a form code that says whether d is read
 use Rattle.form.proofs.Parts.{parts}
 use Rattle.form.proofs.reads_d.Statement.{statement}
 use Rattle.form.proofs.reads_d.Tie as tie

@@ -1,3 +1,4 @@
+-- second_full reads the bit of a form code that says whether the second source is read at 128 bits
 use Rattle.form.proofs.Parts.{parts}
 use Rattle.form.proofs.second_full.Statement.{statement}
 use Rattle.form.proofs.second_full.Tie as tie

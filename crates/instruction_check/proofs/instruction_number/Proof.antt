@@ -1,3 +1,4 @@
+-- instruction_number is `instructionNumber`: its tests in order, and 0 past them all
 use native.Mathlib.Omega.{arith}
 use mathlib.Core.Bool.{true}
 use mathlib.Core.Path.{_≡_, sym, _∙_}

@@ -1,3 +1,4 @@
+-- source_ok is `sourceOk`: none where it is not wanted, else a node below the count of its width
 use native.Mathlib.Omega.{arith}
 use Rattle.instruction_check.proofs.Refusing.{words-for, source-none, source-above, source-full, source-half}
 use Rattle.instruction_check.proofs.source_ok.Statement.{statement}

@@ -1,3 +1,4 @@
+-- sources_ok is `sourcesOk` of each form with that code: the three sources as the code says
 use Rattle.instruction_check.proofs.Refusing.{sources-are}
 use borrow.Author.Needs.{needs}
 use Rattle.instruction_check.proofs.sources_ok.Statement.{statement}

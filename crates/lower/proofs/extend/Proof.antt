@@ -1,3 +1,4 @@
+-- extend is a sign or a zero extension, as its flag says
 use Rattle.lower.proofs.Clamping.{extend-signed, extend-unsigned}
 use borrow.Author.Needs.{needs}
 use Rattle.lower.proofs.extend.Statement.{statement}

@@ -1,3 +1,4 @@
+-- minus_power is 2^wide - 2^bits in two words, below 65 bits and above
 use native.Mathlib.Omega.{arith}
 use lib.Pow.{pow-pos, pow-mono, pow-lt}
 use Prim.Native.Nat.{_-_, _^_}

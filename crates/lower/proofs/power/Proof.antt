@@ -1,3 +1,4 @@
+-- power is 2^bits: one bit shifted, which stays in a word
 use Rattle.facts.proofs.Numbers.{shifted}
 use borrow.Author.Needs.{needs}
 use Rattle.lower.proofs.power.Statement.{statement}

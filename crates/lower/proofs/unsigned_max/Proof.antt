@@ -1,3 +1,4 @@
+-- unsigned_max is 2^bits - 1, at 64 bits too
 use native.Mathlib.Omega.{arith}
 use lib.Pow.{pow-pos}
 use borrow.Author.Needs.{needs}

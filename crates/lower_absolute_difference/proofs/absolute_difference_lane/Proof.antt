@@ -1,3 +1,4 @@
+-- absolute_difference_lane builds `absoluteDifferenceLane`: both differences, and the comparison that chooses
 use Rattle.lower_absolute_difference.proofs.Differing.{difference-lane}
 use borrow.Author.Needs.{needs}
 use Rattle.lower_absolute_difference.proofs.absolute_difference_lane.Statement.{

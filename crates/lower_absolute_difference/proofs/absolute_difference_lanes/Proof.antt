@@ -1,3 +1,4 @@
+-- absolute_difference_lanes builds `absoluteDifferenceLanes`: its loop keeps the lanes so far
 use native.Mathlib.Omega.{arith}
 use native.Mathlib.Nat.{lt-of-lt-of-le}
 use Prim.Native.Nat.{_*_, _-_, _≤_}
@@ -12,7 +13,8 @@ abbrev Inv-loop : tie.InvT-loop
 Inv-loop pool₀ count signed accumulate first second d lane-bits lanes acc₀ i₀ pool acc i =
     (1 ≤ i)
     × (i ≤ lanes)
-    × LanesKept count 9 lane-bits (readIf accumulate d (lane-bits * lanes)) (read first (lane-bits * lanes)) (read second (lane-bits * lanes)) (differenceAt signed accumulate lane-bits) [] pool₀ acc₀ pool acc i
+    × LanesKept count 9 lane-bits (readIf accumulate d (lane-bits * lanes)) (read first (lane-bits * lanes)) (read second (lane-bits * lanes))
+    (differenceAt signed accumulate lane-bits) [] pool₀ acc₀ pool acc i
 
 abbrev μ-loop : tie.MeasureT-loop
 μ-loop pool₀ count signed accumulate first second d lane-bits lanes acc₀ i₀ pool acc i = lanes - i
@@ -22,7 +24,8 @@ entry c = c .before .before .before .before .before .before .before
 
 -- the lanes so far, over the pool at entry
 so-far : (c : tie.At-loop Inv-loop μ-loop) → let a = entry c .args in
-    LanesTo (a .pool .now) (a .count) (c .loop .pool) (c .loop .acc) 9 (a .lane-bits) (readIf (a .accumulate) (a .d) (a .lane-bits * a .lanes)) (read (a .first) (a .lane-bits * a .lanes)) (read (a .second) (a .lane-bits * a .lanes))
+    LanesTo (a .pool .now) (a .count) (c .loop .pool) (c .loop .acc) 9 (a .lane-bits) (readIf (a .accumulate) (a .d) (a .lane-bits * a .lanes))
+    (read (a .first) (a .lane-bits * a .lanes)) (read (a .second) (a .lane-bits * a .lanes))
     (differenceAt (a .signed) (a .accumulate) (a .lane-bits)) [] (c .loop .i)
 so-far c =
     let lane0 = c .before .before .before in
@@ -45,8 +48,10 @@ difference-at-requires-2 c κs =
     let t = c .before in
     let p = entry (t .before) .pre in
     let w = p .1 .1 in
-    let s = so-far (t .before) .sized in
-    (room-lane (p .0) (omega arith) (t .loop-test .taken) s, ((lt-of-lt-of-le (p .1 .0 .0) (s .more), lt-of-lt-of-le (p .1 .0 .1) (s .more), λ u. lt-of-lt-of-le (p .1 .0 .2 u) (s .more)), (w .0, w .1, t .loop-test .taken, w .3)))
+    let s = so-far (t .before) .sized in (
+      room-lane (p .0) (omega arith) (t .loop-test .taken) s,
+      ((lt-of-lt-of-le (p .1 .0 .0) (s .more), lt-of-lt-of-le (p .1 .0 .1) (s .more), λ u. lt-of-lt-of-le (p .1 .0 .2 u) (s .more)), (w .0, w .1, t .loop-test .taken, w .3)),
+    )
 
 concat-lanes-requires : tie.Need-concat-lanes-requires Inv-loop μ-loop
 concat-lanes-requires c κs =

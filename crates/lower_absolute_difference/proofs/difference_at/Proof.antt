@@ -1,3 +1,4 @@
+-- difference_at builds `differenceAt`, one lane, added to the old destination's or alone
 use native.Mathlib.Omega.{arith}
 use Rattle.lower_absolute_difference.proofs.Differing.{difference-added}
 use Rattle.lower_absolute_difference.proofs.Differing.{difference-alone}
@@ -27,7 +28,15 @@ extract-lane-requires-3 c κs =
     let l-extract-lane2 = l-absolute-difference-lane .before .before .before .before in
     let l-extract-lane = l-extract-lane2 .before .before .before .before in
     let st = l-extract-lane .before .before .before in
-    omega (arith, st .pre, l-extract-lane .extract-lane .ensures .sized, l-extract-lane2 .extract-lane2 .ensures .sized, l-absolute-difference-lane .absolute-difference-lane .ensures .sized, st .pre .1 .0 .2 (l-if1 .if1 .taken), lane-fits (st .args .lane-bits) (st .args .index .0) (st .args .lanes) (st .pre .1 .1 .2) (st .pre .1 .1 .3))
+    omega (
+      arith,
+      st .pre,
+      l-extract-lane .extract-lane .ensures .sized,
+      l-extract-lane2 .extract-lane2 .ensures .sized,
+      l-absolute-difference-lane .absolute-difference-lane .ensures .sized,
+      st .pre .1 .0 .2 (l-if1 .if1 .taken),
+      lane-fits (st .args .lane-bits) (st .args .index .0) (st .args .lanes) (st .pre .1 .1 .2) (st .pre .1 .1 .3),
+    )
 
 bv-requires : tie.Need-bv-requires
 bv-requires c κs =
@@ -36,7 +45,14 @@ bv-requires c κs =
     let l-extract-lane2 = l-absolute-difference-lane .before .before .before .before in
     let l-extract-lane = l-extract-lane2 .before .before .before .before in
     let st = l-extract-lane .before .before .before in
-    omega (arith, st .pre, l-extract-lane .extract-lane .ensures .sized, l-extract-lane2 .extract-lane2 .ensures .sized, l-absolute-difference-lane .absolute-difference-lane .ensures .sized, l-extract-lane3 .extract-lane3 .ensures .sized)
+    omega (
+      arith,
+      st .pre,
+      l-extract-lane .extract-lane .ensures .sized,
+      l-extract-lane2 .extract-lane2 .ensures .sized,
+      l-absolute-difference-lane .absolute-difference-lane .ensures .sized,
+      l-extract-lane3 .extract-lane3 .ensures .sized,
+    )
 
 same-length : tie.Need-same-length
 same-length c =
@@ -46,7 +62,15 @@ same-length c =
     let l-extract-lane2 = l-absolute-difference-lane .before .before .before .before in
     let l-extract-lane = l-extract-lane2 .before .before .before .before in
     let st = l-extract-lane .before .before .before in
-    omega (arith, st .pre, l-extract-lane .extract-lane .ensures .sized, l-extract-lane2 .extract-lane2 .ensures .sized, l-absolute-difference-lane .absolute-difference-lane .ensures .sized, l-extract-lane3 .extract-lane3 .ensures .sized, l-bv .bv .ensures .sized)
+    omega (
+      arith,
+      st .pre,
+      l-extract-lane .extract-lane .ensures .sized,
+      l-extract-lane2 .extract-lane2 .ensures .sized,
+      l-absolute-difference-lane .absolute-difference-lane .ensures .sized,
+      l-extract-lane3 .extract-lane3 .ensures .sized,
+      l-bv .bv .ensures .sized,
+    )
 
 returns : tie.Need-returns
 returns c =
@@ -57,7 +81,9 @@ returns c =
     let l-extract-lane2 = l-absolute-difference-lane .before .before .before .before in
     let l-extract-lane = l-extract-lane2 .before .before .before .before in
     let st = l-extract-lane .before .before .before in
-    difference-added (st .args .signed) (st .args .accumulate) (st .pre .1 .1 .0) (st .pre .1 .1 .1) (st .pre .1 .1 .2) (st .pre .1 .1 .3) (l-if1 .if1 .taken) (l-extract-lane .extract-lane .ensures) (l-extract-lane2 .extract-lane2 .ensures) (l-absolute-difference-lane .absolute-difference-lane .ensures) (l-extract-lane3 .extract-lane3 .ensures) (l-bv .bv .ensures)
+    difference-added (st .args .signed) (st .args .accumulate) (st .pre .1 .1 .0) (st .pre .1 .1 .1) (st .pre .1 .1 .2) (st .pre .1 .1 .3) (l-if1 .if1 .taken)
+    (l-extract-lane .extract-lane .ensures) (l-extract-lane2 .extract-lane2 .ensures) (l-absolute-difference-lane .absolute-difference-lane .ensures)
+    (l-extract-lane3 .extract-lane3 .ensures) (l-bv .bv .ensures)
 
 same-length-2 : tie.Need-same-length-2
 same-length-2 c = search needs
@@ -69,7 +95,8 @@ returns-2 c =
     let l-extract-lane2 = l-absolute-difference-lane .before .before .before .before in
     let l-extract-lane = l-extract-lane2 .before .before .before .before in
     let st = l-extract-lane .before .before .before in
-    difference-alone (st .args .signed) (st .args .accumulate) (st .pre .1 .1 .0) (st .pre .1 .1 .1) (st .pre .1 .1 .2) (st .pre .1 .1 .3) (l-if1 .if1 .left) (l-extract-lane .extract-lane .ensures) (l-extract-lane2 .extract-lane2 .ensures) (l-absolute-difference-lane .absolute-difference-lane .ensures)
+    difference-alone (st .args .signed) (st .args .accumulate) (st .pre .1 .1 .0) (st .pre .1 .1 .1) (st .pre .1 .1 .2) (st .pre .1 .1 .3) (l-if1 .if1 .left)
+    (l-extract-lane .extract-lane .ensures) (l-extract-lane2 .extract-lane2 .ensures) (l-absolute-difference-lane .absolute-difference-lane .ensures)
 
 pub difference-at-spec : {M : Type 1} → statement M
 difference-at-spec =

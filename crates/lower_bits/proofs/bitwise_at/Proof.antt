@@ -1,3 +1,4 @@
+-- bitwise_at builds `bitwiseAt`, one lane, whose bits are cut from below every Extract
 use native.Mathlib.Omega.{arith}
 use Prim.Native.Nat.{_+_, _*_, _≤_}
 use Rattle.lower.proofs.Lanes.{lane-fits}

@@ -1,3 +1,4 @@
+-- bitwise_unary_lanes builds `bitwiseUnaryLanes`: its loop keeps the lanes so far
 use native.Mathlib.Omega.{arith}
 use native.Mathlib.Nat.{lt-of-lt-of-le}
 use Prim.Native.Nat.{_+_, _*_, _-_, _≤_}

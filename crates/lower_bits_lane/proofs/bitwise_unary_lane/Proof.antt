@@ -1,3 +1,4 @@
+-- bitwise_unary_lane builds `bitwiseUnaryLane` for each of the four kinds
 use Rattle.lower_bits_lane.proofs.Bitwise.{lane-count, lane-zeros, lane-signs, lane-reversed}
 use borrow.Author.Needs.{needs}
 use Rattle.lower_bits_lane.proofs.bitwise_unary_lane.Statement.{statement}

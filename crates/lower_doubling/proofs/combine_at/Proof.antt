@@ -1,3 +1,4 @@
+-- combine_at builds `combinedAt`: the product itself, or its sum with the old lane under a second clamp
 use native.Mathlib.Omega.{arith}
 use Rattle.lower_doubling.proofs.Multiplying.{combined-nothing}
 use Rattle.lower_doubling.proofs.Multiplying.{combined-with}
@@ -22,7 +23,12 @@ extract-lane-requires : tie.Need-extract-lane-requires
 extract-lane-requires c κs =
     let l-combine = c .before .before in
     let st = l-combine .before .before .before in
-    omega (arith, st .pre, st .pre .1 .0 .1 (ap accumulates (l-combine .combine .given .1)), lane-fits (st .args .lane-bits) (st .args .index .0) (st .args .lanes) (st .pre .1 .1 .2) (st .pre .1 .1 .3))
+    omega (
+      arith,
+      st .pre,
+      st .pre .1 .0 .1 (ap accumulates (l-combine .combine .given .1)),
+      lane-fits (st .args .lane-bits) (st .args .index .0) (st .args .lanes) (st .pre .1 .1 .2) (st .pre .1 .1 .3),
+    )
 
 extend-requires : tie.Need-extend-requires
 extend-requires c κs = search needs
@@ -72,7 +78,8 @@ returns-2 c =
     let l-extract-lane = l-extend .before .before .before .before in
     let l-combine = l-extract-lane .before .before .before in
     let st = l-combine .before .before .before in
-    combined-with (st .pre .1 .1 .0) (st .pre .1 .1 .1) (st .pre .1 .1 .2) (st .pre .1 .1 .3) (l-combine .combine .given .1) (l-extract-lane .extract-lane .ensures) (l-extend .extend .ensures) (l-extend2 .extend2 .ensures) (l-bv .bv .ensures) (l-clamp .clamp .ensures)
+    combined-with (st .pre .1 .1 .0) (st .pre .1 .1 .1) (st .pre .1 .1 .2) (st .pre .1 .1 .3) (l-combine .combine .given .1) (l-extract-lane .extract-lane .ensures)
+    (l-extend .extend .ensures) (l-extend2 .extend2 .ensures) (l-bv .bv .ensures) (l-clamp .clamp .ensures)
 
 pub combine-at-spec : {M : Type 1} → statement M
 combine-at-spec =

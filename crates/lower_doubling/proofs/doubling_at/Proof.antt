@@ -1,3 +1,4 @@
+-- doubling_at builds `doubledAt`, one lane: its two factors, their product, and the old lane
 use native.Mathlib.Omega.{arith}
 use native.Mathlib.Nat.{lt-of-lt-of-le}
 use Prim.Native.Nat.{_+_, _*_, _/_, _≤_}

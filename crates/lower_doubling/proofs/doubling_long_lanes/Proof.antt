@@ -1,3 +1,4 @@
+-- doubling_long_lanes builds `doublingLongLanes`, over one element or over a vector's lanes
 use native.Mathlib.Omega.{arith}
 use Rattle.lower_doubling.proofs.Multiplying.{by-element}
 use Rattle.lower_doubling.proofs.Multiplying.{by-lane}
@@ -12,8 +13,17 @@ extract-lane-requires c κs = search needs
 doubled-lanes-requires : tie.Need-doubled-lanes-requires
 doubled-lanes-requires c κs =
     let l-extract-lane = c .before .before .before .before in
-    let st = l-extract-lane .before .before .before .before in
-    (omega (arith, st .pre, l-extract-lane .extract-lane .ensures .sized), ((omega (arith, st .pre, l-extract-lane .extract-lane .ensures .sized), omega (arith, l-extract-lane .extract-lane .ensures .sized), λ u. lt-of-lt-of-le (st .pre .1 .0 .2 u) (omega (arith, l-extract-lane .extract-lane .ensures .sized))), omega (arith, st .pre)))
+    let st = l-extract-lane .before .before .before .before in (
+      omega (arith, st .pre, l-extract-lane .extract-lane .ensures .sized),
+      (
+        (
+          omega (arith, st .pre, l-extract-lane .extract-lane .ensures .sized),
+          omega (arith, l-extract-lane .extract-lane .ensures .sized),
+          λ u. lt-of-lt-of-le (st .pre .1 .0 .2 u) (omega (arith, l-extract-lane .extract-lane .ensures .sized)),
+        ),
+        omega (arith, st .pre),
+      ),
+    )
 
 same-length : tie.Need-same-length
 same-length c = search needs
@@ -24,7 +34,8 @@ returns c =
     let l-extract-lane = l-doubled-lanes .before .before .before .before .before in
     let l-if1 = l-extract-lane .before .before in
     let st = l-if1 .before .before in
-    by-element (st .args .lane-bits) (st .args .lanes) (st .args .element .0) (st .args .combine) (st .args .upper) (st .args .by-element) (st .pre .1 .1 .4) (l-if1 .if1 .taken) (l-extract-lane .extract-lane .ensures) (l-doubled-lanes .doubled-lanes .ensures)
+    by-element (st .args .lane-bits) (st .args .lanes) (st .args .element .0) (st .args .combine) (st .args .upper) (st .args .by-element) (st .pre .1 .1 .4) (l-if1 .if1 .taken)
+    (l-extract-lane .extract-lane .ensures) (l-doubled-lanes .doubled-lanes .ensures)
 
 doubled-lanes-requires-2 : tie.Need-doubled-lanes-requires-2
 doubled-lanes-requires-2 c κs = search needs

@@ -1,3 +1,4 @@
+-- doubling_product builds `doublingProduct`: the doubled product at one bit more, clamped
 use native.Mathlib.Omega.{arith}
 use Rattle.lower_doubling.proofs.Multiplying.{product-made}
 use borrow.Author.Needs.{needs}
@@ -47,7 +48,16 @@ same-length c =
     let l-extend2 = l-bv .before .before .before .before in
     let l-extend = l-extend2 .before .before .before .before in
     let st = l-extend .before .before .before in
-    omega (arith, st .pre, l-extend .extend .ensures .sized, l-extend2 .extend2 .ensures .sized, l-bv .bv .ensures .sized, l-konst .konst .ensures .sized, l-bv2 .bv2 .ensures .sized, l-clamp .clamp .ensures .sized)
+    omega (
+      arith,
+      st .pre,
+      l-extend .extend .ensures .sized,
+      l-extend2 .extend2 .ensures .sized,
+      l-bv .bv .ensures .sized,
+      l-konst .konst .ensures .sized,
+      l-bv2 .bv2 .ensures .sized,
+      l-clamp .clamp .ensures .sized,
+    )
 
 returns : tie.Need-returns
 returns c =

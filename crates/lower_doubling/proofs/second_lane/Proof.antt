@@ -1,3 +1,4 @@
+-- second_lane is the element itself, or a lane of the vector
 use native.Mathlib.Omega.{arith}
 use Rattle.lower_doubling.proofs.Multiplying.{element-one}
 use Rattle.lower_doubling.proofs.Multiplying.{element-lane}

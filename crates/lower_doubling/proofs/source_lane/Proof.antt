@@ -1,3 +1,4 @@
+-- source_lane is `sourceLane`: the same lane, or as many further as there are lanes
 use mathlib.Core.Path.{refl}
 use borrow.Author.Needs.{needs}
 use Rattle.lower_doubling.proofs.source_lane.Statement.{statement}

@@ -1,3 +1,4 @@
+-- high_at builds `highAt`, one lane: two source lanes of twice the bits
 use native.Mathlib.Omega.{arith}
 use Prim.Native.Nat.{_*_}
 use Rattle.lower.proofs.Lanes.{lane-fits}
@@ -32,7 +33,8 @@ returns c =
     let l-extract-lane2 = l-high-narrow-lane .before .before .before .before in
     let l-extract-lane = l-extract-lane2 .before .before .before .before in
     let st = l-extract-lane .before .before .before in
-    high-at (st .args .subtract) (st .args .rounding) (st .pre .1 .1 .2) (l-extract-lane .extract-lane .ensures) (l-extract-lane2 .extract-lane2 .ensures) (l-high-narrow-lane .high-narrow-lane .ensures)
+    high-at (st .args .subtract) (st .args .rounding) (st .pre .1 .1 .2) (l-extract-lane .extract-lane .ensures) (l-extract-lane2 .extract-lane2 .ensures)
+    (l-high-narrow-lane .high-narrow-lane .ensures)
 
 pub high-at-spec : {M : Type 1} → statement M
 high-at-spec =

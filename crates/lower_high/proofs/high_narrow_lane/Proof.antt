@@ -1,3 +1,4 @@
+-- high_narrow_lane builds `highNarrowLane`: the sum or the difference, rounded or not, and its upper half
 use native.Mathlib.Omega.{arith}
 use Rattle.lower_high.proofs.Narrowing.{high-lane}
 use Rattle.facts.proofs.Numbers.{half-fits}
@@ -24,8 +25,15 @@ plus-if-requires : tie.Need-plus-if-requires
 plus-if-requires c κs =
     let l-bv = c .before .before .before in
     let l-power = l-bv .before .before in
-    let st = l-power .before .before .before in
-    (omega (arith, st .pre, l-bv .bv .ensures .sized), (omega (arith, st .pre, l-bv .bv .ensures .sized), omega (arith, st .pre), omega (arith, st .pre), rw (l-power .power .ensures) (half-fits (st .args .lane-bits) _ (st .pre .1 .2) (omega arith))))
+    let st = l-power .before .before .before in (
+      omega (arith, st .pre, l-bv .bv .ensures .sized),
+      (
+        omega (arith, st .pre, l-bv .bv .ensures .sized),
+        omega (arith, st .pre),
+        omega (arith, st .pre),
+        rw (l-power .power .ensures) (half-fits (st .args .lane-bits) _ (st .pre .1 .2) (omega arith)),
+      ),
+    )
 
 sub-t13 : tie.Need-sub-t13
 sub-t13 c = search needs
@@ -44,7 +52,8 @@ returns c =
     let l-power = l-bv .before .before in
     let l-sum-op = l-power .before in
     let st = l-sum-op .before .before in
-    high-lane (st .args .subtract) (st .args .rounding) (st .pre .1 .2) (st .pre .1 .3) (l-sum-op .sum-op .ensures) (l-power .power .ensures) (l-bv .bv .ensures) (l-plus-if .plus-if .ensures) (l-extract .extract .ensures)
+    high-lane (st .args .subtract) (st .args .rounding) (st .pre .1 .2) (st .pre .1 .3) (l-sum-op .sum-op .ensures) (l-power .power .ensures) (l-bv .bv .ensures)
+    (l-plus-if .plus-if .ensures) (l-extract .extract .ensures)
 
 pub high-narrow-lane-spec : {M : Type 1} → statement M
 high-narrow-lane-spec =

@@ -1,3 +1,4 @@
+-- high_narrow_lanes builds `highNarrowLanes`: the new lanes, above the lower half of d in a 2 form
 use native.Mathlib.Omega.{arith}
 use native.Mathlib.Nat.{lt-of-lt-of-le, one-le-mul}
 use Rattle.lower.proofs.Lanes.{kept-below}
@@ -12,8 +13,15 @@ narrowed-lanes-requires c κs = search needs
 keep-lower-requires : tie.Need-keep-lower-requires
 keep-lower-requires c κs =
     let l-narrowed-lanes = c .before .before .before in
-    let st = l-narrowed-lanes .before .before .before in
-    (omega (arith, st .pre, l-narrowed-lanes .narrowed-lanes .ensures .sized), (omega (arith, l-narrowed-lanes .narrowed-lanes .ensures .sized), λ u. lt-of-lt-of-le (st .pre .1 .0 .2 u) (omega (arith, l-narrowed-lanes .narrowed-lanes .ensures .sized)), one-le-mul (omega (arith, st .pre)) (st .pre .1 .1 .2), omega (arith, st .pre)))
+    let st = l-narrowed-lanes .before .before .before in (
+      omega (arith, st .pre, l-narrowed-lanes .narrowed-lanes .ensures .sized),
+      (
+        omega (arith, l-narrowed-lanes .narrowed-lanes .ensures .sized),
+        λ u. lt-of-lt-of-le (st .pre .1 .0 .2 u) (omega (arith, l-narrowed-lanes .narrowed-lanes .ensures .sized)),
+        one-le-mul (omega (arith, st .pre)) (st .pre .1 .1 .2),
+        omega (arith, st .pre),
+      ),
+    )
 
 same-length : tie.Need-same-length
 same-length c = search needs

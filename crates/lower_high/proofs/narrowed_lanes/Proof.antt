@@ -1,3 +1,4 @@
+-- narrowed_lanes builds the new lanes of `highNarrowLanes`: its loop keeps the lanes so far
 use native.Mathlib.Omega.{arith}
 use native.Mathlib.Nat.{lt-of-lt-of-le}
 use Prim.Native.Nat.{_*_, _-_, _≤_}

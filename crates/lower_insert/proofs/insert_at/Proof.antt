@@ -1,3 +1,4 @@
+-- insert_at builds `insertAt`, one lane of an insert
 use native.Mathlib.Omega.{arith}
 use Rattle.lower_insert.proofs.Inserting.{inserted}
 use Rattle.lower.proofs.Lanes.{lane-fits}
@@ -47,7 +48,15 @@ bv-requires-3 c κs =
     let l-extract-lane2 = l-bv .before .before .before .before .before in
     let l-extract-lane = l-extract-lane2 .before .before .before .before in
     let st = l-extract-lane .before .before .before in
-    omega (arith, st .pre, l-extract-lane .extract-lane .ensures .sized, l-extract-lane2 .extract-lane2 .ensures .sized, l-bv .bv .ensures .sized, l-konst .konst .ensures .sized, l-bv2 .bv2 .ensures .sized)
+    omega (
+      arith,
+      st .pre,
+      l-extract-lane .extract-lane .ensures .sized,
+      l-extract-lane2 .extract-lane2 .ensures .sized,
+      l-bv .bv .ensures .sized,
+      l-konst .konst .ensures .sized,
+      l-bv2 .bv2 .ensures .sized,
+    )
 
 same-length : tie.Need-same-length
 same-length c =
@@ -58,7 +67,16 @@ same-length c =
     let l-extract-lane2 = l-bv .before .before .before .before .before in
     let l-extract-lane = l-extract-lane2 .before .before .before .before in
     let st = l-extract-lane .before .before .before in
-    omega (arith, st .pre, l-extract-lane .extract-lane .ensures .sized, l-extract-lane2 .extract-lane2 .ensures .sized, l-bv .bv .ensures .sized, l-konst .konst .ensures .sized, l-bv2 .bv2 .ensures .sized, l-bv3 .bv3 .ensures .sized)
+    omega (
+      arith,
+      st .pre,
+      l-extract-lane .extract-lane .ensures .sized,
+      l-extract-lane2 .extract-lane2 .ensures .sized,
+      l-bv .bv .ensures .sized,
+      l-konst .konst .ensures .sized,
+      l-bv2 .bv2 .ensures .sized,
+      l-bv3 .bv3 .ensures .sized,
+    )
 
 returns : tie.Need-returns
 returns c =
@@ -70,7 +88,8 @@ returns c =
     let l-extract-lane2 = l-insert-op .before .before .before in
     let l-extract-lane = l-extract-lane2 .before .before .before .before in
     let st = l-extract-lane .before .before .before in
-    inserted (st .args .left) (st .pre .1 .1 .0) (st .pre .1 .1 .1) (st .pre .1 .1 .2) (st .pre .1 .1 .3) (st .pre .1 .0 .3) (l-insert-op .insert-op .ensures) (l-extract-lane .extract-lane .ensures) (l-extract-lane2 .extract-lane2 .ensures) (l-bv .bv .ensures) (l-konst .konst .ensures) (l-bv2 .bv2 .ensures) (l-bv3 .bv3 .ensures)
+    inserted (st .args .left) (st .pre .1 .1 .0) (st .pre .1 .1 .1) (st .pre .1 .1 .2) (st .pre .1 .1 .3) (st .pre .1 .0 .3) (l-insert-op .insert-op .ensures)
+    (l-extract-lane .extract-lane .ensures) (l-extract-lane2 .extract-lane2 .ensures) (l-bv .bv .ensures) (l-konst .konst .ensures) (l-bv2 .bv2 .ensures) (l-bv3 .bv3 .ensures)
 
 pub insert-at-spec : {M : Type 1} → statement M
 insert-at-spec =

@@ -1,3 +1,4 @@
+-- insert_lanes builds the lanes of `shiftInsertLanes` over the amount's node: its loop keeps the lanes so far
 use native.Mathlib.Omega.{arith}
 use native.Mathlib.Nat.{lt-of-lt-of-le}
 use Prim.Native.Nat.{_*_, _-_, _≤_}
@@ -22,7 +23,8 @@ entry c = c .before .before .before .before .before .before .before
 
 -- the lanes so far, over the pool at entry
 so-far : (c : tie.At-loop Inv-loop μ-loop) → let a = entry c .args in
-    LanesTo (a .pool .now) (a .count) (c .loop .pool) (c .loop .acc) 7 (a .lane-bits) (read (a .d) (a .lane-bits * a .lanes)) (read (a .first) (a .lane-bits * a .lanes)) (read (a .amount) (a .lane-bits))
+    LanesTo (a .pool .now) (a .count) (c .loop .pool) (c .loop .acc) 7 (a .lane-bits) (read (a .d) (a .lane-bits * a .lanes)) (read (a .first) (a .lane-bits * a .lanes))
+    (read (a .amount) (a .lane-bits))
     (insertAt (a .left) (a .kept) (a .lane-bits)) (a .amount .0 ∷ []) (c .loop .i)
 so-far c =
     let lane0 = c .before .before .before in
@@ -45,8 +47,10 @@ insert-at-requires-2 c κs =
     let t = c .before in
     let p = entry (t .before) .pre in
     let w = p .1 .1 in
-    let s = so-far (t .before) .sized in
-    (room-lane (p .0) (omega arith) (t .loop-test .taken) s, ((lt-of-lt-of-le (p .1 .0 .0) (s .more), lt-of-lt-of-le (p .1 .0 .1) (s .more), lt-of-lt-of-le (p .1 .0 .2) (s .more), p .1 .0 .3), (w .0, w .1, t .loop-test .taken, w .3)))
+    let s = so-far (t .before) .sized in (
+      room-lane (p .0) (omega arith) (t .loop-test .taken) s,
+      ((lt-of-lt-of-le (p .1 .0 .0) (s .more), lt-of-lt-of-le (p .1 .0 .1) (s .more), lt-of-lt-of-le (p .1 .0 .2) (s .more), p .1 .0 .3), (w .0, w .1, t .loop-test .taken, w .3)),
+    )
 
 concat-lanes-requires : tie.Need-concat-lanes-requires Inv-loop μ-loop
 concat-lanes-requires c κs =

@@ -1,3 +1,4 @@
+-- kept_bits is `keptBits`: the low bits, or all but the low ones
 use Rattle.lower_insert.proofs.Inserting.{kept-left, kept-right, low-le}
 use borrow.Author.Needs.{needs}
 use Rattle.lower_insert.proofs.kept_bits.Statement.{statement}

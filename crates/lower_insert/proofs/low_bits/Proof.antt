@@ -1,3 +1,4 @@
+-- low_bits is `unsignedMax`, for no bits too
 use mathlib.Core.Path.{refl}
 use borrow.Author.Needs.{needs}
 use Rattle.lower_insert.proofs.low_bits.Statement.{statement}

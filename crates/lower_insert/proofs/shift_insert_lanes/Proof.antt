@@ -1,3 +1,4 @@
+-- shift_insert_lanes builds `shiftInsertLanes`: the amount and the mask, then the lanes
 use native.Mathlib.Omega.{arith}
 use Rattle.lower_insert.proofs.Inserting.{inserted-all}
 use Rattle.lower_insert.proofs.Inserting.{kept-lt}
@@ -27,7 +28,8 @@ returns c =
     let l-kept-bits = l-insert-lanes .before .before in
     let l-konst = l-kept-bits .before .before .before in
     let st = l-konst .before .before .before in
-    inserted-all (st .args .left) (st .args .lanes) (st .pre .1 .1 .0) (st .pre .1 .1 .1) (st .pre .1 .0 .2) (l-kept-bits .kept-bits .ensures) (l-konst .konst .ensures) (l-insert-lanes .insert-lanes .ensures)
+    inserted-all (st .args .left) (st .args .lanes) (st .pre .1 .1 .0) (st .pre .1 .1 .1) (st .pre .1 .0 .2) (l-kept-bits .kept-bits .ensures) (l-konst .konst .ensures)
+    (l-insert-lanes .insert-lanes .ensures)
 
 pub shift-insert-lanes-spec : {M : Type 1} → statement M
 shift-insert-lanes-spec =

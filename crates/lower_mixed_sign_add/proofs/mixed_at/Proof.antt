@@ -1,3 +1,4 @@
+-- mixed_at builds `mixedAt`, one lane: the sum at two bits more, clamped
 use native.Mathlib.Omega.{arith}
 use Rattle.lower_mixed_sign_add.proofs.Summing.{mixed-lane}
 use Rattle.lower.proofs.Lanes.{lane-fits}
@@ -45,7 +46,15 @@ clamp-requires c κs =
     let l-extract-lane2 = l-extend .before .before .before .before in
     let l-extract-lane = l-extract-lane2 .before .before .before .before in
     let st = l-extract-lane .before .before .before in
-    omega (arith, st .pre, l-extract-lane .extract-lane .ensures .sized, l-extract-lane2 .extract-lane2 .ensures .sized, l-extend .extend .ensures .sized, l-extend2 .extend2 .ensures .sized, l-bv .bv .ensures .sized)
+    omega (
+      arith,
+      st .pre,
+      l-extract-lane .extract-lane .ensures .sized,
+      l-extract-lane2 .extract-lane2 .ensures .sized,
+      l-extend .extend .ensures .sized,
+      l-extend2 .extend2 .ensures .sized,
+      l-bv .bv .ensures .sized,
+    )
 
 same-length : tie.Need-same-length
 same-length c =
@@ -56,7 +65,16 @@ same-length c =
     let l-extract-lane2 = l-extend .before .before .before .before in
     let l-extract-lane = l-extract-lane2 .before .before .before .before in
     let st = l-extract-lane .before .before .before in
-    omega (arith, st .pre, l-extract-lane .extract-lane .ensures .sized, l-extract-lane2 .extract-lane2 .ensures .sized, l-extend .extend .ensures .sized, l-extend2 .extend2 .ensures .sized, l-bv .bv .ensures .sized, l-clamp .clamp .ensures .sized)
+    omega (
+      arith,
+      st .pre,
+      l-extract-lane .extract-lane .ensures .sized,
+      l-extract-lane2 .extract-lane2 .ensures .sized,
+      l-extend .extend .ensures .sized,
+      l-extend2 .extend2 .ensures .sized,
+      l-bv .bv .ensures .sized,
+      l-clamp .clamp .ensures .sized,
+    )
 
 returns : tie.Need-returns
 returns c =
@@ -68,7 +86,8 @@ returns c =
     let l-extract-lane2 = l-extend .before .before .before .before in
     let l-extract-lane = l-extract-lane2 .before .before .before .before in
     let st = l-extract-lane .before .before .before in
-    mixed-lane (st .args .destination-signed) (st .pre .1 .1 .0) (st .pre .1 .1 .1) (st .pre .1 .1 .2) (st .pre .1 .1 .3) (l-mixed-to .mixed-to .ensures) (l-extract-lane .extract-lane .ensures) (l-extract-lane2 .extract-lane2 .ensures) (l-extend .extend .ensures) (l-extend2 .extend2 .ensures) (l-bv .bv .ensures) (l-clamp .clamp .ensures)
+    mixed-lane (st .args .destination-signed) (st .pre .1 .1 .0) (st .pre .1 .1 .1) (st .pre .1 .1 .2) (st .pre .1 .1 .3) (l-mixed-to .mixed-to .ensures)
+    (l-extract-lane .extract-lane .ensures) (l-extract-lane2 .extract-lane2 .ensures) (l-extend .extend .ensures) (l-extend2 .extend2 .ensures) (l-bv .bv .ensures) (l-clamp .clamp .ensures)
 
 pub mixed-at-spec : {M : Type 1} → statement M
 mixed-at-spec =

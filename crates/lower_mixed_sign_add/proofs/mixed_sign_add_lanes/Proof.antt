@@ -1,3 +1,4 @@
+-- mixed_sign_add_lanes builds `mixedSignAddLanes`: its loop keeps the lanes so far
 use native.Mathlib.Omega.{arith}
 use native.Mathlib.Nat.{lt-of-lt-of-le}
 use Prim.Native.Nat.{_*_, _-_, _≤_}

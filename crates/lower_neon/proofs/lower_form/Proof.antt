@@ -1,3 +1,4 @@
+-- lower_form builds `resultTree`: a legal form's shape is ready for its family
 use native.Mathlib.Omega.{arith}
 use Rattle.neon.specs.Op.{opAt, arrangementAt}
 use Rattle.neon.proofs.Legal.{formed}
@@ -18,8 +19,11 @@ neon-value-requires c κs =
     let st = l-shape .before .before in
     let f = formed (st .args .operation) (st .args .arrangement) (st .args .i) 0 (st .pre .1 .0) .0 in
     let o = opAt (st .args .operation) in
-    let v = arrangementAt (st .args .arrangement) in
-    (st .pre .0, form-ready (st .args .count) (st .args .first) (st .args .second) (st .args .d) o v (st .args .i) (l-shape .shape .ensures) (row o v (st .args .i) (f .row) (f .low) (f .high)) (st .pre .1 .1 .0) (st .pre .1 .1 .1) (st .pre .1 .1 .2))
+    let v = arrangementAt (st .args .arrangement) in (
+      st .pre .0,
+      form-ready (st .args .count) (st .args .first) (st .args .second) (st .args .d) o v (st .args .i) (l-shape .shape .ensures) (row o v (st .args .i) (f .row) (f .low) (f .high))
+          (st .pre .1 .1 .0) (st .pre .1 .1 .1) (st .pre .1 .1 .2),
+    )
 
 same-length : tie.Need-same-length
 same-length c =

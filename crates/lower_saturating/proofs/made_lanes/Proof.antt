@@ -1,3 +1,4 @@
+-- made_lanes builds the new lanes of `saturatingLanes`: its loop keeps the lanes so far
 use native.Mathlib.Omega.{arith}
 use native.Mathlib.Nat.{lt-of-lt-of-le}
 use Prim.Native.Nat.{_*_, _-_, _≤_}
@@ -14,7 +15,8 @@ abbrev Inv-loop : tie.InvT-loop
 Inv-loop pool₀ count kind signed-sources first second lane-bits lanes acc₀ i₀ pool acc i =
     (1 ≤ i)
     × (i ≤ lanes)
-    × LanesKept count 19 lane-bits unread (read first (kindBits kind lane-bits * lanes)) (readIf (usesSecond kind) second (kindBits kind lane-bits * lanes)) (λ d. saturatingAt kind signed-sources lane-bits) [] pool₀ acc₀ pool acc i
+    × LanesKept count 19 lane-bits unread (read first (kindBits kind lane-bits * lanes)) (readIf (usesSecond kind) second (kindBits kind lane-bits * lanes))
+    (λ d. saturatingAt kind signed-sources lane-bits) [] pool₀ acc₀ pool acc i
 
 abbrev μ-loop : tie.MeasureT-loop
 μ-loop pool₀ count kind signed-sources first second lane-bits lanes acc₀ i₀ pool acc i = lanes - i
@@ -24,7 +26,8 @@ entry c = c .before .before .before .before .before .before .before
 
 -- the lanes so far, over the pool at entry
 so-far : (c : tie.At-loop Inv-loop μ-loop) → let a = entry c .args in
-    LanesTo (a .pool .now) (a .count) (c .loop .pool) (c .loop .acc) 19 (a .lane-bits) unread (read (a .first) (kindBits (a .kind) (a .lane-bits) * a .lanes)) (readIf (usesSecond (a .kind)) (a .second) (kindBits (a .kind) (a .lane-bits) * a .lanes))
+    LanesTo (a .pool .now) (a .count) (c .loop .pool) (c .loop .acc) 19 (a .lane-bits) unread (read (a .first) (kindBits (a .kind) (a .lane-bits) * a .lanes))
+    (readIf (usesSecond (a .kind)) (a .second) (kindBits (a .kind) (a .lane-bits) * a .lanes))
     (λ d. saturatingAt (a .kind) (a .signed-sources) (a .lane-bits)) [] (c .loop .i)
 so-far c =
     let lane0 = c .before .before .before in
@@ -76,7 +79,8 @@ loop-again c =
     let l = j .before .before .before .before in (
       omega arith,
       omega (arith, t .loop-test .taken),
-      λ old d. lanes-more _ (w .0) (s .inv .0) (t .loop-test .taken) (made-most (entry (t .before) .args .kind) _ _ (w .4)) (omega arith) (s .inv .2 old d) (l .saturating-at2 .ensures) (j .concat-lanes .ensures),
+      λ old d. lanes-more _ (w .0) (s .inv .0) (t .loop-test .taken) (made-most (entry (t .before) .args .kind) _ _ (w .4)) (omega arith) (s .inv .2 old d) (l .saturating-at2 .ensures)
+          (j .concat-lanes .ensures),
     )
 
 same-length : tie.Need-same-length Inv-loop μ-loop

@@ -1,3 +1,4 @@
+-- saturating_at builds `saturatingAt`, one lane, of one source lane or of two
 use native.Mathlib.Omega.{arith}
 use mathlib.Core.Bool.{true}
 use mathlib.Core.Path.{_≡_, sym, subst, _∙_}

@@ -1,3 +1,4 @@
+-- saturating_lanes builds `saturatingLanes`: the new lanes, above the lower half of d in a 2 form
 use native.Mathlib.Omega.{arith}
 use native.Mathlib.Nat.{lt-of-lt-of-le, one-le-mul}
 use Rattle.lower_saturating.proofs.Joining.{with-lower, alone}
@@ -12,8 +13,15 @@ keep-lower-requires : tie.Need-keep-lower-requires
 keep-lower-requires c κs =
     let l-if1 = c .before in
     let l-made-lanes = l-if1 .before .before .before in
-    let st = l-made-lanes .before .before .before in
-    (omega (arith, st .pre, l-made-lanes .made-lanes .ensures .sized), (omega (arith, l-made-lanes .made-lanes .ensures .sized), λ u. lt-of-lt-of-le (st .pre .1 .0 .2 (l-if1 .if1 .taken)) (omega (arith, l-made-lanes .made-lanes .ensures .sized)), one-le-mul (st .pre .1 .1 .0) (st .pre .1 .1 .3), st .pre .1 .1 .5 (l-if1 .if1 .taken)))
+    let st = l-made-lanes .before .before .before in (
+      omega (arith, st .pre, l-made-lanes .made-lanes .ensures .sized),
+      (
+        omega (arith, l-made-lanes .made-lanes .ensures .sized),
+        λ u. lt-of-lt-of-le (st .pre .1 .0 .2 (l-if1 .if1 .taken)) (omega (arith, l-made-lanes .made-lanes .ensures .sized)),
+        one-le-mul (st .pre .1 .1 .0) (st .pre .1 .1 .3),
+        st .pre .1 .1 .5 (l-if1 .if1 .taken),
+      ),
+    )
 
 same-length : tie.Need-same-length
 same-length c = search needs

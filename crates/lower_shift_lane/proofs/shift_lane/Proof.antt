@@ -1,3 +1,4 @@
+-- shift_lane builds `shiftedBy` for each kind of shift
 use native.Mathlib.Omega.{arith}
 use Rattle.lower_shift_lane.proofs.Shifting.{lane-left}
 use Rattle.lower_shift_lane.proofs.Shifting.{lane-right}
@@ -56,7 +57,8 @@ returns-2 c =
     let l-konst = l-shift-right .before .before .before .before in
     let l-kind2 = l-konst .before .before .before in
     let st = l-kind2 .before .before .before in
-    lane-right (st .args .signed) (l-kind2 .kind2 .given .1) (omega (arith, st .pre)) ((subst (λ (k : ShiftKind). AmountIn k (st .args .lane-bits)) (l-kind2 .kind2 .given .1) (st .pre .1 .4)) .1) (st .pre .1 .3) (l-konst .konst .ensures) (l-shift-right .shift-right .ensures)
+    lane-right (st .args .signed) (l-kind2 .kind2 .given .1) (omega (arith, st .pre))
+    ((subst (λ (k : ShiftKind). AmountIn k (st .args .lane-bits)) (l-kind2 .kind2 .given .1) (st .pre .1 .4)) .1) (st .pre .1 .3) (l-konst .konst .ensures) (l-shift-right .shift-right .ensures)
 
 same-length-3 : tie.Need-same-length-3
 same-length-3 c = search needs

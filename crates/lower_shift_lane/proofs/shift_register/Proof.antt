@@ -1,3 +1,4 @@
+-- shift_register builds `shiftedBy` of a register shift: both directions, and the test of the amount's sign
 use native.Mathlib.Omega.{arith}
 use Rattle.lower_shift_lane.proofs.Shifting.{registered}
 use borrow.Author.Needs.{needs}

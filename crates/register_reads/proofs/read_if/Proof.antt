@@ -1,3 +1,4 @@
+-- read_if is a read of a register in each of its cases: not used, whole, its low half
 use borrow.Author.Tests.{not-true, not-false}
 use native.Mathlib.Omega.{arith}
 use mathlib.Core.Path.{refl}

@@ -1,3 +1,4 @@
+-- widen builds `widenTree`: the result itself, or its zero extension
 use native.Mathlib.Omega.{arith}
 use mathlib.Core.Path.{refl}
 use Rattle.register_reads.proofs.Reading.{widen-none, widen-some}

@@ -1,3 +1,4 @@
+-- made_bits is `madeBits`: 64 where lanes narrow, else the view's
 use mathlib.Core.Path.{refl, sym, _∙_}
 use Rattle.shape.proofs.Rows.{made-half, made-all}
 use Rattle.neon.specs.Op.{opAt}

@@ -1,3 +1,4 @@
+-- narrows is `isNarrow` of the operation's row, in each range of numbers
 use Rattle.shape.proofs.Rows.{low, middle, high}
 use Rattle.shape.proofs.narrows.Statement.{statement}
 use Rattle.shape.proofs.narrows.Tie as tie

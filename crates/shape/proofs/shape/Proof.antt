@@ -1,3 +1,4 @@
+-- shape is `shapeOf`: the row of the operation, and the arrangement's lanes
 use native.Mathlib.Omega.{arith}
 use mathlib.Core.Path.{refl}
 use Rattle.neon.specs.Op.{arrangementAt}

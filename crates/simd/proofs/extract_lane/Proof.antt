@@ -1,3 +1,4 @@
+-- extract_lane is a cut at the lane's bits, which lie in 128
 use Rattle.simd.proofs.Cutting.{lane-built}
 use borrow.Author.Needs.{needs}
 use Rattle.simd.proofs.extract_lane.Statement.{statement}

@@ -1,3 +1,4 @@
+-- source_bits is `kindBits`: twice a lane's bits where the kind narrows, else as many
 use Rattle.kinds.proofs.Bits.{bits-narrowing, bits-same}
 use borrow.Author.Needs.{needs}
 use Rattle.kinds.proofs.sources.source_bits.Statement.{statement}

@@ -1,3 +1,4 @@
+-- clamp builds `clamp` for each of the three ranges, whose bounds fit the width
 use native.Mathlib.Omega.{arith}
 use lib.Pow.{pow-pos}
 use Rattle.lower.proofs.Clamping.{clamp-signed, clamp-unsigned, clamp-to-unsigned, low-fits, high-fits}

@@ -1,3 +1,4 @@
+-- clamp_below builds `clampBelow` and cuts the low bits of it
 use Rattle.lower.proofs.Clamping.{below}
 use borrow.Author.Needs.{needs}
 use Rattle.lower.proofs.arith.clamp_below.Statement.{statement}

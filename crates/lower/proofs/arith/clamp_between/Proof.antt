@@ -1,3 +1,4 @@
+-- clamp_between builds `clampBetween` and cuts the low bits of it
 use native.Mathlib.Omega.{arith}
 use Rattle.lower.proofs.Clamping.{between}
 use borrow.Author.Needs.{needs}
@@ -44,7 +45,16 @@ sub-t29 c =
     let l-compare = l-ite .before .before .before .before in
     let l-konst = l-compare .before .before .before .before in
     let st = l-konst .before .before .before in
-    omega (arith, st .pre, l-konst .konst .ensures .sized, l-compare .compare .ensures .sized, l-ite .ite .ensures .sized, l-konst2 .konst2 .ensures .sized, l-compare2 .compare2 .ensures .sized, l-ite2 .ite2 .ensures .sized)
+    omega (
+      arith,
+      st .pre,
+      l-konst .konst .ensures .sized,
+      l-compare .compare .ensures .sized,
+      l-ite .ite .ensures .sized,
+      l-konst2 .konst2 .ensures .sized,
+      l-compare2 .compare2 .ensures .sized,
+      l-ite2 .ite2 .ensures .sized,
+    )
 
 extract-requires : tie.Need-extract-requires
 extract-requires c κs =
@@ -55,7 +65,16 @@ extract-requires c κs =
     let l-compare = l-ite .before .before .before .before in
     let l-konst = l-compare .before .before .before .before in
     let st = l-konst .before .before .before in
-    omega (arith, st .pre, l-konst .konst .ensures .sized, l-compare .compare .ensures .sized, l-ite .ite .ensures .sized, l-konst2 .konst2 .ensures .sized, l-compare2 .compare2 .ensures .sized, l-ite2 .ite2 .ensures .sized)
+    omega (
+      arith,
+      st .pre,
+      l-konst .konst .ensures .sized,
+      l-compare .compare .ensures .sized,
+      l-ite .ite .ensures .sized,
+      l-konst2 .konst2 .ensures .sized,
+      l-compare2 .compare2 .ensures .sized,
+      l-ite2 .ite2 .ensures .sized,
+    )
 
 same-length : tie.Need-same-length
 same-length c =
@@ -67,7 +86,17 @@ same-length c =
     let l-compare = l-ite .before .before .before .before in
     let l-konst = l-compare .before .before .before .before in
     let st = l-konst .before .before .before in
-    omega (arith, st .pre, l-konst .konst .ensures .sized, l-compare .compare .ensures .sized, l-ite .ite .ensures .sized, l-konst2 .konst2 .ensures .sized, l-compare2 .compare2 .ensures .sized, l-ite2 .ite2 .ensures .sized, l-extract .extract .ensures .sized)
+    omega (
+      arith,
+      st .pre,
+      l-konst .konst .ensures .sized,
+      l-compare .compare .ensures .sized,
+      l-ite .ite .ensures .sized,
+      l-konst2 .konst2 .ensures .sized,
+      l-compare2 .compare2 .ensures .sized,
+      l-ite2 .ite2 .ensures .sized,
+      l-extract .extract .ensures .sized,
+    )
 
 returns : tie.Need-returns
 returns c =
@@ -79,7 +108,8 @@ returns c =
     let l-compare = l-ite .before .before .before .before in
     let l-konst = l-compare .before .before .before .before in
     let st = l-konst .before .before .before in
-    between (st .pre .1 .0 .1) (st .pre .1 .0 .2) (st .pre .1 .0 .3) (st .pre .1 .1 .0) (st .pre .1 .1 .1) (l-konst .konst .ensures) (l-compare .compare .ensures) (l-ite .ite .ensures) (l-konst2 .konst2 .ensures) (l-compare2 .compare2 .ensures) (l-ite2 .ite2 .ensures) (l-extract .extract .ensures)
+    between (st .pre .1 .0 .1) (st .pre .1 .0 .2) (st .pre .1 .0 .3) (st .pre .1 .1 .0) (st .pre .1 .1 .1) (l-konst .konst .ensures) (l-compare .compare .ensures) (l-ite .ite .ensures)
+    (l-konst2 .konst2 .ensures) (l-compare2 .compare2 .ensures) (l-ite2 .ite2 .ensures) (l-extract .extract .ensures)
 
 pub clamp-between-spec : {M : Type 1} → statement M
 clamp-between-spec =

@@ -1,3 +1,4 @@
+-- plus_if builds `plusIf`: a constant added, or the value itself
 use mathlib.Core.Path.{refl}
 use Rattle.lower.proofs.Clamping.{plus-yes, plus-no}
 use borrow.Author.Needs.{needs}

@@ -1,3 +1,4 @@
+-- count_at builds `countAt`: the sum with one bit more
 use Rattle.lower_bits_lane.proofs.Layering.{count-at}
 use borrow.Author.Needs.{needs}
 use Rattle.lower_bits_lane.proofs.counts.count_at.Statement.{statement}

@@ -1,3 +1,4 @@
+-- leading_sign_bits builds the leading zeros of neighbours' differences, at one bit less
 use native.Mathlib.Omega.{arith}
 use Rattle.lower_bits_lane.proofs.Bitwise.{sign-bits}
 use borrow.Author.Needs.{needs}

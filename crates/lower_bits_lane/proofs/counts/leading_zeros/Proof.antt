@@ -1,3 +1,4 @@
+-- leading_zeros builds `leadingZeros`: its loop keeps the tests of the bits so far
 use native.Mathlib.Omega.{arith}
 use native.Mathlib.Nat.{le-refl}
 use Prim.Native.Nat.{_-_, _≤_}

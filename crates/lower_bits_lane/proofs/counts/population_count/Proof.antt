@@ -1,3 +1,4 @@
+-- population_count builds `populationCount`: its loop keeps the sum of the bits so far
 use native.Mathlib.Omega.{arith}
 use Prim.Native.Nat.{_-_, _≤_}
 use Rattle.trees.specs.Arith.{countAt}

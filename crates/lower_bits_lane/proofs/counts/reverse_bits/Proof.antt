@@ -1,3 +1,4 @@
+-- reverse_bits builds the reversed lane: its loop keeps the bits so far, from the top down
 use native.Mathlib.Omega.{arith}
 use native.Mathlib.Nat.{lt-of-lt-of-le, le-refl}
 use Prim.Native.Nat.{ℕ, _+_, _-_, _≤_}

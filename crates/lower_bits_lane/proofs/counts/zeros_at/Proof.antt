@@ -1,3 +1,4 @@
+-- zeros_at builds `zerosAt`: the test of one bit over those of the bits below it
 use native.Mathlib.Omega.{arith}
 use Rattle.lower_bits_lane.proofs.Layering.{zeros-at}
 use borrow.Author.Needs.{needs}

@@ -1,3 +1,4 @@
+-- exact_shift_left builds `leftImmediate` of SQSHLU: the exact product at its width, clamped
 use native.Mathlib.Omega.{arith}
 use Rattle.lower_shift_lane.proofs.Shifting.{exact-left}
 use mathlib.Core.Path.{refl}

@@ -1,3 +1,4 @@
+-- left_by builds `leftBy`: a left shift by a register, which clamps or not
 use Rattle.lower_shift_lane.proofs.Shifting.{by-saturating}
 use Rattle.lower_shift_lane.proofs.Shifting.{by-wrapping}
 use borrow.Author.Needs.{needs}

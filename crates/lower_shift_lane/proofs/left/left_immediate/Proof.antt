@@ -1,3 +1,4 @@
+-- left_immediate builds `leftImmediate`: a plain shift, or one that clamps
 use native.Mathlib.Omega.{arith}
 use Rattle.lower_shift_lane.proofs.Shifting.{left-wrapping}
 use Rattle.lower_shift_lane.proofs.Shifting.{left-into}

@@ -1,3 +1,4 @@
+-- saturated_left builds `leftImmediate` of a shift that clamps, into each range
 use native.Mathlib.Omega.{arith}
 use Rattle.lower_shift_lane.proofs.Shifting.{left-exact}
 use Rattle.lower_shift_lane.proofs.Shifting.{left-clamped}
@@ -38,7 +39,8 @@ returns-2 c =
     let l-konst = l-saturating-shift-left .before .before .before .before in
     let l-match = l-konst .before .before in
     let st = l-match .before .before in
-    left-clamped (st .args .to) (st .args .signed) (λ q. not-third _ (l-match .match .keys2) (rw q refl)) (omega (arith, st .pre)) (st .pre .1 .1) (st .pre .1 .2) (l-konst .konst .ensures) (l-saturating-shift-left .saturating-shift-left .ensures)
+    left-clamped (st .args .to) (st .args .signed) (λ q. not-third _ (l-match .match .keys2) (rw q refl)) (omega (arith, st .pre)) (st .pre .1 .1) (st .pre .1 .2)
+    (l-konst .konst .ensures) (l-saturating-shift-left .saturating-shift-left .ensures)
 
 pub saturated-left-spec : {M : Type 1} → statement M
 saturated-left-spec =

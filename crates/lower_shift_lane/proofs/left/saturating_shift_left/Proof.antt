@@ -1,3 +1,4 @@
+-- saturating_shift_left builds `saturatingShiftLeft`: the shift, the shift back, and the bound
 use native.Mathlib.Omega.{arith}
 use Rattle.lower_shift_lane.proofs.Shifting.{saturating}
 use borrow.Author.Needs.{needs}
@@ -47,7 +48,8 @@ returns c =
     let l-shift-op = l-bv2 .before .before in
     let l-bv = l-shift-op .before .before .before in
     let st = l-bv .before .before .before in
-    saturating (st .args .signed) (st .pre .1 .2) (st .pre .1 .3) (l-shift-op .shift-op .ensures) (l-bv .bv .ensures) (l-bv2 .bv2 .ensures) (l-compare .compare .ensures) (l-shift-bound .shift-bound .ensures) (l-ite .ite .ensures)
+    saturating (st .args .signed) (st .pre .1 .2) (st .pre .1 .3) (l-shift-op .shift-op .ensures) (l-bv .bv .ensures) (l-bv2 .bv2 .ensures) (l-compare .compare .ensures)
+    (l-shift-bound .shift-bound .ensures) (l-ite .ite .ensures)
 
 pub saturating-shift-left-spec : {M : Type 1} → statement M
 saturating-shift-left-spec =

@@ -1,3 +1,4 @@
+-- shift_bound builds `shiftBound`: by the value's sign, or the one bound of the unsigned range
 use native.Mathlib.Omega.{arith}
 use Rattle.lower_shift_lane.proofs.Shifting.{bound-signed}
 use Rattle.lower_shift_lane.proofs.Shifting.{bound-unsigned}
@@ -65,7 +66,8 @@ returns c =
     let l-power = l-konst .before .before in
     let l-if1 = l-power .before in
     let st = l-if1 .before .before in
-    bound-signed (st .pre .1 .1) (st .pre .1 .2) (l-if1 .if1 .taken) (l-power .power .ensures) (l-konst .konst .ensures) (l-compare .compare .ensures) (l-konst2 .konst2 .ensures) (l-konst3 .konst3 .ensures) (l-ite .ite .ensures)
+    bound-signed (st .pre .1 .1) (st .pre .1 .2) (l-if1 .if1 .taken) (l-power .power .ensures) (l-konst .konst .ensures) (l-compare .compare .ensures) (l-konst2 .konst2 .ensures)
+    (l-konst3 .konst3 .ensures) (l-ite .ite .ensures)
 
 unsigned-max-requires : tie.Need-unsigned-max-requires
 unsigned-max-requires c κs = search needs

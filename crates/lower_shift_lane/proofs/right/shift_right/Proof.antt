@@ -1,3 +1,4 @@
+-- shift_right builds `shiftRight`: the rounding sum of its own function, else one shift
 use Rattle.lower_shift_lane.proofs.Shifting.{right-rounding}
 use Rattle.lower_shift_lane.proofs.Shifting.{right-plain}
 use borrow.Author.Needs.{needs}

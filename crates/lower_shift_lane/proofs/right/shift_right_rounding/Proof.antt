@@ -1,3 +1,4 @@
+-- shift_right_rounding builds `shiftRight` with rounding: each call has its room, and the width is `roundingBits`
 use native.Mathlib.Omega.{arith}
 use Rattle.lower_shift_lane.proofs.Shifting.{rounded-shift}
 use borrow.Author.Needs.{needs}
@@ -51,7 +52,16 @@ bv-requires-4 c κs =
     let l-konst = l-bv .before .before .before .before in
     let l-zero-ext = l-konst .before .before .before .before in
     let st = l-zero-ext .before .before .before .before in
-    omega (arith, st .pre, l-zero-ext .zero-ext .ensures .sized, l-konst .konst .ensures .sized, l-bv .bv .ensures .sized, l-bv2 .bv2 .ensures .sized, l-extend .extend .ensures .sized, l-bv3 .bv3 .ensures .sized)
+    omega (
+      arith,
+      st .pre,
+      l-zero-ext .zero-ext .ensures .sized,
+      l-konst .konst .ensures .sized,
+      l-bv .bv .ensures .sized,
+      l-bv2 .bv2 .ensures .sized,
+      l-extend .extend .ensures .sized,
+      l-bv3 .bv3 .ensures .sized,
+    )
 
 sub-t34 : tie.Need-sub-t34
 sub-t34 c =
@@ -63,7 +73,17 @@ sub-t34 c =
     let l-konst = l-bv .before .before .before .before in
     let l-zero-ext = l-konst .before .before .before .before in
     let st = l-zero-ext .before .before .before .before in
-    omega (arith, st .pre, l-zero-ext .zero-ext .ensures .sized, l-konst .konst .ensures .sized, l-bv .bv .ensures .sized, l-bv2 .bv2 .ensures .sized, l-extend .extend .ensures .sized, l-bv3 .bv3 .ensures .sized, l-bv4 .bv4 .ensures .sized)
+    omega (
+      arith,
+      st .pre,
+      l-zero-ext .zero-ext .ensures .sized,
+      l-konst .konst .ensures .sized,
+      l-bv .bv .ensures .sized,
+      l-bv2 .bv2 .ensures .sized,
+      l-extend .extend .ensures .sized,
+      l-bv3 .bv3 .ensures .sized,
+      l-bv4 .bv4 .ensures .sized,
+    )
 
 extract-requires : tie.Need-extract-requires
 extract-requires c κs =
@@ -75,7 +95,17 @@ extract-requires c κs =
     let l-konst = l-bv .before .before .before .before in
     let l-zero-ext = l-konst .before .before .before .before in
     let st = l-zero-ext .before .before .before .before in
-    omega (arith, st .pre, l-zero-ext .zero-ext .ensures .sized, l-konst .konst .ensures .sized, l-bv .bv .ensures .sized, l-bv2 .bv2 .ensures .sized, l-extend .extend .ensures .sized, l-bv3 .bv3 .ensures .sized, l-bv4 .bv4 .ensures .sized)
+    omega (
+      arith,
+      st .pre,
+      l-zero-ext .zero-ext .ensures .sized,
+      l-konst .konst .ensures .sized,
+      l-bv .bv .ensures .sized,
+      l-bv2 .bv2 .ensures .sized,
+      l-extend .extend .ensures .sized,
+      l-bv3 .bv3 .ensures .sized,
+      l-bv4 .bv4 .ensures .sized,
+    )
 
 same-length : tie.Need-same-length
 same-length c =
@@ -88,7 +118,18 @@ same-length c =
     let l-konst = l-bv .before .before .before .before in
     let l-zero-ext = l-konst .before .before .before .before in
     let st = l-zero-ext .before .before .before .before in
-    omega (arith, st .pre, l-zero-ext .zero-ext .ensures .sized, l-konst .konst .ensures .sized, l-bv .bv .ensures .sized, l-bv2 .bv2 .ensures .sized, l-extend .extend .ensures .sized, l-bv3 .bv3 .ensures .sized, l-bv4 .bv4 .ensures .sized, l-extract .extract .ensures .sized)
+    omega (
+      arith,
+      st .pre,
+      l-zero-ext .zero-ext .ensures .sized,
+      l-konst .konst .ensures .sized,
+      l-bv .bv .ensures .sized,
+      l-bv2 .bv2 .ensures .sized,
+      l-extend .extend .ensures .sized,
+      l-bv3 .bv3 .ensures .sized,
+      l-bv4 .bv4 .ensures .sized,
+      l-extract .extract .ensures .sized,
+    )
 
 returns : tie.Need-returns
 returns c =
@@ -103,7 +144,9 @@ returns c =
     let l-zero-ext = l-konst .before .before .before .before in
     let l-rounding-bits = l-zero-ext .before .before in
     let st = l-rounding-bits .before .before in
-    rounded-shift (st .args .max-shift) (st .pre .1 .2) (l-rounding-bits .rounding-bits .ensures .0) (l-shift-op .shift-op .ensures) (l-rounding-bits .rounding-bits .ensures .1) (l-rounding-bits .rounding-bits .ensures .3) (l-zero-ext .zero-ext .ensures) (l-konst .konst .ensures) (l-bv .bv .ensures) (l-bv2 .bv2 .ensures) (l-extend .extend .ensures) (l-bv3 .bv3 .ensures) (l-bv4 .bv4 .ensures) (l-extract .extract .ensures)
+    rounded-shift (st .args .max-shift) (st .pre .1 .2) (l-rounding-bits .rounding-bits .ensures .0) (l-shift-op .shift-op .ensures) (l-rounding-bits .rounding-bits .ensures .1)
+    (l-rounding-bits .rounding-bits .ensures .3) (l-zero-ext .zero-ext .ensures) (l-konst .konst .ensures) (l-bv .bv .ensures) (l-bv2 .bv2 .ensures) (l-extend .extend .ensures)
+    (l-bv3 .bv3 .ensures) (l-bv4 .bv4 .ensures) (l-extract .extract .ensures)
 
 pub shift-right-rounding-spec : {M : Type 1} → statement M
 shift-right-rounding-spec =
