@@ -7,6 +7,17 @@ use borrow.Author.Needs.{needs}
 use Rattle.lower_absolute_difference.proofs.difference_at.Statement.{statement}
 use Rattle.lower_absolute_difference.proofs.difference_at.Tie as tie
 
+-- ---- from a place in the code back to the one before it that matters
+
+abbrev entry : tie.After-extract-lane → tie.Start
+entry c = c .before .before .before
+
+abbrev to-extract-lane2 : tie.After-absolute-difference-lane → tie.After-extract-lane2
+to-extract-lane2 c = c .before .before .before .before
+
+abbrev to-extract-lane : tie.After-extract-lane2 → tie.After-extract-lane
+to-extract-lane c = c .before .before .before .before
+
 extract-lane-requires : tie.Need-extract-lane-requires
 extract-lane-requires c κs =
     let st = c .before .before in
@@ -15,7 +26,7 @@ extract-lane-requires c κs =
 extract-lane-requires-2 : tie.Need-extract-lane-requires-2
 extract-lane-requires-2 c κs =
     let l-extract-lane = c .before .before .before in
-    let st = l-extract-lane .before .before .before in
+    let st = entry l-extract-lane in
     omega (arith, st .pre, l-extract-lane .extract-lane .ensures .sized, lane-fits (st .args .lane-bits) (st .args .index .0) (st .args .lanes) (st .pre .1 .1 .2) (st .pre .1 .1 .3))
 
 absolute-difference-lane-requires : tie.Need-absolute-difference-lane-requires
@@ -25,9 +36,9 @@ extract-lane-requires-3 : tie.Need-extract-lane-requires-3
 extract-lane-requires-3 c κs =
     let l-if1 = c .before in
     let l-absolute-difference-lane = l-if1 .before .before .before in
-    let l-extract-lane2 = l-absolute-difference-lane .before .before .before .before in
-    let l-extract-lane = l-extract-lane2 .before .before .before .before in
-    let st = l-extract-lane .before .before .before in
+    let l-extract-lane2 = to-extract-lane2 l-absolute-difference-lane in
+    let l-extract-lane = to-extract-lane l-extract-lane2 in
+    let st = entry l-extract-lane in
     omega (
       arith,
       st .pre,
@@ -42,9 +53,9 @@ bv-requires : tie.Need-bv-requires
 bv-requires c κs =
     let l-extract-lane3 = c .before .before .before in
     let l-absolute-difference-lane = l-extract-lane3 .before .before .before .before .before in
-    let l-extract-lane2 = l-absolute-difference-lane .before .before .before .before in
-    let l-extract-lane = l-extract-lane2 .before .before .before .before in
-    let st = l-extract-lane .before .before .before in
+    let l-extract-lane2 = to-extract-lane2 l-absolute-difference-lane in
+    let l-extract-lane = to-extract-lane l-extract-lane2 in
+    let st = entry l-extract-lane in
     omega (
       arith,
       st .pre,
@@ -59,9 +70,9 @@ same-length c =
     let l-bv = c .before .before in
     let l-extract-lane3 = l-bv .before .before .before .before in
     let l-absolute-difference-lane = l-extract-lane3 .before .before .before .before .before in
-    let l-extract-lane2 = l-absolute-difference-lane .before .before .before .before in
-    let l-extract-lane = l-extract-lane2 .before .before .before .before in
-    let st = l-extract-lane .before .before .before in
+    let l-extract-lane2 = to-extract-lane2 l-absolute-difference-lane in
+    let l-extract-lane = to-extract-lane l-extract-lane2 in
+    let st = entry l-extract-lane in
     omega (
       arith,
       st .pre,
@@ -78,9 +89,9 @@ returns c =
     let l-extract-lane3 = l-bv .before .before .before .before in
     let l-if1 = l-extract-lane3 .before .before in
     let l-absolute-difference-lane = l-if1 .before .before .before in
-    let l-extract-lane2 = l-absolute-difference-lane .before .before .before .before in
-    let l-extract-lane = l-extract-lane2 .before .before .before .before in
-    let st = l-extract-lane .before .before .before in
+    let l-extract-lane2 = to-extract-lane2 l-absolute-difference-lane in
+    let l-extract-lane = to-extract-lane l-extract-lane2 in
+    let st = entry l-extract-lane in
     difference-added (st .args .signed) (st .args .accumulate) (st .pre .1 .1 .0) (st .pre .1 .1 .1) (st .pre .1 .1 .2) (st .pre .1 .1 .3) (l-if1 .if1 .taken)
     (l-extract-lane .extract-lane .ensures) (l-extract-lane2 .extract-lane2 .ensures) (l-absolute-difference-lane .absolute-difference-lane .ensures)
     (l-extract-lane3 .extract-lane3 .ensures) (l-bv .bv .ensures)
@@ -92,9 +103,9 @@ returns-2 : tie.Need-returns-2
 returns-2 c =
     let l-if1 = c in
     let l-absolute-difference-lane = l-if1 .before .before .before in
-    let l-extract-lane2 = l-absolute-difference-lane .before .before .before .before in
-    let l-extract-lane = l-extract-lane2 .before .before .before .before in
-    let st = l-extract-lane .before .before .before in
+    let l-extract-lane2 = to-extract-lane2 l-absolute-difference-lane in
+    let l-extract-lane = to-extract-lane l-extract-lane2 in
+    let st = entry l-extract-lane in
     difference-alone (st .args .signed) (st .args .accumulate) (st .pre .1 .1 .0) (st .pre .1 .1 .1) (st .pre .1 .1 .2) (st .pre .1 .1 .3) (l-if1 .if1 .left)
     (l-extract-lane .extract-lane .ensures) (l-extract-lane2 .extract-lane2 .ensures) (l-absolute-difference-lane .absolute-difference-lane .ensures)
 

@@ -10,6 +10,20 @@ use borrow.Author.Needs.{needs}
 use Rattle.lower_doubling.proofs.combine_at.Statement.{statement}
 use Rattle.lower_doubling.proofs.combine_at.Tie as tie
 
+-- ---- from a place in the code back to the one before it that matters
+
+abbrev to-extend : tie.After-extend2 → tie.After-extend
+to-extend c = c .before .before .before .before
+
+abbrev to-extract-lane : tie.After-extend → tie.After-extract-lane
+to-extract-lane c = c .before .before .before .before
+
+abbrev entry : tie.After-extract-lane → tie.Start
+entry c = c .before .before .before .before .before .before
+
+abbrev to-extend2 : tie.After-bv → tie.After-extend2
+to-extend2 c = c .before .before .before .before
+
 enum-told : tie.Need-enum-told
 enum-told c = search needs
 
@@ -39,18 +53,18 @@ extend-requires-2 c κs = search needs
 bv-requires : tie.Need-bv-requires
 bv-requires c κs =
     let l-extend2 = c .before .before .before in
-    let l-extend = l-extend2 .before .before .before .before in
-    let l-extract-lane = l-extend .before .before .before .before in
-    let st = l-extract-lane .before .before .before .before .before .before in
+    let l-extend = to-extend l-extend2 in
+    let l-extract-lane = to-extract-lane l-extend in
+    let st = entry l-extract-lane in
     omega (arith, st .pre, l-extract-lane .extract-lane .ensures .sized, l-extend .extend .ensures .sized, l-extend2 .extend2 .ensures .sized)
 
 clamp-requires : tie.Need-clamp-requires
 clamp-requires c κs =
     let l-bv = c .before .before .before in
-    let l-extend2 = l-bv .before .before .before .before in
-    let l-extend = l-extend2 .before .before .before .before in
-    let l-extract-lane = l-extend .before .before .before .before in
-    let st = l-extract-lane .before .before .before .before .before .before in
+    let l-extend2 = to-extend2 l-bv in
+    let l-extend = to-extend l-extend2 in
+    let l-extract-lane = to-extract-lane l-extend in
+    let st = entry l-extract-lane in
     omega (arith, st .pre, l-extract-lane .extract-lane .ensures .sized, l-extend .extend .ensures .sized, l-extend2 .extend2 .ensures .sized, l-bv .bv .ensures .sized)
 
 returns : tie.Need-returns
@@ -63,19 +77,19 @@ same-length : tie.Need-same-length
 same-length c =
     let l-clamp = c .before .before in
     let l-bv = l-clamp .before .before .before .before in
-    let l-extend2 = l-bv .before .before .before .before in
-    let l-extend = l-extend2 .before .before .before .before in
-    let l-extract-lane = l-extend .before .before .before .before in
-    let st = l-extract-lane .before .before .before .before .before .before in
+    let l-extend2 = to-extend2 l-bv in
+    let l-extend = to-extend l-extend2 in
+    let l-extract-lane = to-extract-lane l-extend in
+    let st = entry l-extract-lane in
     omega (arith, st .pre, l-extract-lane .extract-lane .ensures .sized, l-extend .extend .ensures .sized, l-extend2 .extend2 .ensures .sized, l-bv .bv .ensures .sized, l-clamp .clamp .ensures .sized)
 
 returns-2 : tie.Need-returns-2
 returns-2 c =
     let l-clamp = c .before .before in
     let l-bv = l-clamp .before .before .before .before in
-    let l-extend2 = l-bv .before .before .before .before in
-    let l-extend = l-extend2 .before .before .before .before in
-    let l-extract-lane = l-extend .before .before .before .before in
+    let l-extend2 = to-extend2 l-bv in
+    let l-extend = to-extend l-extend2 in
+    let l-extract-lane = to-extract-lane l-extend in
     let l-combine = l-extract-lane .before .before .before in
     let st = l-combine .before .before .before in
     combined-with (st .pre .1 .1 .0) (st .pre .1 .1 .1) (st .pre .1 .1 .2) (st .pre .1 .1 .3) (l-combine .combine .given .1) (l-extract-lane .extract-lane .ensures)

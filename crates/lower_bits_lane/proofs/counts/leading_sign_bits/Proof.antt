@@ -5,6 +5,20 @@ use borrow.Author.Needs.{needs}
 use Rattle.lower_bits_lane.proofs.counts.leading_sign_bits.Statement.{statement}
 use Rattle.lower_bits_lane.proofs.counts.leading_sign_bits.Tie as tie
 
+-- ---- from a place in the code back to the one before it that matters
+
+abbrev to-extract : tie.After-extract2 → tie.After-extract
+to-extract c = c .before .before .before .before .before
+
+abbrev entry : tie.After-extract → tie.Start
+entry c = c .before .before .before .before .before
+
+abbrev to-extract2 : tie.After-bv → tie.After-extract2
+to-extract2 c = c .before .before .before .before
+
+abbrev to-bv : tie.After-leading-zeros → tie.After-bv
+to-bv c = c .before .before .before .before
+
 sub-width : tie.Need-sub-width
 sub-width c = search needs
 
@@ -29,35 +43,35 @@ extract-requires-2 c κs = search needs
 bv-requires : tie.Need-bv-requires
 bv-requires c κs =
     let l-extract2 = c .before .before .before in
-    let l-extract = l-extract2 .before .before .before .before .before in
-    let st = l-extract .before .before .before .before .before in
+    let l-extract = to-extract l-extract2 in
+    let st = entry l-extract in
     omega (arith, st .pre, l-extract .extract .ensures .sized, l-extract2 .extract2 .ensures .sized)
 
 leading-zeros-requires : tie.Need-leading-zeros-requires
 leading-zeros-requires c κs =
     let l-bv = c .before .before .before in
-    let l-extract2 = l-bv .before .before .before .before in
-    let l-extract = l-extract2 .before .before .before .before .before in
-    let st = l-extract .before .before .before .before .before in
+    let l-extract2 = to-extract2 l-bv in
+    let l-extract = to-extract l-extract2 in
+    let st = entry l-extract in
     omega (arith, st .pre, l-extract .extract .ensures .sized, l-extract2 .extract2 .ensures .sized, l-bv .bv .ensures .sized)
 
 zero-ext-requires : tie.Need-zero-ext-requires
 zero-ext-requires c κs =
     let l-leading-zeros = c .before .before .before in
-    let l-bv = l-leading-zeros .before .before .before .before in
-    let l-extract2 = l-bv .before .before .before .before in
-    let l-extract = l-extract2 .before .before .before .before .before in
-    let st = l-extract .before .before .before .before .before in
+    let l-bv = to-bv l-leading-zeros in
+    let l-extract2 = to-extract2 l-bv in
+    let l-extract = to-extract l-extract2 in
+    let st = entry l-extract in
     omega (arith, st .pre, l-extract .extract .ensures .sized, l-extract2 .extract2 .ensures .sized, l-bv .bv .ensures .sized, l-leading-zeros .leading-zeros .ensures .sized)
 
 same-length : tie.Need-same-length
 same-length c =
     let l-zero-ext = c .before .before in
     let l-leading-zeros = l-zero-ext .before .before .before .before in
-    let l-bv = l-leading-zeros .before .before .before .before in
-    let l-extract2 = l-bv .before .before .before .before in
-    let l-extract = l-extract2 .before .before .before .before .before in
-    let st = l-extract .before .before .before .before .before in
+    let l-bv = to-bv l-leading-zeros in
+    let l-extract2 = to-extract2 l-bv in
+    let l-extract = to-extract l-extract2 in
+    let st = entry l-extract in
     omega (
       arith,
       st .pre,
@@ -72,10 +86,10 @@ returns : tie.Need-returns
 returns c =
     let l-zero-ext = c .before .before in
     let l-leading-zeros = l-zero-ext .before .before .before .before in
-    let l-bv = l-leading-zeros .before .before .before .before in
-    let l-extract2 = l-bv .before .before .before .before in
-    let l-extract = l-extract2 .before .before .before .before .before in
-    let st = l-extract .before .before .before .before .before in
+    let l-bv = to-bv l-leading-zeros in
+    let l-extract2 = to-extract2 l-bv in
+    let l-extract = to-extract l-extract2 in
+    let st = entry l-extract in
     sign-bits (st .pre .1 .1) (st .pre .1 .2) (l-extract .extract .ensures) (l-extract2 .extract2 .ensures) (l-bv .bv .ensures)
     (l-leading-zeros .leading-zeros .ensures) (l-zero-ext .zero-ext .ensures)
 

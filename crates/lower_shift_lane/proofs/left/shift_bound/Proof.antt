@@ -8,6 +8,20 @@ use borrow.Author.Needs.{needs}
 use Rattle.lower_shift_lane.proofs.left.shift_bound.Statement.{statement}
 use Rattle.lower_shift_lane.proofs.left.shift_bound.Tie as tie
 
+-- ---- from a place in the code back to the one before it that matters
+
+abbrev to-compare : tie.After-konst2 → tie.After-compare
+to-compare c = c .before .before .before .before
+
+abbrev to-konst : tie.After-compare → tie.After-konst
+to-konst c = c .before .before .before .before
+
+abbrev entry : tie.After-konst → tie.Start
+entry c = c .before .before .before .before .before
+
+abbrev to-konst2 : tie.After-konst3 → tie.After-konst2
+to-konst2 c = c .before .before .before .before
+
 sub-power : tie.Need-sub-power
 sub-power c = search needs
 
@@ -32,37 +46,37 @@ sub-konst c =
 konst-requires-3 : tie.Need-konst-requires-3
 konst-requires-3 c κs =
     let l-konst2 = c .before .before .before in
-    let l-compare = l-konst2 .before .before .before .before in
-    let l-konst = l-compare .before .before .before .before in
-    let st = l-konst .before .before .before .before .before in
+    let l-compare = to-compare l-konst2 in
+    let l-konst = to-konst l-compare in
+    let st = entry l-konst in
     omega (arith, st .pre, l-konst .konst .ensures .sized, l-compare .compare .ensures .sized, l-konst2 .konst2 .ensures .sized)
 
 ite-requires : tie.Need-ite-requires
 ite-requires c κs =
     let l-konst3 = c .before .before .before in
-    let l-konst2 = l-konst3 .before .before .before .before in
-    let l-compare = l-konst2 .before .before .before .before in
-    let l-konst = l-compare .before .before .before .before in
-    let st = l-konst .before .before .before .before .before in
+    let l-konst2 = to-konst2 l-konst3 in
+    let l-compare = to-compare l-konst2 in
+    let l-konst = to-konst l-compare in
+    let st = entry l-konst in
     omega (arith, st .pre, l-konst .konst .ensures .sized, l-compare .compare .ensures .sized, l-konst2 .konst2 .ensures .sized, l-konst3 .konst3 .ensures .sized)
 
 same-length : tie.Need-same-length
 same-length c =
     let l-ite = c .before .before in
     let l-konst3 = l-ite .before .before .before .before in
-    let l-konst2 = l-konst3 .before .before .before .before in
-    let l-compare = l-konst2 .before .before .before .before in
-    let l-konst = l-compare .before .before .before .before in
-    let st = l-konst .before .before .before .before .before in
+    let l-konst2 = to-konst2 l-konst3 in
+    let l-compare = to-compare l-konst2 in
+    let l-konst = to-konst l-compare in
+    let st = entry l-konst in
     omega (arith, st .pre, l-konst .konst .ensures .sized, l-compare .compare .ensures .sized, l-konst2 .konst2 .ensures .sized, l-konst3 .konst3 .ensures .sized, l-ite .ite .ensures .sized)
 
 returns : tie.Need-returns
 returns c =
     let l-ite = c .before .before in
     let l-konst3 = l-ite .before .before .before .before in
-    let l-konst2 = l-konst3 .before .before .before .before in
-    let l-compare = l-konst2 .before .before .before .before in
-    let l-konst = l-compare .before .before .before .before in
+    let l-konst2 = to-konst2 l-konst3 in
+    let l-compare = to-compare l-konst2 in
+    let l-konst = to-konst l-compare in
     let l-power = l-konst .before .before in
     let l-if1 = l-power .before in
     let st = l-if1 .before .before in

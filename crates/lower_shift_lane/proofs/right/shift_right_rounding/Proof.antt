@@ -5,6 +5,29 @@ use borrow.Author.Needs.{needs}
 use Rattle.lower_shift_lane.proofs.right.shift_right_rounding.Statement.{statement}
 use Rattle.lower_shift_lane.proofs.right.shift_right_rounding.Tie as tie
 
+-- ---- from a place in the code back to the one before it that matters
+
+abbrev to-bv : tie.After-bv2 → tie.After-bv
+to-bv c = c .before .before .before .before
+
+abbrev to-konst : tie.After-bv → tie.After-konst
+to-konst c = c .before .before .before .before
+
+abbrev to-zero-ext : tie.After-konst → tie.After-zero-ext
+to-zero-ext c = c .before .before .before .before
+
+abbrev to-bv2 : tie.After-extend → tie.After-bv2
+to-bv2 c = c .before .before .before .before
+
+abbrev entry : tie.After-zero-ext → tie.Start
+entry c = c .before .before .before .before
+
+abbrev to-extend : tie.After-bv3 → tie.After-extend
+to-extend c = c .before .before .before .before
+
+abbrev to-bv3 : tie.After-bv4 → tie.After-bv3
+to-bv3 c = c .before .before .before .before .before
+
 rounding-bits-requires : tie.Need-rounding-bits-requires
 rounding-bits-requires c κs = search needs
 
@@ -23,9 +46,9 @@ bv-requires-2 c κs = search needs
 extend-requires : tie.Need-extend-requires
 extend-requires c κs =
     let l-bv2 = c .before .before .before in
-    let l-bv = l-bv2 .before .before .before .before in
-    let l-konst = l-bv .before .before .before .before in
-    let l-zero-ext = l-konst .before .before .before .before in
+    let l-bv = to-bv l-bv2 in
+    let l-konst = to-konst l-bv in
+    let l-zero-ext = to-zero-ext l-konst in
     let l-rounding-bits = l-zero-ext .before .before in
     let st = l-rounding-bits .before .before in
     omega (arith, st .pre, l-zero-ext .zero-ext .ensures .sized, l-konst .konst .ensures .sized, l-bv .bv .ensures .sized, l-bv2 .bv2 .ensures .sized, l-rounding-bits .rounding-bits .ensures .3)
@@ -33,11 +56,11 @@ extend-requires c κs =
 bv-requires-3 : tie.Need-bv-requires-3
 bv-requires-3 c κs =
     let l-extend = c .before .before .before in
-    let l-bv2 = l-extend .before .before .before .before in
-    let l-bv = l-bv2 .before .before .before .before in
-    let l-konst = l-bv .before .before .before .before in
-    let l-zero-ext = l-konst .before .before .before .before in
-    let st = l-zero-ext .before .before .before .before in
+    let l-bv2 = to-bv2 l-extend in
+    let l-bv = to-bv l-bv2 in
+    let l-konst = to-konst l-bv in
+    let l-zero-ext = to-zero-ext l-konst in
+    let st = entry l-zero-ext in
     omega (arith, st .pre, l-zero-ext .zero-ext .ensures .sized, l-konst .konst .ensures .sized, l-bv .bv .ensures .sized, l-bv2 .bv2 .ensures .sized, l-extend .extend .ensures .sized)
 
 shift-op-requires : tie.Need-shift-op-requires
@@ -46,12 +69,12 @@ shift-op-requires c κs = search needs
 bv-requires-4 : tie.Need-bv-requires-4
 bv-requires-4 c κs =
     let l-bv3 = c .before .before .before .before in
-    let l-extend = l-bv3 .before .before .before .before in
-    let l-bv2 = l-extend .before .before .before .before in
-    let l-bv = l-bv2 .before .before .before .before in
-    let l-konst = l-bv .before .before .before .before in
-    let l-zero-ext = l-konst .before .before .before .before in
-    let st = l-zero-ext .before .before .before .before in
+    let l-extend = to-extend l-bv3 in
+    let l-bv2 = to-bv2 l-extend in
+    let l-bv = to-bv l-bv2 in
+    let l-konst = to-konst l-bv in
+    let l-zero-ext = to-zero-ext l-konst in
+    let st = entry l-zero-ext in
     omega (
       arith,
       st .pre,
@@ -66,13 +89,13 @@ bv-requires-4 c κs =
 sub-t34 : tie.Need-sub-t34
 sub-t34 c =
     let l-bv4 = c .before .before .before in
-    let l-bv3 = l-bv4 .before .before .before .before .before in
-    let l-extend = l-bv3 .before .before .before .before in
-    let l-bv2 = l-extend .before .before .before .before in
-    let l-bv = l-bv2 .before .before .before .before in
-    let l-konst = l-bv .before .before .before .before in
-    let l-zero-ext = l-konst .before .before .before .before in
-    let st = l-zero-ext .before .before .before .before in
+    let l-bv3 = to-bv3 l-bv4 in
+    let l-extend = to-extend l-bv3 in
+    let l-bv2 = to-bv2 l-extend in
+    let l-bv = to-bv l-bv2 in
+    let l-konst = to-konst l-bv in
+    let l-zero-ext = to-zero-ext l-konst in
+    let st = entry l-zero-ext in
     omega (
       arith,
       st .pre,
@@ -88,13 +111,13 @@ sub-t34 c =
 extract-requires : tie.Need-extract-requires
 extract-requires c κs =
     let l-bv4 = c .before .before .before in
-    let l-bv3 = l-bv4 .before .before .before .before .before in
-    let l-extend = l-bv3 .before .before .before .before in
-    let l-bv2 = l-extend .before .before .before .before in
-    let l-bv = l-bv2 .before .before .before .before in
-    let l-konst = l-bv .before .before .before .before in
-    let l-zero-ext = l-konst .before .before .before .before in
-    let st = l-zero-ext .before .before .before .before in
+    let l-bv3 = to-bv3 l-bv4 in
+    let l-extend = to-extend l-bv3 in
+    let l-bv2 = to-bv2 l-extend in
+    let l-bv = to-bv l-bv2 in
+    let l-konst = to-konst l-bv in
+    let l-zero-ext = to-zero-ext l-konst in
+    let st = entry l-zero-ext in
     omega (
       arith,
       st .pre,
@@ -111,13 +134,13 @@ same-length : tie.Need-same-length
 same-length c =
     let l-extract = c .before .before in
     let l-bv4 = l-extract .before .before .before .before in
-    let l-bv3 = l-bv4 .before .before .before .before .before in
-    let l-extend = l-bv3 .before .before .before .before in
-    let l-bv2 = l-extend .before .before .before .before in
-    let l-bv = l-bv2 .before .before .before .before in
-    let l-konst = l-bv .before .before .before .before in
-    let l-zero-ext = l-konst .before .before .before .before in
-    let st = l-zero-ext .before .before .before .before in
+    let l-bv3 = to-bv3 l-bv4 in
+    let l-extend = to-extend l-bv3 in
+    let l-bv2 = to-bv2 l-extend in
+    let l-bv = to-bv l-bv2 in
+    let l-konst = to-konst l-bv in
+    let l-zero-ext = to-zero-ext l-konst in
+    let st = entry l-zero-ext in
     omega (
       arith,
       st .pre,
@@ -137,11 +160,11 @@ returns c =
     let l-bv4 = l-extract .before .before .before .before in
     let l-shift-op = l-bv4 .before .before in
     let l-bv3 = l-shift-op .before .before .before in
-    let l-extend = l-bv3 .before .before .before .before in
-    let l-bv2 = l-extend .before .before .before .before in
-    let l-bv = l-bv2 .before .before .before .before in
-    let l-konst = l-bv .before .before .before .before in
-    let l-zero-ext = l-konst .before .before .before .before in
+    let l-extend = to-extend l-bv3 in
+    let l-bv2 = to-bv2 l-extend in
+    let l-bv = to-bv l-bv2 in
+    let l-konst = to-konst l-bv in
+    let l-zero-ext = to-zero-ext l-konst in
     let l-rounding-bits = l-zero-ext .before .before in
     let st = l-rounding-bits .before .before in
     rounded-shift (st .args .max-shift) (st .pre .1 .2) (l-rounding-bits .rounding-bits .ensures .0) (l-shift-op .shift-op .ensures) (l-rounding-bits .rounding-bits .ensures .1)
