@@ -16,6 +16,7 @@ use Rattle.trees.specs.declared.ShiftKind.{ShiftKind}
 use Rattle.trees.specs.declared.ShiftKind.the-variants.{LeftImmediate, RightImmediate, Register}
 use Rattle.trees.specs.declared.SaturatingKind.{SaturatingKind}
 use Rattle.trees.specs.declared.SaturatingKind.the-variants.{AddSub, Halving, Narrow, ShiftNarrow, DoublingMultiplyHigh, Unary}
+use Rattle.trees.specs.declared.BitwiseUnary.{BitwiseUnary as Unaries}
 use Rattle.trees.specs.declared.BitwiseUnary.the-variants.{PopulationCount, LeadingZeros, LeadingSignBits, ReverseBits}
 use Rattle.trees.specs.declared.Combine.{Combine}
 use Rattle.trees.specs.declared.Combine.the-variants.{Nothing, With}
