@@ -9,6 +9,9 @@ use borrow.Author.Needs.{needs}
 use Rattle.canonise.proofs.write_one.Statement.{statement}
 use Rattle.canonise.proofs.write_one.Tie as tie
 
+abbrev begun : tie.After-entry → tie.Start
+begun c = c .before .before .before
+
 entry-requires : tie.Need-entry-requires
 entry-requires c κs = search needs
 
@@ -26,7 +29,7 @@ mul-push c = search needs
 shared-slice-read-push : tie.Need-shared-slice-read-push
 shared-slice-read-push c =
     let at-entry = c .before .before .before in
-    let s = at-entry .before .before .before in
+    let s = begun at-entry in
     omega (arith, at-entry .entry .ensures .0, s .pre .1 .1 .0 .node (s .args .j) (s .pre .1 .1 .1 .0) .0, s .pre .0 .1)
 
 add-push : tie.Need-add-push
@@ -38,7 +41,7 @@ mul-push-2 c = search needs
 shared-slice-read-push-2 : tie.Need-shared-slice-read-push-2
 shared-slice-read-push-2 c =
     let at-entry = c .before .before .before .before in
-    let s = at-entry .before .before .before in
+    let s = begun at-entry in
     omega (arith, at-entry .entry .ensures .0, s .pre .1 .1 .0 .node (s .args .j) (s .pre .1 .1 .1 .0) .0, s .pre .0 .1)
 
 add-push-2 : tie.Need-add-push-2
@@ -50,7 +53,7 @@ mul-push-3 c = search needs
 shared-slice-read-push-3 : tie.Need-shared-slice-read-push-3
 shared-slice-read-push-3 c =
     let at-entry = c .before .before .before .before .before in
-    let s = at-entry .before .before .before in
+    let s = begun at-entry in
     omega (arith, at-entry .entry .ensures .0, s .pre .1 .1 .0 .node (s .args .j) (s .pre .1 .1 .1 .0) .0, s .pre .0 .1)
 
 push-requires : tie.Need-push-requires
@@ -65,7 +68,7 @@ returns c =
     let at-operands = at-push .before .before .before .before .before in
     let at-entry = at-operands .before in
     let known = at-entry .before .before .shared-slice-known .given in
-    let s = at-entry .before .before .before in
+    let s = begun at-entry in
     let a = s .args in
     let ws = a .pool .now in
     let N = s .pre .1 .1 .0 in

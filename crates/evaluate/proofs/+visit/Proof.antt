@@ -12,7 +12,8 @@ use Rattle.evaluate.proofs.visit.Reads as visit
 use Rattle.evaluate.proofs.+visit.Lts-visit as visit-lts
 use Rattle.evaluate.proofs.+visit.{statement}
 use Rattle.evaluate.proofs.+visit.Tie.{close}
-use Rattle.evaluate.proofs.+visit.Proof.Places.{μ-visit, visit-at, claims, pool, regs, node, start, read, some-left, first-visited, from-three, first-of, first-other, one-is, two-is, second-visited}
+use Rattle.evaluate.proofs.+visit.Proof.Places.{μ-visit, visit-at, claims, pool, regs, node, start, read, some-left}
+use Rattle.evaluate.proofs.+visit.Proof.Places.{first-visited, from-three, first-of, first-other, one-is, two-is, second-visited}
 
 module _ (t : ℕ) where
   returns : visit-lts.Need-returns (claims t) (visit-at t) visit.Post

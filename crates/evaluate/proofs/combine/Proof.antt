@@ -21,6 +21,9 @@ module _ (c : tie.Else1) where
   no-ite : c .before .kind-of .result ≡ 15 → ⊥
   no-ite q = entry .pre .0 .1 (sym is-k ∙ q)
 
+abbrev if1-done : tie.After-load → tie.Else1
+if1-done c = c .before .before .before .before
+
 kind-of-requires : tie.Need-kind-of-requires
 kind-of-requires c κs = search needs
 
@@ -42,7 +45,7 @@ load-requires-2 c κs = search needs
 applied-requires : tie.Need-applied-requires
 applied-requires c κs =
     let a = c .before in
-    let e = a .before .before .before .before in
+    let e = if1-done a in
     let s = entry e in (
       (s .pre .0 .0, is-k e, e .if1 .left, no-ite e),
       held-ok _ _ _ (s .pre .0 .0) _ (is-k e) (s .pre .0 .2) (e .if1 .left) (no-ite e) (a .load .ensures ∙ s .pre .1 .0 (from-three e))
@@ -57,7 +60,7 @@ returns-2 c =
     let d = c .before in
     let b = d .before in
     let a = b .before in
-    let e = a .before .before .before .before in
+    let e = if1-done a in
     let s = entry e in
     c .store2 .ensures ∙ d .applied .ensures
     ∙ held-is _ _ _ (s .pre .0 .0) _ (is-k e) (s .pre .0 .2) (e .if1 .left) (no-ite e) (a .load .ensures ∙ s .pre .1 .0 (from-three e))

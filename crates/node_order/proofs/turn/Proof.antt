@@ -6,6 +6,9 @@ use borrow.Author.Needs.{needs}
 use Rattle.node_order.proofs.turn.Statement.{statement}
 use Rattle.node_order.proofs.turn.Tie as tie
 
+abbrev shared-slice-known-done : tie.After-wide → tie.After-shared-slice-known
+shared-slice-known-done c = c .before .before .before
+
 sub-top : tie.Need-sub-top
 sub-top c = search needs
 
@@ -52,7 +55,7 @@ returns : tie.Need-returns
 returns c =
     let at-next-open = c .before in
     let at-wide = at-next-open .before .before in
-    let at-shared-slice-known = at-wide .before .before .before in
+    let at-shared-slice-known = shared-slice-known-done at-wide in
     let s = at-shared-slice-known .before in
     let a = s .args in
     turn-done (a .pool .now) (a .class .now) (a .root) (s .pre .1 .0) (s .pre .0 .2) (s .pre .0 .0) (λ i. omega (arith, at-shared-slice-known .shared-slice-known .given i)) (a .number .now)
@@ -63,7 +66,7 @@ cast-stack : tie.Need-cast-stack
 cast-stack c =
     let at-next-open = c .before in
     let at-wide = at-next-open .before .before in
-    let at-shared-slice-known = at-wide .before .before .before in
+    let at-shared-slice-known = shared-slice-known-done at-wide in
     let s = at-shared-slice-known .before in
     let a = s .args in
     omega (
@@ -95,7 +98,7 @@ returns-2 : tie.Need-returns-2
 returns-2 c =
     let at-next-open = c .before in
     let at-wide = at-next-open .before .before in
-    let at-shared-slice-known = at-wide .before .before .before in
+    let at-shared-slice-known = shared-slice-known-done at-wide in
     let s = at-shared-slice-known .before in
     let a = s .args in
     turn-more (a .pool .now) (a .class .now) (a .root) (s .pre .1 .0) (s .pre .0 .2) (s .pre .0 .0) (λ i. omega (arith, at-shared-slice-known .shared-slice-known .given i)) (a .number .now)

@@ -1,10 +1,13 @@
 -- `put_cut` meets its contract. Room is counted in bytes, whatever they are; that they are those of the cut is said once, at the end.
 use native.Mathlib.Omega.{arith}
-use lib.ListN.{length-append}
+use mathlib.Core.Path.{_≡_}
+use Prim.Native.Nat.{_+_}
+use lib.ListN.{length, length-append}
 use Rattle.terms.specs.Display.{bytes, decimal}
 use Rattle.digits.specs.Writing.{Wrote}
 use Rattle.digits.proofs.Laws.{wrote-then, wrote-as}
-use Rattle.script_meaning.specs.Script.{nameOf}
+use Rattle.script_meaning.specs.Sexp.{show}
+use Rattle.script_meaning.specs.Script.{nameOf, apply1, index2}
 use Rattle.script_text.proofs.Chunks.{indexed-2, cut-length, room-after}
 use borrow.Author.Needs.{needs}
 use Rattle.script_text.proofs.put_cut.Statement.{statement}
@@ -33,6 +36,12 @@ head-done c = c .before .before .before .before
 abbrev name-done : tie.After-put4 → tie.After-put-name
 name-done c = c .before .before .before .before .before
 
+-- how many bytes there are to write
+size : (c : tie.After-put) → let a = entry c .args in
+    length (show (apply1 (index2 (bytes "extract") (a .hi) (a .lo)) (nameOf (a .p .now) (a .a .0))))
+    ≡ 16 + length (decimal (a .hi)) + length (decimal (a .lo)) + length (nameOf (a .p .now) (a .a .0))
+size c = let a = entry c .args in cut-length (nameOf (a .p .now) (a .a .0)) (a .hi) (a .lo)
+
 -- ---- needs
 
 slice-aggregate-put : tie.Need-slice-aggregate-put
@@ -47,7 +56,7 @@ put-number-requires : tie.Need-put-number-requires
 put-number-requires c κs =
     let at-put = c .before .before .before in
     let st = entry at-put in
-    room-after (st .pre .1) (at-put .put .ensures) (omega (arith, cut-length (nameOf (st .args .p .now) (st .args .a .0)) (st .args .hi) (st .args .lo)))
+    room-after (st .pre .1) (at-put .put .ensures) (omega (arith, size at-put))
 
 slice-aggregate-put-2 : tie.Need-slice-aggregate-put-2
 slice-aggregate-put-2 c = search needs
@@ -57,7 +66,8 @@ put-requires-2 c κs =
     let at-put-number = c .before .before .before .before in
     let at-put = opened at-put-number in
     let st = entry at-put in
-    room-after (st .pre .1) (wrote-then (at-put .put .ensures) (at-put-number .put-number .ensures)) (simp length-append (omega (arith, cut-length (nameOf (st .args .p .now) (st .args .a .0)) (st .args .hi) (st .args .lo))))
+    room-after (st .pre .1) (wrote-then (at-put .put .ensures) (at-put-number .put-number .ensures))
+    (simp length-append (omega (arith, size at-put)))
 
 put-number-requires-2 : tie.Need-put-number-requires-2
 put-number-requires-2 c κs =
@@ -65,7 +75,8 @@ put-number-requires-2 c κs =
     let at-put-number = hi-done at-put2 in
     let at-put = opened at-put-number in
     let st = entry at-put in
-    room-after (st .pre .1) (wrote-then (at-put .put .ensures) (wrote-then (at-put-number .put-number .ensures) (at-put2 .put2 .ensures))) (simp length-append (omega (arith, cut-length (nameOf (st .args .p .now) (st .args .a .0)) (st .args .hi) (st .args .lo))))
+    room-after (st .pre .1) (wrote-then (at-put .put .ensures) (wrote-then (at-put-number .put-number .ensures) (at-put2 .put2 .ensures)))
+    (simp length-append (omega (arith, size at-put)))
 
 slice-aggregate-put-3 : tie.Need-slice-aggregate-put-3
 slice-aggregate-put-3 c = search needs
@@ -77,7 +88,9 @@ put-requires-3 c κs =
     let at-put-number = hi-done at-put2 in
     let at-put = opened at-put-number in
     let st = entry at-put in
-    room-after (st .pre .1) (wrote-then (at-put .put .ensures) (wrote-then (at-put-number .put-number .ensures) (wrote-then (at-put2 .put2 .ensures) (at-put-number2 .put-number2 .ensures)))) (simp length-append (omega (arith, cut-length (nameOf (st .args .p .now) (st .args .a .0)) (st .args .hi) (st .args .lo))))
+    room-after (st .pre .1)
+    (wrote-then (at-put .put .ensures) (wrote-then (at-put-number .put-number .ensures) (wrote-then (at-put2 .put2 .ensures) (at-put-number2 .put-number2 .ensures))))
+    (simp length-append (omega (arith, size at-put)))
 
 put-name-requires : tie.Need-put-name-requires
 put-name-requires c κs =
@@ -86,8 +99,13 @@ put-name-requires c κs =
     let at-put2 = blank-done at-put-number2 in
     let at-put-number = hi-done at-put2 in
     let at-put = opened at-put-number in
-    let st = entry at-put in
-    (st .pre .0, room-after (st .pre .1) (wrote-then (at-put .put .ensures) (wrote-then (at-put-number .put-number .ensures) (wrote-then (at-put2 .put2 .ensures) (wrote-then (at-put-number2 .put-number2 .ensures) (at-put3 .put3 .ensures))))) (simp length-append (omega (arith, cut-length (nameOf (st .args .p .now) (st .args .a .0)) (st .args .hi) (st .args .lo)))))
+    let st = entry at-put in (
+      st .pre .0,
+      room-after (st .pre .1)
+          (wrote-then (at-put .put .ensures) (wrote-then (at-put-number .put-number .ensures) (wrote-then (at-put2 .put2 .ensures)
+          (wrote-then (at-put-number2 .put-number2 .ensures) (at-put3 .put3 .ensures)))))
+          (simp length-append (omega (arith, size at-put))),
+    )
 
 slice-aggregate-put-4 : tie.Need-slice-aggregate-put-4
 slice-aggregate-put-4 c = search needs
@@ -101,7 +119,10 @@ put-requires-4 c κs =
     let at-put-number = hi-done at-put2 in
     let at-put = opened at-put-number in
     let st = entry at-put in
-    room-after (st .pre .1) (wrote-then (at-put .put .ensures) (wrote-then (at-put-number .put-number .ensures) (wrote-then (at-put2 .put2 .ensures) (wrote-then (at-put-number2 .put-number2 .ensures) (wrote-then (at-put3 .put3 .ensures) (at-put-name .put-name .ensures)))))) (simp length-append (omega (arith, cut-length (nameOf (st .args .p .now) (st .args .a .0)) (st .args .hi) (st .args .lo))))
+    room-after (st .pre .1)
+    (wrote-then (at-put .put .ensures) (wrote-then (at-put-number .put-number .ensures) (wrote-then (at-put2 .put2 .ensures)
+    (wrote-then (at-put-number2 .put-number2 .ensures) (wrote-then (at-put3 .put3 .ensures) (at-put-name .put-name .ensures))))))
+    (simp length-append (omega (arith, size at-put)))
 
 same-length : tie.Need-same-length
 same-length c = search needs

@@ -23,6 +23,9 @@ Inv-loop bytes records₀ count j₀ end₀ records j end =
 abbrev μ-loop : tie.MeasureT-loop
 μ-loop bytes records₀ count j₀ end₀ records j end = count - j
 
+abbrev entry : tie.At-loop Inv-loop μ-loop → tie.Start Inv-loop μ-loop
+entry c = c .before .before .before
+
 loop-holds : tie.Need-loop-holds Inv-loop μ-loop
 loop-holds c =
     let a = c .before .before .args in (wrote-first (rows (a .bytes .now)) (a .records .now) 0, refl, omega arith, refl)
@@ -37,7 +40,7 @@ put-record-requires c κs =
     let w = c .before in
     let t = w .before in
     let l = t .before in
-    let st = l .before .before .before in
+    let st = entry l in
     let bs = st .args .bytes .now in
     room-as (ap (λ (x : ℕ). flat (decode x)) (sym (w .word-at .ensures)))
     (room-next (rows bs) (length bs / 4) (l .loop .j) (omega (arith, l .loop .inv .1, t .loop-test .taken)) (st .pre) (l .loop .inv .0))
@@ -56,7 +59,7 @@ loop-again c =
     let w = p .before .before in
     let t = w .before in
     let l = t .before in
-    let bs = l .before .before .before .args .bytes .now in
+    let bs = entry l .args .bytes .now in
     let u = wrote-as (ap (λ (x : ℕ). flat (decode x)) (sym (w .word-at .ensures))) (p .put-record .ensures) in
     (wrote-next (rows bs) (l .loop .j) (l .loop .inv .0) u, l .loop .inv .1, omega (arith, t .loop-test .taken), wrote-length (p .put-record .ensures) ∙ l .loop .inv .3)
 

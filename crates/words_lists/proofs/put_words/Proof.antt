@@ -26,6 +26,9 @@ Inv-loop records bytes₀ count j₀ end₀ bytes j end =
 abbrev μ-loop : tie.MeasureT-loop
 μ-loop records bytes₀ count j₀ end₀ bytes j end = count - j
 
+abbrev entry : tie.At-loop Inv-loop μ-loop → tie.Start Inv-loop μ-loop
+entry c = c .before .before .before
+
 loop-holds : tie.Need-loop-holds Inv-loop μ-loop
 loop-holds c =
     let a = c .before .before .args in (wrote-first (rows (a .records .now)) (a .bytes .now) 0, refl, omega arith, refl)
@@ -38,7 +41,7 @@ encode-word-requires : tie.Need-encode-word-requires Inv-loop μ-loop
 encode-word-requires c κs =
     let t = c .before in
     let l = t .before in
-    let st = l .before .before .before in
+    let st = entry l in
     subst (λ (x : Instruction). Legal x) (sym (c .record-at .ensures)) (st .pre .0 (l .loop .j) (omega (arith, l .loop .inv .1, t .loop-test .taken)))
 
 put-word-requires : tie.Need-put-word-requires Inv-loop μ-loop
@@ -47,7 +50,7 @@ put-word-requires c κs =
     let w = c .before in
     let t = w .before .before in
     let l = t .before in
-    let st = l .before .before .before in
+    let st = entry l in
     let fs = st .args .records .now in
     room-next (rows fs) (length fs / 6) (l .loop .j) (omega (arith, l .loop .inv .1, t .loop-test .taken)) (st .pre .1) (l .loop .inv .0) .room
 
@@ -66,7 +69,7 @@ loop-again c =
     let r = w .before in
     let t = r .before in
     let l = t .before in
-    let fs = l .before .before .before .args .records .now in
+    let fs = entry l .args .records .now in
     let u = wrote-as (ap wordBytes (sym (w .encode-word .ensures ∙ ap encode (r .record-at .ensures)))) (p .put-word .ensures) in
     (wrote-next (rows fs) (l .loop .j) (l .loop .inv .0) u, l .loop .inv .1, omega (arith, t .loop-test .taken), wrote-length (p .put-word .ensures) ∙ l .loop .inv .3)
 

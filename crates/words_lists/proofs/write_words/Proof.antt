@@ -6,13 +6,16 @@ use borrow.Author.Needs.{needs}
 use Rattle.words_lists.proofs.write_words.Statement.{statement}
 use Rattle.words_lists.proofs.write_words.Tie as tie
 
+abbrev entry : tie.After-records-refusal → tie.Start
+entry c = c .before .before .before
+
 records-refusal-requires : tie.Need-records-refusal-requires
 records-refusal-requires c κs = search needs
 
 returns : tie.Need-returns
 returns c =
     let r = c .before in
-    let a = r .before .before .before .args in
+    let a = entry r .args in
     record-refused (a .records .now) (a .bytes .now) _ _ (r .records-refusal .ensures .0) (r .records-refusal .ensures .1) (c .if1 .taken)
 
 mul-if2 : tie.Need-mul-if2
@@ -22,7 +25,7 @@ returns-2 : tie.Need-returns-2
 returns-2 c =
     let e = c .before in
     let r = e .before in
-    let a = r .before .before .before .args in
+    let a = entry r .args in
     bytes-refused (a .records .now) (a .bytes .now) (short-bytes (a .records .now) (length (a .bytes .now)) (omega (arith, r .records-refusal .ensures .0, e .if1 .left)) (c .if2 .taken))
 
 put-words-requires : tie.Need-put-words-requires
@@ -30,7 +33,7 @@ put-words-requires c κs =
     let t = c .before in
     let e = t .before in
     let r = e .before in
-    let a = r .before .before .before .args in
+    let a = entry r .args in
     (all-good (a .records .now) (omega (arith, r .records-refusal .ensures .0, e .if1 .left)), record { room = omega (arith, words-length (a .records .now), t .if2 .left) })
 
 same-length : tie.Need-same-length
@@ -42,7 +45,7 @@ returns-3 c =
     let t = w .before .before in
     let e = t .before in
     let r = e .before in
-    let a = r .before .before .before .args in
+    let a = entry r .args in
     words-written (a .records .now)
     (all-fit (a .records .now) (length (a .bytes .now)) (omega (arith, r .records-refusal .ensures .0, e .if1 .left)) (t .if2 .left))
     (omega (arith, words-length (a .records .now), t .if2 .left)) (w .put-words .ensures)

@@ -22,6 +22,9 @@ positive (suc k) h f = f k refl
 
 -- ---- what was read
 
+abbrev operation-at-done : tie.After-arrangement-of → tie.After-operation-at
+operation-at-done c = c .before .before .before .before
+
 operation-some : (c : tie.Else1) → 1 ≤ c .before .operation-at .result
 operation-some c = omega (arith, c .if1 .left)
 
@@ -58,7 +61,7 @@ fields c =
     let e = b .before in
     let q = e .before in
     let r = q .before in
-    let p = r .before .before .before .before in
+    let p = operation-at-done r in
     let w = p .before .args .w in
     let k = p .operation-at .result in
     let a = r .arrangement-of .result in
@@ -98,7 +101,7 @@ returns-2 : tie.Need-returns-2
 returns-2 c =
     let q = c .before in
     let r = q .before in
-    let p = r .before .before .before .before in
+    let p = operation-at-done r in
     let g = arranged r in
     no-form (p .before .args .w) (p .operation-at .result) (r .arrangement-of .result) (g .operation-is) (g .arrangement-is) (g .some) (g .most) (sym (q .form-code .ensures) ∙ c .if2 .taken)
 
