@@ -1,5 +1,5 @@
 -- A tree does not depend on a register that its form does not read; so two instructions that are apart may be exchanged, and each
--- register has the same tree and the same canonical words. Assumes nothing.
+-- register has the same tree. Assumes nothing.
 use mathlib.Core.Path.{_≡_, refl, sym, ap, _∙_, fun-ext}
 use mathlib.Core.Bool.{Bool, true, false, cond, _&&_, _||_, not, false≢true}
 use mathlib.Core.List.{List, [], _∷_, _++_}
@@ -9,10 +9,7 @@ use borrow.Author.Tests.{eqb-true, eqb-false, not-true}
 use Rattle.facts.proofs.Tests.{and-both}
 use Rattle.terms.specs.Expr.{Expr}
 use Rattle.neon.specs.declared.Instruction.{Instruction}
-use Rattle.neon.specs.Op.{Op, Arrangement, opAt, arrangementAt, full, SHL, SQSHLI, UQSHLI, SQSHLU, SSHR, USHR, SRSHR, URSHR, SSHL, USHL, SRSHL, URSHL, SQSHL, UQSHL, SQRSHL, UQRSHL}
-use Rattle.neon.specs.Op.{SLI, SRI, SQADD, UQADD, SQSUB, UQSUB, SHADD, UHADD, SRHADD, URHADD, SQXTN, UQXTN, SQXTUN, SHRN, RSHRN, SQSHRN, SQRSHRN, UQSHRN, UQRSHRN, SQSHRUN}
-use Rattle.neon.specs.Op.{SQRSHRUN, SQABS, SQNEG, SQDMULH, SQRDMULH, SQDMULL, SQDMLAL, SQDMLSL, SQDMULL2, SQDMLAL2, SQDMLSL2, SQDMULLE, SQDMLALE, SQDMLSLE, SQDMULL2E, SQDMLAL2E}
-use Rattle.neon.specs.Op.{SQDMLSL2E, SUQADD, USQADD, SABD, UABD, SABA, UABA, CNT, CLZ, CLS, RBIT, ADDHN, RADDHN, SUBHN, RSUBHN}
+use Rattle.neon.specs.Op.{Op, Arrangement, opAt, arrangementAt, full}
 use Rattle.neon.specs.Form.{form, firstFull, secondFull, byElement, hasSecond, readsD}
 use Rattle.neon.specs.Run.{update}
 use Rattle.trees.specs.Arith.{keepLower, shiftLanes, shiftLane, shiftInsertLanes, mixedSignAddLanes, doublingLongLanes, doublingLongLane, saturatingLanes, saturatingLane}
@@ -20,7 +17,6 @@ use Rattle.trees.specs.Arith.{bitwiseUnaryLanes, absoluteDifferenceLanes}
 use Rattle.trees.specs.Width.{highNarrowLanes}
 use Rattle.trees.specs.Neon.{resultTree}
 use Rattle.trees.specs.Block.{readTree, widenTree, recordTree, treeStep, treeRun}
-use Rattle.canonical.specs.Words.{canonical}
 use Rattle.block_order.specs.Apart.{readsRegister, apart}
 
 true≢false : true ≡ false → ⊥
@@ -30,73 +26,73 @@ true≢false e = false≢true (sym e)
 
 unread-second : (o : Op) (v : Arrangement) (i : ℕ) (d a b b′ : Expr) → hasSecond o ≡ false → resultTree o v i d a b ≡ resultTree o v i d a b′
 unfolding resultTree shiftLanes shiftLane shiftInsertLanes mixedSignAddLanes saturatingLanes saturatingLane bitwiseUnaryLanes
-unread-second SHL v i d a b b′ h = refl
-unread-second SQSHLI v i d a b b′ h = refl
-unread-second UQSHLI v i d a b b′ h = refl
-unread-second SQSHLU v i d a b b′ h = refl
-unread-second SSHR v i d a b b′ h = refl
-unread-second USHR v i d a b b′ h = refl
-unread-second SRSHR v i d a b b′ h = refl
-unread-second URSHR v i d a b b′ h = refl
-unread-second SSHL v i d a b b′ h = absurd (true≢false h)
-unread-second USHL v i d a b b′ h = absurd (true≢false h)
-unread-second SRSHL v i d a b b′ h = absurd (true≢false h)
-unread-second URSHL v i d a b b′ h = absurd (true≢false h)
-unread-second SQSHL v i d a b b′ h = absurd (true≢false h)
-unread-second UQSHL v i d a b b′ h = absurd (true≢false h)
-unread-second SQRSHL v i d a b b′ h = absurd (true≢false h)
-unread-second UQRSHL v i d a b b′ h = absurd (true≢false h)
-unread-second SLI v i d a b b′ h = refl
-unread-second SRI v i d a b b′ h = refl
-unread-second SQADD v i d a b b′ h = absurd (true≢false h)
-unread-second UQADD v i d a b b′ h = absurd (true≢false h)
-unread-second SQSUB v i d a b b′ h = absurd (true≢false h)
-unread-second UQSUB v i d a b b′ h = absurd (true≢false h)
-unread-second SHADD v i d a b b′ h = absurd (true≢false h)
-unread-second UHADD v i d a b b′ h = absurd (true≢false h)
-unread-second SRHADD v i d a b b′ h = absurd (true≢false h)
-unread-second URHADD v i d a b b′ h = absurd (true≢false h)
-unread-second SQXTN v i d a b b′ h = refl
-unread-second UQXTN v i d a b b′ h = refl
-unread-second SQXTUN v i d a b b′ h = refl
-unread-second SHRN v i d a b b′ h = refl
-unread-second RSHRN v i d a b b′ h = refl
-unread-second SQSHRN v i d a b b′ h = refl
-unread-second SQRSHRN v i d a b b′ h = refl
-unread-second UQSHRN v i d a b b′ h = refl
-unread-second UQRSHRN v i d a b b′ h = refl
-unread-second SQSHRUN v i d a b b′ h = refl
-unread-second SQRSHRUN v i d a b b′ h = refl
-unread-second SQABS v i d a b b′ h = refl
-unread-second SQNEG v i d a b b′ h = refl
-unread-second SQDMULH v i d a b b′ h = absurd (true≢false h)
-unread-second SQRDMULH v i d a b b′ h = absurd (true≢false h)
-unread-second SQDMULL v i d a b b′ h = absurd (true≢false h)
-unread-second SQDMLAL v i d a b b′ h = absurd (true≢false h)
-unread-second SQDMLSL v i d a b b′ h = absurd (true≢false h)
-unread-second SQDMULL2 v i d a b b′ h = absurd (true≢false h)
-unread-second SQDMLAL2 v i d a b b′ h = absurd (true≢false h)
-unread-second SQDMLSL2 v i d a b b′ h = absurd (true≢false h)
-unread-second SQDMULLE v i d a b b′ h = absurd (true≢false h)
-unread-second SQDMLALE v i d a b b′ h = absurd (true≢false h)
-unread-second SQDMLSLE v i d a b b′ h = absurd (true≢false h)
-unread-second SQDMULL2E v i d a b b′ h = absurd (true≢false h)
-unread-second SQDMLAL2E v i d a b b′ h = absurd (true≢false h)
-unread-second SQDMLSL2E v i d a b b′ h = absurd (true≢false h)
-unread-second SUQADD v i d a b b′ h = refl
-unread-second USQADD v i d a b b′ h = refl
-unread-second SABD v i d a b b′ h = absurd (true≢false h)
-unread-second UABD v i d a b b′ h = absurd (true≢false h)
-unread-second SABA v i d a b b′ h = absurd (true≢false h)
-unread-second UABA v i d a b b′ h = absurd (true≢false h)
-unread-second CNT v i d a b b′ h = refl
-unread-second CLZ v i d a b b′ h = refl
-unread-second CLS v i d a b b′ h = refl
-unread-second RBIT v i d a b b′ h = refl
-unread-second ADDHN v i d a b b′ h = absurd (true≢false h)
-unread-second RADDHN v i d a b b′ h = absurd (true≢false h)
-unread-second SUBHN v i d a b b′ h = absurd (true≢false h)
-unread-second RSUBHN v i d a b b′ h = absurd (true≢false h)
+unread-second Op.SHL v i d a b b′ h = refl
+unread-second Op.SQSHLI v i d a b b′ h = refl
+unread-second Op.UQSHLI v i d a b b′ h = refl
+unread-second Op.SQSHLU v i d a b b′ h = refl
+unread-second Op.SSHR v i d a b b′ h = refl
+unread-second Op.USHR v i d a b b′ h = refl
+unread-second Op.SRSHR v i d a b b′ h = refl
+unread-second Op.URSHR v i d a b b′ h = refl
+unread-second Op.SSHL v i d a b b′ h = absurd (true≢false h)
+unread-second Op.USHL v i d a b b′ h = absurd (true≢false h)
+unread-second Op.SRSHL v i d a b b′ h = absurd (true≢false h)
+unread-second Op.URSHL v i d a b b′ h = absurd (true≢false h)
+unread-second Op.SQSHL v i d a b b′ h = absurd (true≢false h)
+unread-second Op.UQSHL v i d a b b′ h = absurd (true≢false h)
+unread-second Op.SQRSHL v i d a b b′ h = absurd (true≢false h)
+unread-second Op.UQRSHL v i d a b b′ h = absurd (true≢false h)
+unread-second Op.SLI v i d a b b′ h = refl
+unread-second Op.SRI v i d a b b′ h = refl
+unread-second Op.SQADD v i d a b b′ h = absurd (true≢false h)
+unread-second Op.UQADD v i d a b b′ h = absurd (true≢false h)
+unread-second Op.SQSUB v i d a b b′ h = absurd (true≢false h)
+unread-second Op.UQSUB v i d a b b′ h = absurd (true≢false h)
+unread-second Op.SHADD v i d a b b′ h = absurd (true≢false h)
+unread-second Op.UHADD v i d a b b′ h = absurd (true≢false h)
+unread-second Op.SRHADD v i d a b b′ h = absurd (true≢false h)
+unread-second Op.URHADD v i d a b b′ h = absurd (true≢false h)
+unread-second Op.SQXTN v i d a b b′ h = refl
+unread-second Op.UQXTN v i d a b b′ h = refl
+unread-second Op.SQXTUN v i d a b b′ h = refl
+unread-second Op.SHRN v i d a b b′ h = refl
+unread-second Op.RSHRN v i d a b b′ h = refl
+unread-second Op.SQSHRN v i d a b b′ h = refl
+unread-second Op.SQRSHRN v i d a b b′ h = refl
+unread-second Op.UQSHRN v i d a b b′ h = refl
+unread-second Op.UQRSHRN v i d a b b′ h = refl
+unread-second Op.SQSHRUN v i d a b b′ h = refl
+unread-second Op.SQRSHRUN v i d a b b′ h = refl
+unread-second Op.SQABS v i d a b b′ h = refl
+unread-second Op.SQNEG v i d a b b′ h = refl
+unread-second Op.SQDMULH v i d a b b′ h = absurd (true≢false h)
+unread-second Op.SQRDMULH v i d a b b′ h = absurd (true≢false h)
+unread-second Op.SQDMULL v i d a b b′ h = absurd (true≢false h)
+unread-second Op.SQDMLAL v i d a b b′ h = absurd (true≢false h)
+unread-second Op.SQDMLSL v i d a b b′ h = absurd (true≢false h)
+unread-second Op.SQDMULL2 v i d a b b′ h = absurd (true≢false h)
+unread-second Op.SQDMLAL2 v i d a b b′ h = absurd (true≢false h)
+unread-second Op.SQDMLSL2 v i d a b b′ h = absurd (true≢false h)
+unread-second Op.SQDMULLE v i d a b b′ h = absurd (true≢false h)
+unread-second Op.SQDMLALE v i d a b b′ h = absurd (true≢false h)
+unread-second Op.SQDMLSLE v i d a b b′ h = absurd (true≢false h)
+unread-second Op.SQDMULL2E v i d a b b′ h = absurd (true≢false h)
+unread-second Op.SQDMLAL2E v i d a b b′ h = absurd (true≢false h)
+unread-second Op.SQDMLSL2E v i d a b b′ h = absurd (true≢false h)
+unread-second Op.SUQADD v i d a b b′ h = refl
+unread-second Op.USQADD v i d a b b′ h = refl
+unread-second Op.SABD v i d a b b′ h = absurd (true≢false h)
+unread-second Op.UABD v i d a b b′ h = absurd (true≢false h)
+unread-second Op.SABA v i d a b b′ h = absurd (true≢false h)
+unread-second Op.UABA v i d a b b′ h = absurd (true≢false h)
+unread-second Op.CNT v i d a b b′ h = refl
+unread-second Op.CLZ v i d a b b′ h = refl
+unread-second Op.CLS v i d a b b′ h = refl
+unread-second Op.RBIT v i d a b b′ h = refl
+unread-second Op.ADDHN v i d a b b′ h = absurd (true≢false h)
+unread-second Op.RADDHN v i d a b b′ h = absurd (true≢false h)
+unread-second Op.SUBHN v i d a b b′ h = absurd (true≢false h)
+unread-second Op.RSUBHN v i d a b b′ h = absurd (true≢false h)
 
 keep-unread : (f : Bool) → f ≡ false → (new d d′ : Expr) (n k : ℕ) → keepLower f new d n k ≡ keepLower f new d′ n k
 keep-unread true h new d d′ n k = absurd (true≢false h)
@@ -104,73 +100,73 @@ keep-unread false h new d d′ n k = refl
 
 unread-old : (o : Op) (v : Arrangement) (i : ℕ) (d d′ a b : Expr) → readsD o v ≡ false → resultTree o v i d a b ≡ resultTree o v i d′ a b
 unfolding resultTree shiftLanes shiftInsertLanes mixedSignAddLanes doublingLongLanes doublingLongLane saturatingLanes bitwiseUnaryLanes absoluteDifferenceLanes highNarrowLanes
-unread-old SHL v i d d′ a b h = refl
-unread-old SQSHLI v i d d′ a b h = refl
-unread-old UQSHLI v i d d′ a b h = refl
-unread-old SQSHLU v i d d′ a b h = refl
-unread-old SSHR v i d d′ a b h = refl
-unread-old USHR v i d d′ a b h = refl
-unread-old SRSHR v i d d′ a b h = refl
-unread-old URSHR v i d d′ a b h = refl
-unread-old SSHL v i d d′ a b h = refl
-unread-old USHL v i d d′ a b h = refl
-unread-old SRSHL v i d d′ a b h = refl
-unread-old URSHL v i d d′ a b h = refl
-unread-old SQSHL v i d d′ a b h = refl
-unread-old UQSHL v i d d′ a b h = refl
-unread-old SQRSHL v i d d′ a b h = refl
-unread-old UQRSHL v i d d′ a b h = refl
-unread-old SLI v i d d′ a b h = absurd (true≢false h)
-unread-old SRI v i d d′ a b h = absurd (true≢false h)
-unread-old SQADD v i d d′ a b h = refl
-unread-old UQADD v i d d′ a b h = refl
-unread-old SQSUB v i d d′ a b h = refl
-unread-old UQSUB v i d d′ a b h = refl
-unread-old SHADD v i d d′ a b h = refl
-unread-old UHADD v i d d′ a b h = refl
-unread-old SRHADD v i d d′ a b h = refl
-unread-old URHADD v i d d′ a b h = refl
-unread-old SQXTN v i d d′ a b h = keep-unread (full v) h _ d d′ _ _
-unread-old UQXTN v i d d′ a b h = keep-unread (full v) h _ d d′ _ _
-unread-old SQXTUN v i d d′ a b h = keep-unread (full v) h _ d d′ _ _
-unread-old SHRN v i d d′ a b h = keep-unread (full v) h _ d d′ _ _
-unread-old RSHRN v i d d′ a b h = keep-unread (full v) h _ d d′ _ _
-unread-old SQSHRN v i d d′ a b h = keep-unread (full v) h _ d d′ _ _
-unread-old SQRSHRN v i d d′ a b h = keep-unread (full v) h _ d d′ _ _
-unread-old UQSHRN v i d d′ a b h = keep-unread (full v) h _ d d′ _ _
-unread-old UQRSHRN v i d d′ a b h = keep-unread (full v) h _ d d′ _ _
-unread-old SQSHRUN v i d d′ a b h = keep-unread (full v) h _ d d′ _ _
-unread-old SQRSHRUN v i d d′ a b h = keep-unread (full v) h _ d d′ _ _
-unread-old SQABS v i d d′ a b h = refl
-unread-old SQNEG v i d d′ a b h = refl
-unread-old SQDMULH v i d d′ a b h = refl
-unread-old SQRDMULH v i d d′ a b h = refl
-unread-old SQDMULL v i d d′ a b h = refl
-unread-old SQDMLAL v i d d′ a b h = absurd (true≢false h)
-unread-old SQDMLSL v i d d′ a b h = absurd (true≢false h)
-unread-old SQDMULL2 v i d d′ a b h = refl
-unread-old SQDMLAL2 v i d d′ a b h = absurd (true≢false h)
-unread-old SQDMLSL2 v i d d′ a b h = absurd (true≢false h)
-unread-old SQDMULLE v i d d′ a b h = refl
-unread-old SQDMLALE v i d d′ a b h = absurd (true≢false h)
-unread-old SQDMLSLE v i d d′ a b h = absurd (true≢false h)
-unread-old SQDMULL2E v i d d′ a b h = refl
-unread-old SQDMLAL2E v i d d′ a b h = absurd (true≢false h)
-unread-old SQDMLSL2E v i d d′ a b h = absurd (true≢false h)
-unread-old SUQADD v i d d′ a b h = absurd (true≢false h)
-unread-old USQADD v i d d′ a b h = absurd (true≢false h)
-unread-old SABD v i d d′ a b h = refl
-unread-old UABD v i d d′ a b h = refl
-unread-old SABA v i d d′ a b h = absurd (true≢false h)
-unread-old UABA v i d d′ a b h = absurd (true≢false h)
-unread-old CNT v i d d′ a b h = refl
-unread-old CLZ v i d d′ a b h = refl
-unread-old CLS v i d d′ a b h = refl
-unread-old RBIT v i d d′ a b h = refl
-unread-old ADDHN v i d d′ a b h = keep-unread (full v) h _ d d′ _ _
-unread-old RADDHN v i d d′ a b h = keep-unread (full v) h _ d d′ _ _
-unread-old SUBHN v i d d′ a b h = keep-unread (full v) h _ d d′ _ _
-unread-old RSUBHN v i d d′ a b h = keep-unread (full v) h _ d d′ _ _
+unread-old Op.SHL v i d d′ a b h = refl
+unread-old Op.SQSHLI v i d d′ a b h = refl
+unread-old Op.UQSHLI v i d d′ a b h = refl
+unread-old Op.SQSHLU v i d d′ a b h = refl
+unread-old Op.SSHR v i d d′ a b h = refl
+unread-old Op.USHR v i d d′ a b h = refl
+unread-old Op.SRSHR v i d d′ a b h = refl
+unread-old Op.URSHR v i d d′ a b h = refl
+unread-old Op.SSHL v i d d′ a b h = refl
+unread-old Op.USHL v i d d′ a b h = refl
+unread-old Op.SRSHL v i d d′ a b h = refl
+unread-old Op.URSHL v i d d′ a b h = refl
+unread-old Op.SQSHL v i d d′ a b h = refl
+unread-old Op.UQSHL v i d d′ a b h = refl
+unread-old Op.SQRSHL v i d d′ a b h = refl
+unread-old Op.UQRSHL v i d d′ a b h = refl
+unread-old Op.SLI v i d d′ a b h = absurd (true≢false h)
+unread-old Op.SRI v i d d′ a b h = absurd (true≢false h)
+unread-old Op.SQADD v i d d′ a b h = refl
+unread-old Op.UQADD v i d d′ a b h = refl
+unread-old Op.SQSUB v i d d′ a b h = refl
+unread-old Op.UQSUB v i d d′ a b h = refl
+unread-old Op.SHADD v i d d′ a b h = refl
+unread-old Op.UHADD v i d d′ a b h = refl
+unread-old Op.SRHADD v i d d′ a b h = refl
+unread-old Op.URHADD v i d d′ a b h = refl
+unread-old Op.SQXTN v i d d′ a b h = keep-unread (full v) h _ d d′ _ _
+unread-old Op.UQXTN v i d d′ a b h = keep-unread (full v) h _ d d′ _ _
+unread-old Op.SQXTUN v i d d′ a b h = keep-unread (full v) h _ d d′ _ _
+unread-old Op.SHRN v i d d′ a b h = keep-unread (full v) h _ d d′ _ _
+unread-old Op.RSHRN v i d d′ a b h = keep-unread (full v) h _ d d′ _ _
+unread-old Op.SQSHRN v i d d′ a b h = keep-unread (full v) h _ d d′ _ _
+unread-old Op.SQRSHRN v i d d′ a b h = keep-unread (full v) h _ d d′ _ _
+unread-old Op.UQSHRN v i d d′ a b h = keep-unread (full v) h _ d d′ _ _
+unread-old Op.UQRSHRN v i d d′ a b h = keep-unread (full v) h _ d d′ _ _
+unread-old Op.SQSHRUN v i d d′ a b h = keep-unread (full v) h _ d d′ _ _
+unread-old Op.SQRSHRUN v i d d′ a b h = keep-unread (full v) h _ d d′ _ _
+unread-old Op.SQABS v i d d′ a b h = refl
+unread-old Op.SQNEG v i d d′ a b h = refl
+unread-old Op.SQDMULH v i d d′ a b h = refl
+unread-old Op.SQRDMULH v i d d′ a b h = refl
+unread-old Op.SQDMULL v i d d′ a b h = refl
+unread-old Op.SQDMLAL v i d d′ a b h = absurd (true≢false h)
+unread-old Op.SQDMLSL v i d d′ a b h = absurd (true≢false h)
+unread-old Op.SQDMULL2 v i d d′ a b h = refl
+unread-old Op.SQDMLAL2 v i d d′ a b h = absurd (true≢false h)
+unread-old Op.SQDMLSL2 v i d d′ a b h = absurd (true≢false h)
+unread-old Op.SQDMULLE v i d d′ a b h = refl
+unread-old Op.SQDMLALE v i d d′ a b h = absurd (true≢false h)
+unread-old Op.SQDMLSLE v i d d′ a b h = absurd (true≢false h)
+unread-old Op.SQDMULL2E v i d d′ a b h = refl
+unread-old Op.SQDMLAL2E v i d d′ a b h = absurd (true≢false h)
+unread-old Op.SQDMLSL2E v i d d′ a b h = absurd (true≢false h)
+unread-old Op.SUQADD v i d d′ a b h = absurd (true≢false h)
+unread-old Op.USQADD v i d d′ a b h = absurd (true≢false h)
+unread-old Op.SABD v i d d′ a b h = refl
+unread-old Op.UABD v i d d′ a b h = refl
+unread-old Op.SABA v i d d′ a b h = absurd (true≢false h)
+unread-old Op.UABA v i d d′ a b h = absurd (true≢false h)
+unread-old Op.CNT v i d d′ a b h = refl
+unread-old Op.CLZ v i d d′ a b h = refl
+unread-old Op.CLS v i d d′ a b h = refl
+unread-old Op.RBIT v i d d′ a b h = refl
+unread-old Op.ADDHN v i d d′ a b h = keep-unread (full v) h _ d d′ _ _
+unread-old Op.RADDHN v i d d′ a b h = keep-unread (full v) h _ d d′ _ _
+unread-old Op.SUBHN v i d d′ a b h = keep-unread (full v) h _ d d′ _ _
+unread-old Op.RSUBHN v i d d′ a b h = keep-unread (full v) h _ d d′ _ _
 
 -- ---- a record's tree, over registers that agree where it reads
 

@@ -12,7 +12,7 @@ use Rattle.pool.specs.Node.{Kind, bad, var, const, bv, compare, ite, extract, c
 use Rattle.pool.specs.Node.{aOf, bOf, cOf, writeNode}
 use Rattle.pool.specs.Rules.{Valid}
 use Rattle.pool.specs.Unfold.{shapeOf, unfoldAt}
-use Rattle.canonical.specs.Order.{parts, place, postorder}
+use Rattle.canonical.specs.Order.{place, postorder}
 use Rattle.canonical.specs.Words.{cellIn, word0, word1, wordsIn, canonical}
 use Rattle.canonical.proofs.Trees.{at}
 use Rattle.canonical.proofs.Words.{cell-width, word-parts}

@@ -1,13 +1,13 @@
 -- Padded numbers, and decimal numbers as these. Assumes nothing.
-use mathlib.Core.Path.{_≡_, refl, sym, ap, _∙_, subst}
+use mathlib.Core.Path.{_≡_, refl, ap, _∙_, subst}
 use mathlib.Core.List.{List, [], _∷_, _++_}
-use Prim.Native.Nat.{ℕ, zero, suc, _+_, _*_, _/_, _%_, _^_, _≤_, _<_}
+use Prim.Native.Nat.{ℕ, _+_, _*_, _/_, _%_, _≤_, _<_}
 use native.Mathlib.Omega.{arith}
 use native.Mathlib.Numerals.{add-one}
 use lib.ListN.{length, set, length-set}
 use Rattle.terms.specs.Display.{digit, decimal}
 use Rattle.digits.specs.Writing.{Room, Wrote}
-use Rattle.digits.proofs.Laws.{digits, digits-one, digits-more, wrote-byte, wrote-then, wrote-as, room-step, room-as}
+use Rattle.digits.proofs.Laws.{digits, digits-one, digits-more, wrote-byte, wrote-then, wrote-as}
 use Rattle.decimals.specs.Padded.{padded}
 
 -- the first digit and the others, as `place` gives them

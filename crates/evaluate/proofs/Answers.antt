@@ -13,7 +13,6 @@ use Rattle.pool.specs.Rules.{okPool, poolOk}
 use Rattle.text_parts.specs.Text.{Ready}
 use Rattle.text_parts.proofs.Operands.{ready-of}
 use Rattle.wide.specs.Number.{words}
-use Rattle.evaluate.specs.declared.Evaluated.{Evaluated}
 use Rattle.evaluate.specs.Visits.{visitsAt}
 use Rattle.evaluate.specs.Step.{Visited, InWords}
 use Rattle.evaluate.specs.Answer.{evaluateNumber, noValue, Answered, MoreVisits, WithinAllowance}

@@ -7,7 +7,7 @@ use lib.ListN.{length, getD, set, length-set}
 use lib.Seq.{getD-set-same}
 use Rattle.terms.specs.Expr.{Expr}
 use Rattle.pool.specs.Unfold.{unfoldAt}
-use Rattle.canonical.specs.Order.{walk, postorder}
+use Rattle.canonical.specs.Order.{postorder}
 use Rattle.canonical.proofs.Trees.{visit}
 use Rattle.same_trees.specs.Class.{Classes, Long}
 use Rattle.node_order.specs.Walk.{listed, pending, AllNone, Done, Walking, Numbered}

@@ -13,7 +13,7 @@ use Rattle.terms.specs.Expr.{Expr, Var}
 use Rattle.pool.specs.Unfold.{unfoldAt}
 use Rattle.canonical.specs.Order.{parts, walk, place, add, In, AllIn}
 use Rattle.canonical.proofs.Lists.{at-place, place-new, add-new, Kept, kept-add, all-kept, in-all}
-use Rattle.canonical.proofs.Trees.{at, visit, visit-step, in-visit}
+use Rattle.canonical.proofs.Trees.{visit, visit-step, in-visit}
 use Rattle.same_trees.specs.Class.{Classes}
 use Rattle.pool.specs.Rules.{Valid}
 use Rattle.same_trees.proofs.Steps.{by-last}

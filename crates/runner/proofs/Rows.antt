@@ -8,10 +8,6 @@ use lib.Dec.{leb}
 use borrow.Author.Tests.{leb-true}
 use Rattle.facts.proofs.Tests.{and-both}
 use Rattle.neon.specs.Op.{Op, Arrangement, laneBits, full, bitsIf, B8, B16, H4, H8, S2, S4, D2}
-use Rattle.neon.specs.Op.{SHL, SQSHLI, UQSHLI, SQSHLU, SSHR, USHR, SRSHR, URSHR, SSHL, USHL, SRSHL, URSHL, SQSHL, UQSHL, SQRSHL, UQRSHL}
-use Rattle.neon.specs.Op.{SLI, SRI, SQADD, UQADD, SQSUB, UQSUB, SHADD, UHADD, SRHADD, URHADD, SQXTN, UQXTN, SQXTUN, SHRN, RSHRN, SQSHRN, SQRSHRN, UQSHRN, UQRSHRN, SQSHRUN}
-use Rattle.neon.specs.Op.{SQRSHRUN, SQABS, SQNEG, SQDMULH, SQRDMULH, SQDMULL, SQDMLAL, SQDMLSL, SQDMULL2, SQDMLAL2, SQDMLSL2, SQDMULLE, SQDMLALE, SQDMLSLE, SQDMULL2E, SQDMLAL2E}
-use Rattle.neon.specs.Op.{SQDMLSL2E, SUQADD, USQADD, SABD, UABD, SABA, UABA, CNT, CLZ, CLS, RBIT, ADDHN, RADDHN, SUBHN, RSUBHN}
 use Rattle.neon.specs.Form.{Lanes, Same, Narrow, Long, form, hasForm, least, most, byElement, isNarrow, sourceBits, madeBits, laneCount, firstLane, secondLane, firstFull, secondFull}
 use Rattle.neon.specs.Arm.{lanes, armAt, armResult}
 use Rattle.neon.specs.Run.{readBits}
@@ -68,73 +64,73 @@ pub record Row (o : Op) (v : Arrangement) (i : ℕ) : Type 0 where
   pub source-le : sourceBits (form o .lanes) (laneBits v) ≤ 64
 
 pub row : (o : Op) (v : Arrangement) (i : ℕ) → hasForm o v ≡ true → least o ≤ i → i ≤ most o (laneBits v) → Row o v i
-row SHL v i h l m = record { laid = same-laid false; source = refl; in-row = omega (arith, m, sized v .eight); source-le = sized v .most }
-row SQSHLI v i h l m = record { laid = same-laid false; source = refl; in-row = omega (arith, m, sized v .eight); source-le = sized v .most }
-row UQSHLI v i h l m = record { laid = same-laid false; source = refl; in-row = omega (arith, m, sized v .eight); source-le = sized v .most }
-row SQSHLU v i h l m = record { laid = same-laid false; source = refl; in-row = omega (arith, m, sized v .eight); source-le = sized v .most }
-row SSHR v i h l m = record { laid = same-laid false; source = refl; in-row = (l, m); source-le = sized v .most }
-row USHR v i h l m = record { laid = same-laid false; source = refl; in-row = (l, m); source-le = sized v .most }
-row SRSHR v i h l m = record { laid = same-laid false; source = refl; in-row = (l, m); source-le = sized v .most }
-row URSHR v i h l m = record { laid = same-laid false; source = refl; in-row = (l, m); source-le = sized v .most }
-row SSHL v i h l m = record { laid = same-laid false; source = refl; in-row = tt; source-le = sized v .most }
-row USHL v i h l m = record { laid = same-laid false; source = refl; in-row = tt; source-le = sized v .most }
-row SRSHL v i h l m = record { laid = same-laid false; source = refl; in-row = tt; source-le = sized v .most }
-row URSHL v i h l m = record { laid = same-laid false; source = refl; in-row = tt; source-le = sized v .most }
-row SQSHL v i h l m = record { laid = same-laid false; source = refl; in-row = tt; source-le = sized v .most }
-row UQSHL v i h l m = record { laid = same-laid false; source = refl; in-row = tt; source-le = sized v .most }
-row SQRSHL v i h l m = record { laid = same-laid false; source = refl; in-row = tt; source-le = sized v .most }
-row UQRSHL v i h l m = record { laid = same-laid false; source = refl; in-row = tt; source-le = sized v .most }
-row SLI v i h l m = record { laid = same-laid false; source = refl; in-row = omega (arith, m, sized v .eight); source-le = sized v .most }
-row SRI v i h l m = record { laid = same-laid false; source = refl; in-row = (l, m); source-le = sized v .most }
-row SQADD v i h l m = record { laid = same-laid false; source = refl; in-row = sized v .most; source-le = sized v .most }
-row UQADD v i h l m = record { laid = same-laid false; source = refl; in-row = sized v .most; source-le = sized v .most }
-row SQSUB v i h l m = record { laid = same-laid false; source = refl; in-row = sized v .most; source-le = sized v .most }
-row UQSUB v i h l m = record { laid = same-laid false; source = refl; in-row = sized v .most; source-le = sized v .most }
-row SHADD v i h l m = record { laid = same-laid false; source = refl; in-row = sized v .most; source-le = sized v .most }
-row UHADD v i h l m = record { laid = same-laid false; source = refl; in-row = sized v .most; source-le = sized v .most }
-row SRHADD v i h l m = record { laid = same-laid false; source = refl; in-row = sized v .most; source-le = sized v .most }
-row URHADD v i h l m = record { laid = same-laid false; source = refl; in-row = sized v .most; source-le = sized v .most }
-row SQXTN v i h l m = record { laid = narrow-laid false; source = refl; in-row = small v h; source-le = omega (arith, small v h) }
-row UQXTN v i h l m = record { laid = narrow-laid false; source = refl; in-row = small v h; source-le = omega (arith, small v h) }
-row SQXTUN v i h l m = record { laid = narrow-laid false; source = refl; in-row = small v h; source-le = omega (arith, small v h) }
-row SHRN v i h l m = record { laid = narrow-laid false; source = refl; in-row = (small v h, l, m); source-le = omega (arith, small v h) }
-row RSHRN v i h l m = record { laid = narrow-laid false; source = refl; in-row = (small v h, l, m); source-le = omega (arith, small v h) }
-row SQSHRN v i h l m = record { laid = narrow-laid false; source = refl; in-row = (small v h, l, m); source-le = omega (arith, small v h) }
-row SQRSHRN v i h l m = record { laid = narrow-laid false; source = refl; in-row = (small v h, l, m); source-le = omega (arith, small v h) }
-row UQSHRN v i h l m = record { laid = narrow-laid false; source = refl; in-row = (small v h, l, m); source-le = omega (arith, small v h) }
-row UQRSHRN v i h l m = record { laid = narrow-laid false; source = refl; in-row = (small v h, l, m); source-le = omega (arith, small v h) }
-row SQSHRUN v i h l m = record { laid = narrow-laid false; source = refl; in-row = (small v h, l, m); source-le = omega (arith, small v h) }
-row SQRSHRUN v i h l m = record { laid = narrow-laid false; source = refl; in-row = (small v h, l, m); source-le = omega (arith, small v h) }
-row SQABS v i h l m = record { laid = same-laid false; source = refl; in-row = sized v .most; source-le = sized v .most }
-row SQNEG v i h l m = record { laid = same-laid false; source = refl; in-row = sized v .most; source-le = sized v .most }
-row SQDMULH v i h l m = record { laid = same-laid false; source = refl; in-row = middle v h; source-le = sized v .most }
-row SQRDMULH v i h l m = record { laid = same-laid false; source = refl; in-row = middle v h; source-le = sized v .most }
-row SQDMULL v i h l m = record { laid = long-laid false false; source = refl; in-row = omega (arith, sized v .eight); source-le = omega (arith, sized v .most) }
-row SQDMLAL v i h l m = record { laid = long-laid false false; source = refl; in-row = omega (arith, sized v .eight); source-le = omega (arith, sized v .most) }
-row SQDMLSL v i h l m = record { laid = long-laid false false; source = refl; in-row = omega (arith, sized v .eight); source-le = omega (arith, sized v .most) }
-row SQDMULL2 v i h l m = record { laid = long-laid true false; source = refl; in-row = omega (arith, sized v .eight); source-le = omega (arith, sized v .most) }
-row SQDMLAL2 v i h l m = record { laid = long-laid true false; source = refl; in-row = omega (arith, sized v .eight); source-le = omega (arith, sized v .most) }
-row SQDMLSL2 v i h l m = record { laid = long-laid true false; source = refl; in-row = omega (arith, sized v .eight); source-le = omega (arith, sized v .most) }
-row SQDMULLE v i h l m = record { laid = long-laid false true; source = refl; in-row = omega (arith, sized v .eight); source-le = omega (arith, sized v .most) }
-row SQDMLALE v i h l m = record { laid = long-laid false true; source = refl; in-row = omega (arith, sized v .eight); source-le = omega (arith, sized v .most) }
-row SQDMLSLE v i h l m = record { laid = long-laid false true; source = refl; in-row = omega (arith, sized v .eight); source-le = omega (arith, sized v .most) }
-row SQDMULL2E v i h l m = record { laid = long-laid true true; source = refl; in-row = omega (arith, sized v .eight); source-le = omega (arith, sized v .most) }
-row SQDMLAL2E v i h l m = record { laid = long-laid true true; source = refl; in-row = omega (arith, sized v .eight); source-le = omega (arith, sized v .most) }
-row SQDMLSL2E v i h l m = record { laid = long-laid true true; source = refl; in-row = omega (arith, sized v .eight); source-le = omega (arith, sized v .most) }
-row SUQADD v i h l m = record { laid = same-laid false; source = refl; in-row = sized v .most; source-le = sized v .most }
-row USQADD v i h l m = record { laid = same-laid false; source = refl; in-row = sized v .most; source-le = sized v .most }
-row SABD v i h l m = record { laid = same-laid false; source = refl; in-row = sized v .most; source-le = sized v .most }
-row UABD v i h l m = record { laid = same-laid false; source = refl; in-row = sized v .most; source-le = sized v .most }
-row SABA v i h l m = record { laid = same-laid false; source = refl; in-row = sized v .most; source-le = sized v .most }
-row UABA v i h l m = record { laid = same-laid false; source = refl; in-row = sized v .most; source-le = sized v .most }
-row CNT v i h l m = record { laid = same-laid false; source = refl; in-row = sized v .most; source-le = sized v .most }
-row CLZ v i h l m = record { laid = same-laid false; source = refl; in-row = sized v .most; source-le = sized v .most }
-row CLS v i h l m = record { laid = same-laid false; source = refl; in-row = sized v .most; source-le = sized v .most }
-row RBIT v i h l m = record { laid = same-laid false; source = refl; in-row = sized v .most; source-le = sized v .most }
-row ADDHN v i h l m = record { laid = narrow-laid false; source = refl; in-row = small v h; source-le = omega (arith, small v h) }
-row RADDHN v i h l m = record { laid = narrow-laid false; source = refl; in-row = small v h; source-le = omega (arith, small v h) }
-row SUBHN v i h l m = record { laid = narrow-laid false; source = refl; in-row = small v h; source-le = omega (arith, small v h) }
-row RSUBHN v i h l m = record { laid = narrow-laid false; source = refl; in-row = small v h; source-le = omega (arith, small v h) }
+row Op.SHL v i h l m = record { laid = same-laid false; source = refl; in-row = omega (arith, m, sized v .eight); source-le = sized v .most }
+row Op.SQSHLI v i h l m = record { laid = same-laid false; source = refl; in-row = omega (arith, m, sized v .eight); source-le = sized v .most }
+row Op.UQSHLI v i h l m = record { laid = same-laid false; source = refl; in-row = omega (arith, m, sized v .eight); source-le = sized v .most }
+row Op.SQSHLU v i h l m = record { laid = same-laid false; source = refl; in-row = omega (arith, m, sized v .eight); source-le = sized v .most }
+row Op.SSHR v i h l m = record { laid = same-laid false; source = refl; in-row = (l, m); source-le = sized v .most }
+row Op.USHR v i h l m = record { laid = same-laid false; source = refl; in-row = (l, m); source-le = sized v .most }
+row Op.SRSHR v i h l m = record { laid = same-laid false; source = refl; in-row = (l, m); source-le = sized v .most }
+row Op.URSHR v i h l m = record { laid = same-laid false; source = refl; in-row = (l, m); source-le = sized v .most }
+row Op.SSHL v i h l m = record { laid = same-laid false; source = refl; in-row = tt; source-le = sized v .most }
+row Op.USHL v i h l m = record { laid = same-laid false; source = refl; in-row = tt; source-le = sized v .most }
+row Op.SRSHL v i h l m = record { laid = same-laid false; source = refl; in-row = tt; source-le = sized v .most }
+row Op.URSHL v i h l m = record { laid = same-laid false; source = refl; in-row = tt; source-le = sized v .most }
+row Op.SQSHL v i h l m = record { laid = same-laid false; source = refl; in-row = tt; source-le = sized v .most }
+row Op.UQSHL v i h l m = record { laid = same-laid false; source = refl; in-row = tt; source-le = sized v .most }
+row Op.SQRSHL v i h l m = record { laid = same-laid false; source = refl; in-row = tt; source-le = sized v .most }
+row Op.UQRSHL v i h l m = record { laid = same-laid false; source = refl; in-row = tt; source-le = sized v .most }
+row Op.SLI v i h l m = record { laid = same-laid false; source = refl; in-row = omega (arith, m, sized v .eight); source-le = sized v .most }
+row Op.SRI v i h l m = record { laid = same-laid false; source = refl; in-row = (l, m); source-le = sized v .most }
+row Op.SQADD v i h l m = record { laid = same-laid false; source = refl; in-row = sized v .most; source-le = sized v .most }
+row Op.UQADD v i h l m = record { laid = same-laid false; source = refl; in-row = sized v .most; source-le = sized v .most }
+row Op.SQSUB v i h l m = record { laid = same-laid false; source = refl; in-row = sized v .most; source-le = sized v .most }
+row Op.UQSUB v i h l m = record { laid = same-laid false; source = refl; in-row = sized v .most; source-le = sized v .most }
+row Op.SHADD v i h l m = record { laid = same-laid false; source = refl; in-row = sized v .most; source-le = sized v .most }
+row Op.UHADD v i h l m = record { laid = same-laid false; source = refl; in-row = sized v .most; source-le = sized v .most }
+row Op.SRHADD v i h l m = record { laid = same-laid false; source = refl; in-row = sized v .most; source-le = sized v .most }
+row Op.URHADD v i h l m = record { laid = same-laid false; source = refl; in-row = sized v .most; source-le = sized v .most }
+row Op.SQXTN v i h l m = record { laid = narrow-laid false; source = refl; in-row = small v h; source-le = omega (arith, small v h) }
+row Op.UQXTN v i h l m = record { laid = narrow-laid false; source = refl; in-row = small v h; source-le = omega (arith, small v h) }
+row Op.SQXTUN v i h l m = record { laid = narrow-laid false; source = refl; in-row = small v h; source-le = omega (arith, small v h) }
+row Op.SHRN v i h l m = record { laid = narrow-laid false; source = refl; in-row = (small v h, l, m); source-le = omega (arith, small v h) }
+row Op.RSHRN v i h l m = record { laid = narrow-laid false; source = refl; in-row = (small v h, l, m); source-le = omega (arith, small v h) }
+row Op.SQSHRN v i h l m = record { laid = narrow-laid false; source = refl; in-row = (small v h, l, m); source-le = omega (arith, small v h) }
+row Op.SQRSHRN v i h l m = record { laid = narrow-laid false; source = refl; in-row = (small v h, l, m); source-le = omega (arith, small v h) }
+row Op.UQSHRN v i h l m = record { laid = narrow-laid false; source = refl; in-row = (small v h, l, m); source-le = omega (arith, small v h) }
+row Op.UQRSHRN v i h l m = record { laid = narrow-laid false; source = refl; in-row = (small v h, l, m); source-le = omega (arith, small v h) }
+row Op.SQSHRUN v i h l m = record { laid = narrow-laid false; source = refl; in-row = (small v h, l, m); source-le = omega (arith, small v h) }
+row Op.SQRSHRUN v i h l m = record { laid = narrow-laid false; source = refl; in-row = (small v h, l, m); source-le = omega (arith, small v h) }
+row Op.SQABS v i h l m = record { laid = same-laid false; source = refl; in-row = sized v .most; source-le = sized v .most }
+row Op.SQNEG v i h l m = record { laid = same-laid false; source = refl; in-row = sized v .most; source-le = sized v .most }
+row Op.SQDMULH v i h l m = record { laid = same-laid false; source = refl; in-row = middle v h; source-le = sized v .most }
+row Op.SQRDMULH v i h l m = record { laid = same-laid false; source = refl; in-row = middle v h; source-le = sized v .most }
+row Op.SQDMULL v i h l m = record { laid = long-laid false false; source = refl; in-row = omega (arith, sized v .eight); source-le = omega (arith, sized v .most) }
+row Op.SQDMLAL v i h l m = record { laid = long-laid false false; source = refl; in-row = omega (arith, sized v .eight); source-le = omega (arith, sized v .most) }
+row Op.SQDMLSL v i h l m = record { laid = long-laid false false; source = refl; in-row = omega (arith, sized v .eight); source-le = omega (arith, sized v .most) }
+row Op.SQDMULL2 v i h l m = record { laid = long-laid true false; source = refl; in-row = omega (arith, sized v .eight); source-le = omega (arith, sized v .most) }
+row Op.SQDMLAL2 v i h l m = record { laid = long-laid true false; source = refl; in-row = omega (arith, sized v .eight); source-le = omega (arith, sized v .most) }
+row Op.SQDMLSL2 v i h l m = record { laid = long-laid true false; source = refl; in-row = omega (arith, sized v .eight); source-le = omega (arith, sized v .most) }
+row Op.SQDMULLE v i h l m = record { laid = long-laid false true; source = refl; in-row = omega (arith, sized v .eight); source-le = omega (arith, sized v .most) }
+row Op.SQDMLALE v i h l m = record { laid = long-laid false true; source = refl; in-row = omega (arith, sized v .eight); source-le = omega (arith, sized v .most) }
+row Op.SQDMLSLE v i h l m = record { laid = long-laid false true; source = refl; in-row = omega (arith, sized v .eight); source-le = omega (arith, sized v .most) }
+row Op.SQDMULL2E v i h l m = record { laid = long-laid true true; source = refl; in-row = omega (arith, sized v .eight); source-le = omega (arith, sized v .most) }
+row Op.SQDMLAL2E v i h l m = record { laid = long-laid true true; source = refl; in-row = omega (arith, sized v .eight); source-le = omega (arith, sized v .most) }
+row Op.SQDMLSL2E v i h l m = record { laid = long-laid true true; source = refl; in-row = omega (arith, sized v .eight); source-le = omega (arith, sized v .most) }
+row Op.SUQADD v i h l m = record { laid = same-laid false; source = refl; in-row = sized v .most; source-le = sized v .most }
+row Op.USQADD v i h l m = record { laid = same-laid false; source = refl; in-row = sized v .most; source-le = sized v .most }
+row Op.SABD v i h l m = record { laid = same-laid false; source = refl; in-row = sized v .most; source-le = sized v .most }
+row Op.UABD v i h l m = record { laid = same-laid false; source = refl; in-row = sized v .most; source-le = sized v .most }
+row Op.SABA v i h l m = record { laid = same-laid false; source = refl; in-row = sized v .most; source-le = sized v .most }
+row Op.UABA v i h l m = record { laid = same-laid false; source = refl; in-row = sized v .most; source-le = sized v .most }
+row Op.CNT v i h l m = record { laid = same-laid false; source = refl; in-row = sized v .most; source-le = sized v .most }
+row Op.CLZ v i h l m = record { laid = same-laid false; source = refl; in-row = sized v .most; source-le = sized v .most }
+row Op.CLS v i h l m = record { laid = same-laid false; source = refl; in-row = sized v .most; source-le = sized v .most }
+row Op.RBIT v i h l m = record { laid = same-laid false; source = refl; in-row = sized v .most; source-le = sized v .most }
+row Op.ADDHN v i h l m = record { laid = narrow-laid false; source = refl; in-row = small v h; source-le = omega (arith, small v h) }
+row Op.RADDHN v i h l m = record { laid = narrow-laid false; source = refl; in-row = small v h; source-le = omega (arith, small v h) }
+row Op.SUBHN v i h l m = record { laid = narrow-laid false; source = refl; in-row = small v h; source-le = omega (arith, small v h) }
+row Op.RSUBHN v i h l m = record { laid = narrow-laid false; source = refl; in-row = small v h; source-le = omega (arith, small v h) }
 
 -- ---- source lanes in words
 source-word : (l : Lanes) (v : Arrangement) → sourceBits l (laneBits v) ≤ 64 → InWord (sourceBits l (laneBits v))

@@ -1,8 +1,8 @@
 -- What `script_length` answers, by the way that it took. Assumes nothing.
 use mathlib.Core.Bool.{Bool, true, false, _&&_}
 use mathlib.Core.List.{List}
-use mathlib.Core.Path.{_≡_, refl, sym, ap, _∙_, subst}
-use Prim.Native.Nat.{ℕ, zero, suc, _+_, _*_, _≤_, _<_}
+use mathlib.Core.Path.{_≡_, refl, sym, ap, _∙_}
+use Prim.Native.Nat.{ℕ, zero, suc, _≤_, _<_}
 use native.Mathlib.Nat.{not-suc-le-zero}
 use native.Mathlib.Omega.{arith}
 use lib.Dec.{ltb, leb, eqb}
@@ -15,7 +15,7 @@ use Rattle.pool.specs.Rules.{okPool, poolOk, Valid}
 use Rattle.text_length.specs.Answer.{lengthBy}
 use Rattle.text_length.proofs.Answers.{ready}
 use Rattle.script_meaning.specs.Script.{scriptOf}
-use Rattle.script_length.specs.Answer.{Named, AllNamed, chosen, scriptNumber, Measured}
+use Rattle.script_length.specs.Answer.{AllNamed, chosen, scriptNumber, Measured}
 
 -- ---- the tests
 

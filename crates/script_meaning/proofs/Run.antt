@@ -23,8 +23,7 @@ use Rattle.node_rules.proofs.Kept.{register, var-wide}
 use Rattle.script_meaning.specs.Sexp.{Sexp, word, list, Items, stop, _⨾_}
 use Rattle.script_meaning.specs.Meaning.{andThen, when, isNone, numeral, same, Meaning, meaning, Entry, _↦ᵉ_, find, functions, distinct}
 use Rattle.script_meaning.specs.Meaning.{applied, atom, term, vectorSort, sort, commands, Script, script, added, defined, done, command, run}
-use Rattle.script_meaning.specs.Script.{registerName, nodeName, nameBy, nameOf, apply2, termBy, termOf, sortBy, sortWidth}
-use Rattle.script_meaning.specs.Script.{defineFun, definedBy, definition, definitions, declarations}
+use Rattle.script_meaning.specs.Script.{registerName, nodeName, nameBy, nameOf, apply2, termBy, termOf, sortBy, sortWidth, defineFun, definedBy, definition, definitions, declarations, commandsOf}
 use Rattle.script_meaning.proofs.Numbers.{decimal-numeral}
 use Rattle.script_meaning.proofs.Names.{other-decimal, find-here, find-past, atom-name, node-free, register-free, decimal-symbolic}
 use Rattle.script_meaning.proofs.Vars.{isVar, is-var, name-other, defined-other}

@@ -1,9 +1,7 @@
 -- `put_2` writes `padded 2`: the digit of the tens and what is left.
-use mathlib.Core.Path.{_≡_, refl, sym, ap, _∙_}
 use native.Mathlib.Omega.{arith}
-use lib.ListN.{length, length-set, length-append}
-use Rattle.digits.proofs.Laws.{wrote-length, wrote-byte, wrote-then, wrote-as, room-as, room-front, room-step}
-use Rattle.decimals.proofs.Digits.{first-2, wrote-first, length-2, wrote-last}
+use lib.ListN.{length-set}
+use Rattle.decimals.proofs.Digits.{first-2, length-2, wrote-last}
 use borrow.Author.Needs.{needs}
 use Rattle.decimals.proofs.put_2.Statement.{statement}
 use Rattle.decimals.proofs.put_2.Tie as tie

@@ -1,5 +1,5 @@
 -- `put_number` writes the decimal text: a number of k digits has no zeros before it, so `padded k` is its text.
-use mathlib.Core.Path.{_≡_, refl, sym, ap, _∙_}
+use mathlib.Core.Path.{ap}
 use native.Mathlib.Omega.{arith}
 use lib.ListN.{length}
 use Rattle.terms.specs.Display.{decimal}

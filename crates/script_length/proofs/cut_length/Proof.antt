@@ -1,5 +1,4 @@
 -- `cut_length` gives the length of ((_ extract hi lo) a).
-use mathlib.Core.Path.{_≡_, refl, sym, ap, _∙_, subst}
 use native.Mathlib.Omega.{arith}
 use Rattle.script_length.proofs.Sizes.{size-cut}
 use Rattle.script_meaning.specs.Script.{nameOf}

@@ -1,5 +1,4 @@
 -- `extension_length` gives the length of ((_ f by) a), f the function of the kind.
-use mathlib.Core.Path.{_≡_, refl, sym, ap, _∙_, subst}
 use native.Mathlib.Omega.{arith}
 use Rattle.script_length.proofs.Sizes.{size-extension}
 use Rattle.script_meaning.specs.Script.{nameOf, functionOf}

@@ -1,5 +1,5 @@
 -- `is_chosen` gives `chosen`: the node is below the count and 128 wide.
-use mathlib.Core.Path.{_≡_, refl, sym, ap, _∙_, subst}
+use mathlib.Core.Path.{sym}
 use native.Mathlib.Omega.{arith}
 use Rattle.script_length.proofs.Answers.{all-named, not-there, there}
 use Rattle.script_length.proofs.is_chosen.Statement.{statement}

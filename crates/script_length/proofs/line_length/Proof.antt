@@ -1,5 +1,5 @@
 -- `line_length` gives the length of a node's line, 0 for a Var, at most 192.
-use mathlib.Core.Path.{_≡_, refl, sym, ap, _∙_, subst}
+use mathlib.Core.Path.{refl, sym, ap, _∙_}
 use native.Mathlib.Omega.{arith}
 use lib.ListN.{length}
 use Rattle.script_text.proofs.Spelling.{no-line, above}

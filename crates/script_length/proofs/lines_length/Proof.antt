@@ -1,7 +1,7 @@
 -- `lines_length` gives the length of the lines of the nodes below count: at n the sum is that of the first n.
-use mathlib.Core.Path.{_≡_, refl, sym, ap, _∙_, subst}
+use mathlib.Core.Path.{_≡_, sym, ap, _∙_}
 use native.Mathlib.Omega.{arith}
-use Prim.Native.Nat.{ℕ, _+_, _-_, _*_, _≤_, _<_}
+use Prim.Native.Nat.{ℕ, _-_, _*_, _≤_}
 use lib.ListN.{length}
 use Rattle.series.specs.Series.{upTo}
 use Rattle.script_text.specs.Lines.{lineAt}

@@ -1,7 +1,5 @@
 -- `measure` gives the length of the whole script: 1,128 bytes, the nodes' lines and the claim.
-use mathlib.Core.Path.{_≡_, refl, sym, ap, _∙_, subst}
 use native.Mathlib.Omega.{arith}
-use lib.ListN.{length}
 use Rattle.script_length.proofs.Sizes.{size-script}
 use borrow.Author.Needs.{needs}
 use Rattle.script_length.proofs.measure.Statement.{statement}

@@ -1,5 +1,4 @@
 -- `script_length` meets its contract: 1 and 5 with length 0, else the length of the script.
-use mathlib.Core.Path.{_≡_, refl, sym, ap, _∙_, subst}
 use native.Mathlib.Omega.{arith}
 use Rattle.script_length.proofs.Answers.{good, few, all-named, below, unmeasured, measured}
 use borrow.Author.Needs.{needs}

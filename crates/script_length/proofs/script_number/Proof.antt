@@ -1,6 +1,5 @@
 -- `script_number` gives `scriptNumber`: 1, then 5 for either node.
-use mathlib.Core.Path.{_≡_, refl, sym, ap, _∙_, subst}
-use native.Mathlib.Omega.{arith}
+use mathlib.Core.Path.{sym, _∙_}
 use borrow.Author.Tests.{not-true, not-false}
 use Rattle.script_length.proofs.Answers.{bad-pool, bad-first, bad-second, good-nodes}
 use borrow.Author.Needs.{needs}

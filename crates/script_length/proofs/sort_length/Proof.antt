@@ -1,5 +1,5 @@
 -- `sort_length` gives the length of a sort, at most 16.
-use mathlib.Core.Path.{_≡_, refl, sym, ap, _∙_, subst}
+use mathlib.Core.Path.{sym}
 use native.Mathlib.Omega.{arith}
 use Rattle.script_length.proofs.Sizes.{size-bool, size-vector}
 use borrow.Author.Needs.{needs}

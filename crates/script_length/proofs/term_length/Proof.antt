@@ -1,7 +1,7 @@
 -- `term_length` gives the length of a node's term, by its kind, at most 131.
-use mathlib.Core.Path.{_≡_, refl, sym, ap, _∙_, subst}
+use mathlib.Core.Path.{sym, ap, _∙_}
 use native.Mathlib.Omega.{arith}
-use Prim.Native.Nat.{ℕ, _-_, _≤_, _<_}
+use Prim.Native.Nat.{_-_}
 use lib.ListN.{length}
 use Rattle.terms.specs.Display.{bytes}
 use Rattle.pool.specs.Node.{kindAt, widthAt, wordAt, wide}

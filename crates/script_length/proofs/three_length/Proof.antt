@@ -1,5 +1,4 @@
 -- `three_length` gives the length of (ite a b c).
-use mathlib.Core.Path.{_≡_, refl, sym, ap, _∙_, subst}
 use native.Mathlib.Omega.{arith}
 use Rattle.script_length.proofs.Sizes.{size-3}
 use Rattle.script_meaning.specs.Script.{nameOf}

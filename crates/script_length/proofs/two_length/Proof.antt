@@ -1,5 +1,4 @@
 -- `two_length` gives the length of (f a b), f the function of the kind.
-use mathlib.Core.Path.{_≡_, refl, sym, ap, _∙_, subst}
 use native.Mathlib.Omega.{arith}
 use Rattle.script_length.proofs.Sizes.{size-2}
 use Rattle.script_meaning.specs.Script.{nameOf, functionOf}

@@ -1,5 +1,5 @@
 -- `write_script` meets its contract: 1, 5 and 9 write nothing; else the script stands at the front, and the bytes after it are as they were.
-use mathlib.Core.Path.{_≡_, refl, sym, ap, _∙_, subst}
+use mathlib.Core.Path.{sym}
 use Prim.Native.Nat.{_≤_}
 use native.Mathlib.Omega.{arith}
 use lib.ListN.{length}
