@@ -220,7 +220,7 @@ const FAMILIES: [(&str, u64, u64); 11] = [
 fn run(rounds: u64, all: &[Record]) {
     let mut r = Rng(0x3c6e_f372_fe94_f82b);
     let mut registers = words(&(0..64).map(|_| r.next()).collect::<Vec<u64>>());
-    let mut results = words(&[0]);
+    let mut results = words(&[0, 0]);
     let mut time_of = |records: &[Record]| {
         let blocks: Vec<Vec<u64>> = records.chunks(64).map(<[Record]>::concat).collect();
         let time = best(rounds, || {

@@ -32,7 +32,7 @@
 extern "C" {
 #endif
 
-/* The numbers. The first in order wins: one instruction 1 to 6; text and script 1, 5, 9; block 8, 6, then record by record 2, 3, 4, 7; value 1, 5,
+/* The numbers. The first in order wins: one instruction 1 to 6; text and script 1, 5, 9; block, with its saturation bit or without, 8, 6, then record by record 2, 3, 4, 7; value 1, 5,
  * 11; words 12, 9; records as words 2, 3, 4, 7 record by record, then 9; join 1, 5, 6; canonical
  * 1, 5, 6; run 8, then record by record 2, 3, 4, 7. */
 enum neon_number {
@@ -42,9 +42,9 @@ enum neon_number {
     NEON_NO_SUCH_FORM = 3,      /* no such arrangement, or the operation has none such */
     NEON_IMMEDIATE = 4,         /* i is not one of the form's */
     NEON_SOURCE = 5,            /* a wanted node is not below the count or has another width; an unwanted one is not NEON_NO_NODE */
-    NEON_NO_ROOM = 6,           /* fewer than 768 free places; block of k: fewer than 32 + 768 * k places */
+    NEON_NO_ROOM = 6,           /* fewer than 768 free places; block of k: fewer than 32 + 768 * k places, with its bit 33 + 2,048 * k */
     NEON_REGISTER = 7,          /* above 31, m above 15 for an element of 16 bits, or m not 0 with no second source */
-    NEON_LONG_BLOCK = 8,        /* more than 85 records */
+    NEON_LONG_BLOCK = 8,        /* more than 85 records, with a saturation bit more than 31 */
     NEON_SHORT_BUFFER = 9,      /* the text or the script is longer than the buffer; a lent list is too short for the records or words */
     NEON_LINE = 10,             /* of the line program alone */
     NEON_VISITS = 11,           /* the term's value takes more visits than are allowed */
@@ -89,11 +89,15 @@ enum neon_arrangement { NEON_8B, NEON_16B, NEON_4H, NEON_8H, NEON_2S, NEON_4S, N
 #define NEON_RECORD 6          /* words of a record: operation, arrangement, i, d, n, m */
 #define NEON_REGISTER_WORDS 64 /* words of the 32 registers: two each, the low one first, v0 first */
 #define NEON_VALUE 3           /* words of a value, the lowest first */
-#define NEON_RUN_RESULTS 1     /* words of a run's results: the position */
+#define NEON_RUN_RESULTS 2     /* words of a run's results: the position, the saturation bit */
 #define NEON_RESULTS 34        /* words of a block's results: 32 nodes, the count, the position */
+#define NEON_SATURATION_RESERVE 2048 /* places for each instruction of a block with its saturation bit */
+#define NEON_SATURATION_RECORDS 31   /* the most that such a block may have */
+#define NEON_SATURATION_RESULTS 35   /* words of its results: those of a block, the node of the bit */
 
-/* Words of a pool that takes a block of k records. */
+/* Words of a pool that takes a block of k records, and one with its saturation bit. */
 #define NEON_BLOCK_WORDS(k) (4 * (32 + (size_t)NEON_RESERVE * (k)))
+#define NEON_SATURATION_WORDS(k) (4 * (33 + (size_t)NEON_SATURATION_RESERVE * (k)))
 
 /* What a form is: 0 where an operation (1 to 67) has no such arrangement (0 to 6). Else bits 0 to 2 tell of the immediate
  * (1: i is 0; 2: 0 to n - 1; 3: 1 to n, n being the lane's bits; 4: the number of an element), and 0x08 of a second source,
@@ -117,6 +121,14 @@ uint64_t neon_lower_instruction(uint64_t *pool, size_t words, size_t count, uint
  *   33        the position of the first bad record, counted from 0, with 2, 3, 4 and 7; else 0
  * No word of the pool past the count changes. */
 uint64_t neon_lower_block(uint64_t *pool, size_t words, const uint64_t *records, size_t numbers, uint64_t results[NEON_RESULTS]);
+
+/* The same with a saturation bit: a term of one bit that is 1 exactly where some lane of some instruction saturates, as FPSR.QC would
+ * record from a cleared flag; operations 2 to 4, 13 to 16, 19 to 22, 27 to 29 and 32 to 55 can. Node 32 is the constant 0, which is the
+ * empty block's bit. The registers' terms are those of neon_lower_block, on other nodes. At most 31 records, in 33 + 2,048 * k places;
+ * `results` has those of neon_lower_block, and
+ *   34        the node of the bit; NEON_NO_NODE where the block is refused */
+uint64_t neon_lower_block_saturation(uint64_t *pool, size_t words, const uint64_t *records, size_t numbers,
+                                     uint64_t results[NEON_SATURATION_RESULTS]);
 
 /* Writes the text of a node to the front of `buffer`, with no zero byte after it; later bytes stay. *length is that of the text,
  * 0 where it is refused. */
@@ -160,8 +172,9 @@ uint64_t neon_value(const uint64_t *pool, size_t words, size_t count, size_t nod
 
 /* Runs a block on the registers, in place and without a pool: each then holds what the Arm instructions leave in it. `numbers` counts
  * words, six a record; words after the last whole record are not read. The records that neon_lower_block takes are taken. Numbers 8, then
- * record by record 2, 3, 4, 7; results[0] is the position of the first bad record, counted from 0, with 2, 3, 4 and 7, else 0. A block
- * that is refused leaves the registers as they were. Takes a few kilobytes of stack. */
+ * record by record 2, 3, 4, 7; results[0] is the position of the first bad record, counted from 0, with 2, 3, 4 and 7, else 0. results[1] is
+ * 1 where some lane of some instruction saturated, as FPSR.QC would record from a cleared flag, else 0. A block that is refused leaves
+ * the registers as they were, and results[1] is 0. Takes a few kilobytes of stack. */
 uint64_t neon_run_block(uint64_t registers[NEON_REGISTER_WORDS], const uint64_t *records, size_t numbers,
                         uint64_t results[NEON_RUN_RESULTS]);
 

@@ -192,10 +192,10 @@ pub fn canonical((pool, count, root): Chosen, out: &mut Words) -> (u64, usize) {
     (number, after)
 }
 
-/// Number; the position goes to `results`, of one word, and `registers` has 64.
+/// Number; the position and the saturation bit go to `results`, of two words, and `registers` has 64.
 pub fn run_in_place(registers: &mut Words, records: &[u64], results: &mut Words) -> u64 {
     let ((at, many), (to, entries)) = (registers.lend(), results.lend());
-    assert!(many == 64 && entries == 1);
+    assert!(many == 64 && entries == 2);
     let number = unsafe { neon_run_block(at, records.as_ptr(), records.len(), to) };
     registers.look();
     results.look();
@@ -205,7 +205,7 @@ pub fn run_in_place(registers: &mut Words, records: &[u64], results: &mut Words)
 /// Number, position and the registers after the block.
 pub fn run_block(start: &[u128; 32], records: &[u64]) -> (u64, u64, [u128; 32]) {
     let mut registers = words(&register_words(start));
-    let mut results = words(&[77]);
+    let mut results = words(&[77, 77]);
     let number = run_in_place(&mut registers, records, &mut results);
     let after = registers.items();
     (number, results.items()[0], std::array::from_fn(|r| u128::from(after[2 * r + 1]) << 64 | u128::from(after[2 * r])))

@@ -1,7 +1,8 @@
 //! NEON instructions as SMT-LIB bit-vector terms.
 //!
 //! A [`Pool`] owns the words of its terms. [`Pool::from_block`] lowers a block of [`Record`]s and gives the node of each of the 32
-//! registers; [`Pool::lower`] lowers one instruction on nodes that are there already. [`Registers::run`] runs a block on numbers.
+//! registers; [`Pool::lower`] lowers one instruction on nodes that are there already. [`Registers::run`] runs a block on numbers, and
+//! [`Pool::from_block_saturation`] makes beside the terms one that says whether anything saturates.
 //!
 //! ```
 //! use neon_terms::{Arrangement, Operation, Pool, Record};
@@ -20,6 +21,7 @@ mod join;
 mod operation;
 mod raw;
 mod registers;
+mod saturation;
 mod script;
 mod value;
 mod words;
@@ -50,7 +52,7 @@ pub enum Number {
     NoRoom,
     /// Above 31, m above 15 for an element of 16 bits, or m not 0 with no second source.
     Register,
-    /// More than 85 records.
+    /// More than 85 records, with a saturation bit more than 31.
     LongBlock,
     /// The text is longer than the buffer.
     ShortBuffer,

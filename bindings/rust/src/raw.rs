@@ -7,6 +7,9 @@ use std::thread;
 pub const RESERVE: usize = 768;
 pub const MOST_RECORDS: usize = 85;
 pub const RESULTS: usize = 34;
+pub const SATURATION_RESERVE: usize = 2048;
+pub const SATURATION_RECORDS: usize = 31;
+pub const SATURATION_RESULTS: usize = 35;
 pub const NO_NODE: usize = 65535;
 
 /// So many levels of a term, of 80 bytes of stack each at most, take 1.1 MB, which every thread has.
@@ -40,6 +43,9 @@ unsafe extern "C" {
         node: *mut usize, after: *mut usize,
     ) -> u64;
     fn neon_lower_block(pool: *mut u64, words: usize, records: *const u64, numbers: usize, results: *mut [u64; RESULTS]) -> u64;
+    fn neon_lower_block_saturation(
+        pool: *mut u64, words: usize, records: *const u64, numbers: usize, results: *mut [u64; SATURATION_RESULTS],
+    ) -> u64;
     fn neon_write_text(pool: *const u64, words: usize, count: usize, node: usize, buffer: *mut u8, bytes: usize, length: *mut usize) -> u64;
     fn neon_value(
         pool: *const u64, words: usize, count: usize, node: usize, start: *const u64, allowance: u64, value: *mut u64, visits: *mut u64,
@@ -53,7 +59,7 @@ unsafe extern "C" {
         joined: *mut u64, joined_words: usize, node: *mut usize, count: *mut usize,
     ) -> u64;
     fn neon_canonical(pool: *const u64, words: usize, count: usize, root: usize, out: *mut u64, out_words: usize, after: *mut usize) -> u64;
-    fn neon_run_block(registers: *mut u64, records: *const u64, numbers: usize, results: *mut u64) -> u64;
+    fn neon_run_block(registers: *mut u64, records: *const u64, numbers: usize, results: *mut [u64; 2]) -> u64;
     fn neon_write_script(
         pool: *const u64, words: usize, count: usize, a: usize, b: usize, buffer: *mut u8, bytes: usize, length: *mut usize,
     ) -> u64;
@@ -79,6 +85,10 @@ pub fn lower_instruction(pool: &mut [u64], count: usize, [operation, arrangement
 
 pub fn lower_block(pool: &mut [u64], records: &[u64], results: &mut [u64; RESULTS]) -> u64 {
     unsafe { neon_lower_block(pool.as_mut_ptr(), pool.len(), records.as_ptr(), records.len(), results) }
+}
+
+pub fn lower_block_saturation(pool: &mut [u64], records: &[u64], results: &mut [u64; SATURATION_RESULTS]) -> u64 {
+    unsafe { neon_lower_block_saturation(pool.as_mut_ptr(), pool.len(), records.as_ptr(), records.len(), results) }
 }
 
 /// Number and length.
@@ -149,11 +159,11 @@ pub fn canonical(pool: &[u64], count: usize, root: usize, out: &mut [u64]) -> (u
     (number, after)
 }
 
-/// Number and position; the registers are run in place.
-pub fn run_block(registers: &mut [u64; 64], records: &[u64]) -> (u64, usize) {
-    let mut results = [0; 1];
-    let number = unsafe { neon_run_block(registers.as_mut_ptr(), records.as_ptr(), records.len(), results.as_mut_ptr()) };
-    (number, results[0] as usize)
+/// Number, position and whether a lane saturated; the registers are run in place.
+pub fn run_block(registers: &mut [u64; 64], records: &[u64]) -> (u64, usize, bool) {
+    let mut results = [0; 2];
+    let number = unsafe { neon_run_block(registers.as_mut_ptr(), records.as_ptr(), records.len(), &mut results) };
+    (number, results[0] as usize, results[1] != 0)
 }
 
 /// Number and length.

@@ -11,7 +11,8 @@ impl Registers {
         std::array::from_fn(|k| (self.0[k / 2] >> (64 * (k % 2))) as u64)
     }
 
-    /// Runs a block: each register then holds what the Arm instructions leave in it. No pool and no term is made. A block that
+    /// Runs a block: each register then holds what the Arm instructions leave in it. No pool and no term is made. The answer is whether
+    /// some lane of some instruction saturated, as FPSR.QC would record. A block that
     /// [`Pool::from_block`](crate::Pool::from_block) refuses is refused here, and the registers stay as they were.
     ///
     /// ```
@@ -22,18 +23,19 @@ impl Registers {
     /// let mut registers = Registers::default();
     /// registers.0[1] = 0xff01;
     /// registers.0[2] = 0x0203;
-    /// registers.run(&[sum, shift])?;
-    /// assert_eq!(registers.0[0], 0xff);
+    /// let saturated = registers.run(&[sum, shift])?;
+    /// assert_eq!((registers.0[0], saturated), (0xff, true));
+    /// assert!(!registers.run(&[shift])?);
     /// let refusal = registers.run(&[sum, Record { i: 65, ..shift }]).unwrap_err();
-    /// assert_eq!((refusal.number, refusal.position, registers.0[0]), (Number::Immediate, Some(1), 0xff));
+    /// assert_eq!((refusal.number, refusal.position, registers.0[0]), (Number::Immediate, Some(1), 0));
     /// # Ok::<(), neon_terms::Refusal>(())
     /// ```
-    pub fn run(&mut self, records: &[Record]) -> Result<(), Refusal> {
+    pub fn run(&mut self, records: &[Record]) -> Result<bool, Refusal> {
         let flat: Vec<u64> = records.iter().flat_map(Record::numbers).collect();
         let mut words = self.words();
-        let (number, position) = raw::run_block(&mut words, &flat);
+        let (number, position, saturated) = raw::run_block(&mut words, &flat);
         list_answer(number, position)?;
         self.0 = std::array::from_fn(|r| u128::from(words[2 * r + 1]) << 64 | u128::from(words[2 * r]));
-        Ok(())
+        Ok(saturated)
     }
 }

@@ -24,7 +24,7 @@ equal-when-terms-are old cs new a h z old′ cs′ new′ a′ h′ z′ start r
     let q = registers-hold old′ cs′ new′ a′ h′ z′ start r′ l′ in
     (λ e. sym p ∙ e ∙ q, λ e. p ∙ e ∙ sym q)
 
-legal-in : {c : Instruction} {cs : List Instruction} → List·Memᴰ c cs → AllLegal cs → Legal c
+pub legal-in : {c : Instruction} {cs : List Instruction} → List·Memᴰ c cs → AllLegal cs → Legal c
 legal-in (List·Memᴰ·head e) l = subst Legal (sym e) (l .0)
 legal-in (List·Memᴰ·tail m) l = legal-in m (l .1)
 

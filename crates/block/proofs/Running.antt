@@ -32,7 +32,7 @@ use Rattle.block.specs.Block.{VarAt, Lowered, Accepted, Started, Runs}
 -- ---- one record more
 
 -- the terms after one more
-tree-more : (cs : List Instruction) (c : Instruction) (t : ℕ → Expr) → treeRun (cs ++ c ∷ []) t ≡ treeStep c (treeRun cs t)
+pub tree-more : (cs : List Instruction) (c : Instruction) (t : ℕ → Expr) → treeRun (cs ++ c ∷ []) t ≡ treeStep c (treeRun cs t)
 unfolding treeRun
 tree-more [] c t = refl
 tree-more (x ∷ cs) c t = tree-more cs c (treeStep x t)
@@ -49,7 +49,7 @@ reads-kept g m c x l (inr (inl h)) = inr (inl (h .0, h .1, half-kept g refl x l 
 reads-kept g m c x l (inr (inr h)) = inr (inr (h .0, h .1, half-kept g refl x l (h .2)))
 
 -- what a record added stays while the pool grows
-added-kept : {a b : List ℕ} {k k′ : ℕ} → Grown a k b k′ → {m : RegisterMap} {t : ℕ → Expr} {c : Instruction} {answer n : ℕ} → n ≤ k → Added a m t c answer n
+pub added-kept : {a b : List ℕ} {k k′ : ℕ} → Grown a k b k′ → {m : RegisterMap} {t : ℕ → Expr} {c : Instruction} {answer n : ℕ} → n ≤ k → Added a m t c answer n
     → Added b m t c answer n
 added-kept g {m} {c = c} l h =
     let i = h .is in

@@ -11,7 +11,7 @@ use lib.ListN.{length}
 use borrow.Author.Tests.{le-leb, lt-leb, eq-eqb, ne-eqb, eqb-true, eqb-false, leb-true}
 use Rattle.facts.specs.Refuse.{unless}
 use Rattle.neon.specs.declared.Instruction.{Instruction}
-use Rattle.neon.specs.Refusal.{reserve, mostRecords, recordNumber, Legal, AllLegal, refusal, recordsRefusal, sizeNumber, blockRefusal}
+use Rattle.neon.specs.Refusal.{reserve, mostRecords, recordNumber, Legal, AllLegal, refusal, recordsRefusal, sizeNumber, refusalBy, blockRefusal}
 use Rattle.pool.specs.Node.{none, placesIn}
 use Rattle.record_check.specs.Record.{recordAt}
 use Rattle.block_check.specs.Records.{recordsFrom, recordsOf}
@@ -61,16 +61,15 @@ module _ (words count : ℕ) where
   unfolding sizeNumber
   has-room h l = rw (le-leb count mostRecords h, le-leb (32 + reserve * count) (placesIn words) (le-min l (omega arith)))
 
-module _ (p : ℕ) (cs : List Instruction) where
+-- a block by the number of its size
+module _ (size : ℕ) (cs : List Instruction) where
   -- refused for its size
-  pub by-size : 0 < sizeNumber p (length cs) → blockRefusal p cs ≡ refusal (sizeNumber p (length cs)) 0
-  unfolding blockRefusal
-  by-size h = rw (ne-eqb (sizeNumber p (length cs)) 0 (λ e. omega arith))
+  pub by-size : 0 < size → refusalBy size cs ≡ refusal size 0
+  by-size h = rw (ne-eqb size 0 (λ e. omega arith))
 
   -- the size is accepted: the records decide
-  pub by-records : sizeNumber p (length cs) ≤ 0 → blockRefusal p cs ≡ recordsRefusal 0 cs
-  unfolding blockRefusal
-  by-records h = rw (eq-eqb (sizeNumber p (length cs)) 0 (omega arith))
+  pub by-records : size ≤ 0 → refusalBy size cs ≡ recordsRefusal 0 cs
+  by-records h = rw (eq-eqb size 0 (omega arith))
 
 -- ---- what is accepted
 
@@ -85,25 +84,30 @@ all-legal p (c ∷ cs) e = go (λ z. all-legal (suc p) cs z) (eqb (recordNumber 
     go f true q z = (eqb-true (recordNumber c) 0 q, f z)
     go f false q z = absurd (eqb-false (recordNumber c) 0 q z)
 
--- a size that is accepted
-size-legal : (p n : ℕ) → sizeNumber p n ≡ 0 → (n ≤ mostRecords) × (32 + reserve * n ≤ p)
-unfolding sizeNumber
-size-legal p n e = go (leb n mostRecords) (leb (32 + reserve * n) p) refl refl e
+-- a size that is accepted, and records
+pub legal-by : (size : ℕ) (cs : List Instruction) → refusalBy size cs .number ≡ 0 → (size ≡ 0) × AllLegal cs
+legal-by size cs e = go (eqb size 0) refl e
   where
-    go : (a b : Bool) → leb n mostRecords ≡ a → leb (32 + reserve * n) p ≡ b → unless a 8 (unless b 6 0) ≡ 0 → (n ≤ mostRecords) × (32 + reserve * n ≤ p)
+    go : (b : Bool) → eqb size 0 ≡ b → cond b (recordsRefusal 0 cs) (refusal size 0) .number ≡ 0 → (size ≡ 0) × AllLegal cs
+    go true q z = (eqb-true _ 0 q, all-legal 0 cs z)
+    go false q z = absurd (eqb-false _ 0 q z)
+
+-- n records, at most so many, that need so many places of p
+pub size-legal : (n greatest need p : ℕ) → unless (leb n greatest) 8 (unless (leb need p) 6 0) ≡ 0 → (n ≤ greatest) × (need ≤ p)
+size-legal n greatest need p e = go (leb n greatest) (leb need p) refl refl e
+  where
+    go : (a b : Bool) → leb n greatest ≡ a → leb need p ≡ b → unless a 8 (unless b 6 0) ≡ 0 → (n ≤ greatest) × (need ≤ p)
     go true true q r z = (leb-true _ _ q, leb-true _ _ r)
     go true false q r z = absurd (omega arith)
     go false b q r z = absurd (omega arith)
 
 -- a block that is accepted: its records fit and are accepted
 pub block-legal : (p : ℕ) (cs : List Instruction) → blockRefusal p cs .number ≡ 0 → (length cs ≤ mostRecords) × (32 + reserve * length cs ≤ p) × AllLegal cs
-unfolding blockRefusal
-block-legal p cs e = go (eqb (sizeNumber p (length cs)) 0) refl e
-  where
-    go : (b : Bool) → eqb (sizeNumber p (length cs)) 0 ≡ b → cond b (recordsRefusal 0 cs) (refusal (sizeNumber p (length cs)) 0) .number ≡ 0
-        → (length cs ≤ mostRecords) × (32 + reserve * length cs ≤ p) × AllLegal cs
-    go true q z = let s = size-legal p (length cs) (eqb-true _ 0 q) in (s .0, s .1, all-legal 0 cs z)
-    go false q z = absurd (eqb-false _ 0 q z)
+unfolding blockRefusal sizeNumber
+block-legal p cs e =
+    let l = legal-by _ cs e in
+    let s = size-legal (length cs) mostRecords (32 + reserve * length cs) p (l .0) in
+    (s .0, s .1, l .1)
 
 -- record j + n of records that are accepted
 pub legal-at : (flat : List ℕ) (j k n : ℕ) → AllLegal (recordsFrom flat j k) → n < k → Legal (recordAt flat (j + n))

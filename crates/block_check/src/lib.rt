@@ -3,7 +3,7 @@
 use record_check::record_at;
 use record_check::record_number;
 ghost use mathlib.Core.Path.{_≡_};
-ghost use Rattle.neon.specs.Refusal.{recordsRefusal, sizeNumber, blockRefusal};
+ghost use Rattle.neon.specs.Refusal.{recordsRefusal, sizeNumber, refusalBy, blockRefusal};
 ghost use Rattle.pool.specs.Node.{places, placesIn};
 ghost use Rattle.block_check.specs.Records.{recordsOf, Refuses};
 
@@ -53,11 +53,10 @@ pub fn size_number(words: usize, count: usize) -> u64
     0
 }
 
-// What refuses a block of these records for this pool.
-pub fn block_refusal(pool: &[u64], records: &[u64]) -> Refused
-    ensures { λ r. ⌜ Refuses r (blockRefusal (places (now (pool .entry))) (recordsOf (now (records .entry)))) ⌝ }
+// What refuses records, of which so many are refused by this number: that, or the first that is refused.
+pub fn refusal_by(number: u64, records: &[u64]) -> Refused
+    ensures { λ r. ⌜ Refuses r (refusalBy number (recordsOf (now (records .entry)))) ⌝ }
 {
-    let number = size_number(pool.len(), records.len() / 6);
     if 0 < number {
         return Refused {
             number,
@@ -65,4 +64,12 @@ pub fn block_refusal(pool: &[u64], records: &[u64]) -> Refused
         };
     }
     records_refusal(records)
+}
+
+// What refuses a block of these records for this pool.
+pub fn block_refusal(pool: &[u64], records: &[u64]) -> Refused
+    ensures { λ r. ⌜ Refuses r (blockRefusal (places (now (pool .entry))) (recordsOf (now (records .entry)))) ⌝ }
+{
+    let number = size_number(pool.len(), records.len() / 6);
+    refusal_by(number, records)
 }

@@ -1,15 +1,15 @@
--- The words of a block's answer: put one by one into 34 zeros, and read back. Assumes nothing.
+-- The words of a block's answer: put one by one into 34 zeros or before a 35th, and read back. Assumes nothing.
 use mathlib.Core.Path.{_≡_, refl, sym, ap, _∙_}
 use mathlib.Core.List.{List, [], _∷_, _++_, append-assoc, append-nil}
 use Prim.Native.Nat.{ℕ, zero, suc, _+_, _<_}
 use native.Mathlib.Nat.{add-zero, zero-add, add-suc, suc-add, le-of-suc-le-suc, not-suc-le-zero}
 use native.Mathlib.Omega.{arith}
-use lib.ListN.{length, getD, set, drop, replicate, length-append}
-use lib.Seq.{sets, sets-eq}
+use lib.ListN.{length, getD, set, take, drop, replicate, length-append, List·getD-append}
+use lib.Seq.{sets, sets-eq, take-suc, getD-append-add, length-take-le, take-all}
 use Rattle.register_map.specs.declared.RegisterMap.{RegisterMap}
 use Rattle.register_map.specs.Map.{nodeOf}
 use Rattle.digits.proofs.Laws.{sets-append}
-use Rattle.block_results.specs.Words.{nodesOf, answerWords}
+use Rattle.block_results.specs.Words.{nodesOf, answerWords, flaggedWords}
 
 nodes-length : (m : RegisterMap) (r k : ℕ) → length (nodesOf m r k) ≡ k
 unfolding nodesOf
@@ -46,6 +46,28 @@ put-all m position =
     ∙ ap (λ (j : ℕ). words ++ drop j zeros) (zero-add (length words) ∙ long)
     ∙ append-nil words
 
+-- ---- the bit after them
+
+pub answer-length : (m : RegisterMap) (position : ℕ) → length (answerWords m position) ≡ 34
+unfolding answerWords
+answer-length m position = length-append (nodesOf m 0 32) (m .count ∷ position ∷ []) ∙ ap (λ (j : ℕ). j + 2) (nodes-length m 0 32)
+
+-- one word more of a list
+pub put-word : (l xs : List ℕ) (k : ℕ) → k < length xs → set (sets l 0 (take k xs)) k (getD xs k 0) ≡ sets l 0 (take (k + 1) xs)
+put-word l xs k h =
+    put-one l (take k xs) k (getD xs k 0) (length-take-le k xs (omega arith))
+    ∙ ap (λ (ys : List ℕ). sets l 0 ys) (sym (take-suc xs k 0 h) ∙ ap (λ (j : ℕ). take j xs) {x = suc k} {y = k + 1} (omega arith))
+
+-- all words before the last
+pub put-before : (m : RegisterMap) (position bit : ℕ) → sets (replicate 35 bit) 0 (take 34 (answerWords m position)) ≡ flaggedWords m position bit
+put-before m position bit =
+    let words = answerWords m position in
+    ap (λ (xs : List ℕ). sets (replicate 35 bit) 0 xs) (take-all 34 words (omega (arith, answer-length m position)))
+    ∙ sets-eq words (replicate 35 bit) 0 (omega (arith, answer-length m position))
+    ∙ ap (λ (j : ℕ). words ++ drop j (replicate 35 bit)) (zero-add (length words) ∙ answer-length m position)
+
+-- ---- read back
+
 nodes-at : (m : RegisterMap) (r k j : ℕ) (after : List ℕ) → j < k → getD (nodesOf m r k ++ after) j 0 ≡ nodeOf m (r + j)
 unfolding nodesOf
 nodes-at m r zero j after h = absurd (not-suc-le-zero h)
@@ -57,3 +79,13 @@ nodes-at m r (suc k) (suc j) after h =
 pub answer-node : (m : RegisterMap) (position r : ℕ) → r < 32 → getD (answerWords m position) r 0 ≡ nodeOf m r
 unfolding answerWords
 answer-node m position r h = nodes-at m 0 32 r _ h ∙ ap (nodeOf m) (zero-add r)
+
+-- with a bit after them too, and word 34 is the bit's node
+pub flagged-node : (m : RegisterMap) (position bit r : ℕ) → r < 32 → getD (flaggedWords m position bit) r 0 ≡ nodeOf m r
+flagged-node m position bit r h =
+    List·getD-append (answerWords m position) (bit ∷ []) 0 r (omega (arith, answer-length m position)) ∙ answer-node m position r h
+
+pub flagged-bit : (m : RegisterMap) (position bit : ℕ) → getD (flaggedWords m position bit) 34 0 ≡ bit
+flagged-bit m position bit =
+    ap (λ (j : ℕ). getD (flaggedWords m position bit) j 0) (sym (answer-length m position) ∙ sym (add-zero (length (answerWords m position))))
+    ∙ getD-append-add (answerWords m position) (bit ∷ []) 0 0

@@ -1,4 +1,5 @@
--- A block's answer in 34 words: entries 0 to 31 are the registers' nodes, 32 is the count, 33 the position.
+-- A block's answer in 34 words: entries 0 to 31 are the registers' nodes, 32 is the count, 33 the position; with the node of its saturation
+-- bit as entry 34 where it has one.
 use mathlib.Core.List.{List, [], _∷_, _++_}
 use Prim.Native.Nat.{ℕ, zero, suc}
 use Rattle.register_map.specs.declared.RegisterMap.{RegisterMap}
@@ -11,3 +12,6 @@ nodesOf m r (suc k) = nodeOf m r ∷ nodesOf m (suc r) k
 
 unfoldable pub answerWords : RegisterMap → (position : ℕ) → List ℕ
 answerWords m position = nodesOf m 0 32 ++ (m .count ∷ position ∷ [])
+
+abbrev pub flaggedWords : RegisterMap → (position bit : ℕ) → List ℕ
+flaggedWords m position bit = answerWords m position ++ (bit ∷ [])

@@ -26,14 +26,16 @@ module _ (p : ℕ) (cs : List Instruction) where
 
   -- the block's size
   pub refused-size : (k : ℕ) → k ≡ sizeNumber p (length cs) → 0 < k → Refuses (record { number = k; position = 0 }) (blockRefusal p cs)
-  refused-size k e h = refuses (refusal (sizeNumber p (length cs)) 0) e refl (by-size p cs (omega (arith, e, h)))
+  unfolding blockRefusal
+  refused-size k e h = refuses (refusal (sizeNumber p (length cs)) 0) e refl (by-size (sizeNumber p (length cs)) cs (omega (arith, e, h)))
 
   -- the records before the j-th are accepted
   abbrev pub Passed : ℕ → Type 0
   Passed j = recordsRefusal j (drop j cs) ≡ blockRefusal p cs
 
   pub passed-none : {k : ℕ} → k ≡ sizeNumber p (length cs) → k ≤ 0 → Passed 0
-  passed-none e h = sym (by-records p cs (omega (arith, e, h)))
+  unfolding blockRefusal
+  passed-none e h = sym (by-records (sizeNumber p (length cs)) cs (omega (arith, e, h)))
 
   pub passed-more : (j : ℕ) {k : ℕ} → Passed j → j < length cs → k ≡ recordNumber (getD cs j none) → k ≤ 0 → Passed (j + 1)
   unfolding recordsRefusal

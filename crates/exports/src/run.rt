@@ -1,23 +1,35 @@
 // A block on the device's numbers.
 use runner::Registers;
-ghost use lib.ListN.{getD};
+ghost use mathlib.Core.Path.{_≡_};
+ghost use Rattle.terms.specs.Value.{bit};
 ghost use Rattle.block_check.specs.Records.{recordsOf};
-ghost use Rattle.runner.specs.Run.{RunAnswered};
+ghost use Rattle.exports.specs.Results.{RunGiven};
 
-// Returns the number; the registers are run in place, and stay where a record is refused; the position goes to `results`.
+fn word(b: bool) -> u64
+    ensures { λ r. ⌜ r ≡ bit b ⌝ }
+{
+    if b {
+        return 1;
+    }
+    0
+}
+
+// Returns the number; the registers are run in place, and stay where a record is refused; the position and whether a lane saturated go to
+// `results`.
 #[no_mangle]
 pub extern "C" fn neon_run_block(
     registers: &mut [u64; 64],
     records: &[u64],
-    results: &mut [u64; 1],
+    results: &mut [u64; 2],
 ) -> u64
-    ensures { λ r. ⌜ RunAnswered (now (registers .entry)) (recordsOf (now (records .entry))) r (getD (now (results .exit)) 0 0) (now (registers .exit)) ⌝ }
+    ensures { λ r. ⌜ RunGiven (now (registers .entry)) (recordsOf (now (records .entry))) (now (registers .exit)) (now (results .exit)) r ⌝ }
 {
     let words = *registers;
     let answer = runner::run(Registers { words }, records);
     let after = answer.registers;
     let new = after.words;
     *registers = new;
-    *results = [answer.position as u64];
+    let saturated = word(answer.saturated);
+    *results = [answer.position as u64, saturated];
     answer.number
 }

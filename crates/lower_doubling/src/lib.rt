@@ -92,7 +92,7 @@ fn combine_at(
 }
 
 // The lane of the sources that a destination lane is made from.
-fn source_lane(upper: bool, lanes: u64, index: Lane) -> Lane
+pub fn source_lane(upper: bool, lanes: u64, index: Lane) -> Lane
     requires { ⌜ (index .0 < lanes) × (lanes ≤ 128) ⌝ }
     ensures { λ r. ⌜ r .0 ≡ sourceLane upper lanes (index .0) ⌝ }
 {

@@ -119,6 +119,7 @@ module _ (m : RegisterMap) (ok : MapOk m) (c : Instruction) (hd : c .d < 32) (hn
   recorded =
       record {
         long = w .sized .long ∙ f .sized .long ∙ r3 .long ∙ r2 .long ∙ r1 .long;
+        more = sizes .0;
         most = sizes .1;
         map-ok = after-ok;
         map-is = rw after-at refl;

@@ -54,6 +54,7 @@ pub record StepMade (old : List ℕ) (m : RegisterMap) (new : List ℕ) (m′ : 
 -- the numbers, whatever the pool holds; and what a valid pool and registers of known terms become
 pub record Steps (old : List ℕ) (m : RegisterMap) (new : List ℕ) (m′ : RegisterMap) (c : Instruction) : Type 0 where
   pub long : length new ≡ length old
+  pub more : m .count ≤ m′ .count
   pub most : m′ .count ≤ m .count + recordNodes
   pub map-ok : MapOk m′
   pub map-is : m′ ≡ written m (c .d) (nodeOf m′ (c .d)) (m′ .count)

@@ -16,7 +16,13 @@ ghost use Rattle.lower_shift.specs.Lanes.{MadeAmount};
 
 // The signed low byte of lane `index`, a register shift's amount, at a lane's width. The byte is cut from the source itself: the lane
 // gets no node where it is wider.
-fn signed_amount(pool: &mut [u64], count: usize, second: Node, lane_bits: u64, index: Lane) -> Built
+pub fn signed_amount(
+    pool: &mut [u64],
+    count: usize,
+    second: Node,
+    lane_bits: u64,
+    index: Lane,
+) -> Built
     requires { ⌜ Room (now pool) count 2 ⌝ }
     requires { ⌜ (second .0 < count) × (8 ≤ «lane_bits») × («lane_bits» ≤ 64) × («lane_bits» * index .0 + «lane_bits» ≤ 128) ⌝ }
     ensures { λ r. ⌜ MadeAmount (now (pool .entry)) count (now (pool .exit)) r second «lane_bits» (index .0) ⌝ }

@@ -1,8 +1,11 @@
--- Demand 3 of document 01 with the runner: on every accepted block the runner, the Arm run, the registers' terms and the evaluator agree.
+-- Demand 3 of document 01 with the runner: on every accepted block the runner, the Arm run, the registers' terms and the evaluator agree;
+-- and the runner's saturation bit is the value of the block's (document 02, S-12).
+use mathlib.Core.Bool.{Bool}
 use mathlib.Core.List.{List}
 use mathlib.Core.Path.{_≡_}
 use Prim.Native.Nat.{ℕ, _+_, _*_, _≤_, _<_}
 use lib.ListN.{length}
+use Rattle.terms.specs.Value.{bit}
 use Rattle.neon.specs.declared.Instruction.{Instruction}
 use Rattle.neon.specs.Refusal.{reserve, mostRecords, blockRefusal}
 use Rattle.neon.specs.Run.{armRun}
@@ -15,7 +18,10 @@ use Rattle.evaluate.specs.declared.Evaluated.{Evaluated}
 use Rattle.evaluate.specs.Visits.{visitsAt}
 use Rattle.evaluate.specs.Answer.{found}
 use Rattle.evaluate.specs.Answer as evaluate
-use Rattle.runner.specs.Run.{runRefusal, RunAnswered}
+use Rattle.runner.specs.Run.{runRefusal, RunAnswered, FlagAnswered}
+use Rattle.saturation_block.specs.declared.SaturationAnswer.{SaturationAnswer}
+use Rattle.saturation_block.specs.Block as flagged
+use Rattle.saturation_block.specs.Demand as flagged-demand
 
 -- a pool with room refuses the same blocks as the runner, with the same number and position
 abbrev pub SameRefusal : Type 0
@@ -43,3 +49,13 @@ RunnerIsEvaluator =
     → (r allowance : ℕ) → r < 32 → visitsAt pool start (nodeOf (a .map) r) ≤ allowance
     → (e : Evaluated) → evaluate.Answered pool start (a .map .count) (nodeOf (a .map) r) allowance e
     → (e .number ≡ 0) × (registersOf new r ≡ found e)
+
+-- a block that lowering with its saturation bit accepts is run; each register then holds the value of its term, and the runner's bit is the
+-- value of the block's
+abbrev pub RunnerIsFlagged : Type 0
+RunnerIsFlagged =
+    (old : List ℕ) (cs : List Instruction) (pool : List ℕ) (a : SaturationAnswer) → flagged.Answered old cs pool a → a .number ≡ 0
+    → (start : List ℕ) (number position : ℕ) (new : List ℕ) (saturated : Bool) → RunAnswered start cs number position new → FlagAnswered start cs number saturated
+    → (number ≡ 0)
+    × ((r : ℕ) → r < 32 → registersOf new r ≡ flagged-demand.termValue (registersOf start) pool a r)
+    × (bit saturated ≡ flagged-demand.bitValue (registersOf start) pool a)

@@ -26,78 +26,78 @@ use Rattle.saturation.specs.Bits.{no, saturable, bitAt, instructionBit, 
 use Rattle.saturation.proofs.Some.{instruction-is}
 use Rattle.saturation.proofs.Families.{BitIs, bit-has, bit-is}
 
--- a family that cannot saturate does not
-unsaturable : (o : Op) (i : ℕ) (u : Bool) → saturable (neonOp o i u) ≡ false → (n d a b : ℕ) → saturatesLane o n i d a b ≡ false
+-- a family that cannot saturate does not, whatever the immediate
+pub unsaturable : (o : Op) (i i′ : ℕ) (u : Bool) → saturable (neonOp o i′ u) ≡ false → (n d a b : ℕ) → saturatesLane o n i d a b ≡ false
 unfolding saturatesLane
-unsaturable SQSHLI i u e n d a b = absurd (false≢true (sym e))
-unsaturable UQSHLI i u e n d a b = absurd (false≢true (sym e))
-unsaturable SQSHLU i u e n d a b = absurd (false≢true (sym e))
-unsaturable SQSHL i u e n d a b = absurd (false≢true (sym e))
-unsaturable UQSHL i u e n d a b = absurd (false≢true (sym e))
-unsaturable SQRSHL i u e n d a b = absurd (false≢true (sym e))
-unsaturable UQRSHL i u e n d a b = absurd (false≢true (sym e))
-unsaturable SQADD i u e n d a b = absurd (false≢true (sym e))
-unsaturable UQADD i u e n d a b = absurd (false≢true (sym e))
-unsaturable SQSUB i u e n d a b = absurd (false≢true (sym e))
-unsaturable UQSUB i u e n d a b = absurd (false≢true (sym e))
-unsaturable SQXTN i u e n d a b = absurd (false≢true (sym e))
-unsaturable UQXTN i u e n d a b = absurd (false≢true (sym e))
-unsaturable SQXTUN i u e n d a b = absurd (false≢true (sym e))
-unsaturable SQSHRN i u e n d a b = absurd (false≢true (sym e))
-unsaturable SQRSHRN i u e n d a b = absurd (false≢true (sym e))
-unsaturable UQSHRN i u e n d a b = absurd (false≢true (sym e))
-unsaturable UQRSHRN i u e n d a b = absurd (false≢true (sym e))
-unsaturable SQSHRUN i u e n d a b = absurd (false≢true (sym e))
-unsaturable SQRSHRUN i u e n d a b = absurd (false≢true (sym e))
-unsaturable SQABS i u e n d a b = absurd (false≢true (sym e))
-unsaturable SQNEG i u e n d a b = absurd (false≢true (sym e))
-unsaturable SQDMULH i u e n d a b = absurd (false≢true (sym e))
-unsaturable SQRDMULH i u e n d a b = absurd (false≢true (sym e))
-unsaturable SQDMULL i u e n d a b = absurd (false≢true (sym e))
-unsaturable SQDMLAL i u e n d a b = absurd (false≢true (sym e))
-unsaturable SQDMLSL i u e n d a b = absurd (false≢true (sym e))
-unsaturable SQDMULL2 i u e n d a b = absurd (false≢true (sym e))
-unsaturable SQDMLAL2 i u e n d a b = absurd (false≢true (sym e))
-unsaturable SQDMLSL2 i u e n d a b = absurd (false≢true (sym e))
-unsaturable SQDMULLE i u e n d a b = absurd (false≢true (sym e))
-unsaturable SQDMLALE i u e n d a b = absurd (false≢true (sym e))
-unsaturable SQDMLSLE i u e n d a b = absurd (false≢true (sym e))
-unsaturable SQDMULL2E i u e n d a b = absurd (false≢true (sym e))
-unsaturable SQDMLAL2E i u e n d a b = absurd (false≢true (sym e))
-unsaturable SQDMLSL2E i u e n d a b = absurd (false≢true (sym e))
-unsaturable SUQADD i u e n d a b = absurd (false≢true (sym e))
-unsaturable USQADD i u e n d a b = absurd (false≢true (sym e))
-unsaturable SHL i u e n d a b = refl
-unsaturable SSHR i u e n d a b = refl
-unsaturable USHR i u e n d a b = refl
-unsaturable SRSHR i u e n d a b = refl
-unsaturable URSHR i u e n d a b = refl
-unsaturable SSHL i u e n d a b = refl
-unsaturable USHL i u e n d a b = refl
-unsaturable SRSHL i u e n d a b = refl
-unsaturable URSHL i u e n d a b = refl
-unsaturable SLI i u e n d a b = refl
-unsaturable SRI i u e n d a b = refl
-unsaturable SHADD i u e n d a b = refl
-unsaturable UHADD i u e n d a b = refl
-unsaturable SRHADD i u e n d a b = refl
-unsaturable URHADD i u e n d a b = refl
-unsaturable SHRN i u e n d a b = refl
-unsaturable RSHRN i u e n d a b = refl
-unsaturable SABD i u e n d a b = refl
-unsaturable UABD i u e n d a b = refl
-unsaturable SABA i u e n d a b = refl
-unsaturable UABA i u e n d a b = refl
-unsaturable CNT i u e n d a b = refl
-unsaturable CLZ i u e n d a b = refl
-unsaturable CLS i u e n d a b = refl
-unsaturable RBIT i u e n d a b = refl
-unsaturable ADDHN i u e n d a b = refl
-unsaturable RADDHN i u e n d a b = refl
-unsaturable SUBHN i u e n d a b = refl
-unsaturable RSUBHN i u e n d a b = refl
+unsaturable SQSHLI i i′ u e n d a b = absurd (false≢true (sym e))
+unsaturable UQSHLI i i′ u e n d a b = absurd (false≢true (sym e))
+unsaturable SQSHLU i i′ u e n d a b = absurd (false≢true (sym e))
+unsaturable SQSHL i i′ u e n d a b = absurd (false≢true (sym e))
+unsaturable UQSHL i i′ u e n d a b = absurd (false≢true (sym e))
+unsaturable SQRSHL i i′ u e n d a b = absurd (false≢true (sym e))
+unsaturable UQRSHL i i′ u e n d a b = absurd (false≢true (sym e))
+unsaturable SQADD i i′ u e n d a b = absurd (false≢true (sym e))
+unsaturable UQADD i i′ u e n d a b = absurd (false≢true (sym e))
+unsaturable SQSUB i i′ u e n d a b = absurd (false≢true (sym e))
+unsaturable UQSUB i i′ u e n d a b = absurd (false≢true (sym e))
+unsaturable SQXTN i i′ u e n d a b = absurd (false≢true (sym e))
+unsaturable UQXTN i i′ u e n d a b = absurd (false≢true (sym e))
+unsaturable SQXTUN i i′ u e n d a b = absurd (false≢true (sym e))
+unsaturable SQSHRN i i′ u e n d a b = absurd (false≢true (sym e))
+unsaturable SQRSHRN i i′ u e n d a b = absurd (false≢true (sym e))
+unsaturable UQSHRN i i′ u e n d a b = absurd (false≢true (sym e))
+unsaturable UQRSHRN i i′ u e n d a b = absurd (false≢true (sym e))
+unsaturable SQSHRUN i i′ u e n d a b = absurd (false≢true (sym e))
+unsaturable SQRSHRUN i i′ u e n d a b = absurd (false≢true (sym e))
+unsaturable SQABS i i′ u e n d a b = absurd (false≢true (sym e))
+unsaturable SQNEG i i′ u e n d a b = absurd (false≢true (sym e))
+unsaturable SQDMULH i i′ u e n d a b = absurd (false≢true (sym e))
+unsaturable SQRDMULH i i′ u e n d a b = absurd (false≢true (sym e))
+unsaturable SQDMULL i i′ u e n d a b = absurd (false≢true (sym e))
+unsaturable SQDMLAL i i′ u e n d a b = absurd (false≢true (sym e))
+unsaturable SQDMLSL i i′ u e n d a b = absurd (false≢true (sym e))
+unsaturable SQDMULL2 i i′ u e n d a b = absurd (false≢true (sym e))
+unsaturable SQDMLAL2 i i′ u e n d a b = absurd (false≢true (sym e))
+unsaturable SQDMLSL2 i i′ u e n d a b = absurd (false≢true (sym e))
+unsaturable SQDMULLE i i′ u e n d a b = absurd (false≢true (sym e))
+unsaturable SQDMLALE i i′ u e n d a b = absurd (false≢true (sym e))
+unsaturable SQDMLSLE i i′ u e n d a b = absurd (false≢true (sym e))
+unsaturable SQDMULL2E i i′ u e n d a b = absurd (false≢true (sym e))
+unsaturable SQDMLAL2E i i′ u e n d a b = absurd (false≢true (sym e))
+unsaturable SQDMLSL2E i i′ u e n d a b = absurd (false≢true (sym e))
+unsaturable SUQADD i i′ u e n d a b = absurd (false≢true (sym e))
+unsaturable USQADD i i′ u e n d a b = absurd (false≢true (sym e))
+unsaturable SHL i i′ u e n d a b = refl
+unsaturable SSHR i i′ u e n d a b = refl
+unsaturable USHR i i′ u e n d a b = refl
+unsaturable SRSHR i i′ u e n d a b = refl
+unsaturable URSHR i i′ u e n d a b = refl
+unsaturable SSHL i i′ u e n d a b = refl
+unsaturable USHL i i′ u e n d a b = refl
+unsaturable SRSHL i i′ u e n d a b = refl
+unsaturable URSHL i i′ u e n d a b = refl
+unsaturable SLI i i′ u e n d a b = refl
+unsaturable SRI i i′ u e n d a b = refl
+unsaturable SHADD i i′ u e n d a b = refl
+unsaturable UHADD i i′ u e n d a b = refl
+unsaturable SRHADD i i′ u e n d a b = refl
+unsaturable URHADD i i′ u e n d a b = refl
+unsaturable SHRN i i′ u e n d a b = refl
+unsaturable RSHRN i i′ u e n d a b = refl
+unsaturable SABD i i′ u e n d a b = refl
+unsaturable UABD i i′ u e n d a b = refl
+unsaturable SABA i i′ u e n d a b = refl
+unsaturable UABA i i′ u e n d a b = refl
+unsaturable CNT i i′ u e n d a b = refl
+unsaturable CLZ i i′ u e n d a b = refl
+unsaturable CLS i i′ u e n d a b = refl
+unsaturable RBIT i i′ u e n d a b = refl
+unsaturable ADDHN i i′ u e n d a b = refl
+unsaturable RADDHN i i′ u e n d a b = refl
+unsaturable SUBHN i i′ u e n d a b = refl
+unsaturable RSUBHN i i′ u e n d a b = refl
 
-none : (k : ℕ) (f : ℕ → Bool) → ((j : ℕ) → f j ≡ false) → some k f ≡ false
+pub none : (k : ℕ) (f : ℕ → Bool) → ((j : ℕ) → f j ≡ false) → some k f ≡ false
 unfolding some
 none zero f h = refl
 none (suc k) f h = rw (none k f h, h k)
@@ -131,7 +131,8 @@ module _ (r : ℕ → ℕ) (o : Op) (v : Arrangement) (i : ℕ) (d a b : Expr) (
       go false e =
           record {
             wide = p .wide;
-            val = p .val ∙ ap bit (idle t ∙ ap (λ (s : Bool). t || s) (sym (none (laneCount o v) (saturatesAt o v i (value r d) (value r a) (value r b)) (λ j. unfold saturatesAt in unsaturable o i (full v) e _ _ _ _))));
+            val = p .val ∙ ap bit (idle t ∙ ap (λ (s : Bool). t || s) (sym
+                (none (laneCount o v) (saturatesAt o v i (value r d) (value r a) (value r b)) (λ j. unfold saturatesAt in unsaturable o i i (full v) e _ _ _ _))));
           }
 
 module _ (start : ℕ → ℕ) where

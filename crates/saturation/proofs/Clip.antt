@@ -1,6 +1,6 @@
 -- The bit of a clamp: its value is 1 exactly where the clamp alters the integer. Assumes nothing.
 use mathlib.Core.Path.{_≡_, refl, sym, ap, _∙_}
-use mathlib.Core.Bool.{Bool, true, false, cond, _||_}
+use mathlib.Core.Bool.{Bool, true, false, cond, _||_, false≢true}
 use Prim.Native.Nat.{ℕ, suc, _+_, _-_, _*_, _^_, _≤_, _<_}
 use native.Mathlib.Omega.{arith}
 use lib.Pow.{pow-pos, pow-mono}
@@ -21,15 +21,41 @@ use Rattle.value.proofs.Sat.{sumS, lessS, sumU, lessU, applyZ, is-apply}
 use Rattle.saturation.specs.Saturates.{outside, beyondS, beyondU}
 use Rattle.saturation.specs.Bits.{no, yes, clipped, saturatingBit}
 
--- the clamp alters z exactly where z is outside
-clampZ-out : (lo hi z : ℤ) → outside lo hi z ≡ false → clampZ lo hi z ≡ z
+-- z is altered to y exactly where b is true
+pub record AltersWhere (b : Bool) (y z : ℤ) : Type 0 where
+  pub leaves : b ≡ false → y ≡ z
+  pub only : y ≡ z → b ≡ false
+
+less-not : (x z : ℤ) → x ≡ z → ltZ z x ≡ true → ⊥
+less-not x z e d = false≢true (sym (ge-is z z (omega arith)) ∙ ap (ltZ z) (sym e) ∙ d)
+
+-- the clamp leaves z where z is not outside, and only there
+pub clampZ-out : (lo hi z : ℤ) → outside lo hi z ≡ false → clampZ lo hi z ≡ z
 unfolding outside clampZ
 clampZ-out lo hi z e = go (ltZ z lo) (ltZ hi z) refl refl e
   where
     go : (s t : Bool) → ltZ z lo ≡ s → ltZ hi z ≡ t → (s || t) ≡ false → cond s lo (cond t hi z) ≡ z
     go false false d e f = refl
-    go true t d e f = absurd (mathlib.Core.Bool.false≢true (sym f))
-    go false true d e f = absurd (mathlib.Core.Bool.false≢true (sym f))
+    go true t d e f = absurd (false≢true (sym f))
+    go false true d e f = absurd (false≢true (sym f))
+
+pub clampZ-in : (lo hi z : ℤ) → clampZ lo hi z ≡ z → outside lo hi z ≡ false
+unfolding outside clampZ
+clampZ-in lo hi z e = go (ltZ z lo) (ltZ hi z) refl refl e
+  where
+    go : (s t : Bool) → ltZ z lo ≡ s → ltZ hi z ≡ t → cond s lo (cond t hi z) ≡ z → (s || t) ≡ false
+    go false false d e f = refl
+    go true t d e f = absurd (less-not lo z f d)
+    go false true d e f = absurd (less-not z hi (sym f) e)
+
+-- so a lane saturates exactly where the clamp alters its exact result
+pub beyondS-is : (n : ℕ) (z : ℤ) → AltersWhere (beyondS n z) (cS n z) z
+unfolding beyondS cS
+beyondS-is n z = record { leaves = clampZ-out _ _ z; only = clampZ-in _ _ z }
+
+pub beyondU-is : (n : ℕ) (z : ℤ) → AltersWhere (beyondU n z) (cU n z) z
+unfolding beyondU cU
+beyondU-is n z = record { leaves = clampZ-out _ _ z; only = clampZ-in _ _ z }
 
 either : (s t : Bool) → cond s (pos 1) (cond t (pos 1) (pos 0)) ≡ pos (bit (s || t))
 either true t = refl
@@ -58,7 +84,8 @@ module _ (r : ℕ → ℕ) where
         high = omega (arith, neg-up (pos (2 ^ (n - 1))), neg-dn (pos (2 ^ (n - 1))));
       } in
       let fh : FitsS w (pos (2 ^ (n - 1) - 1)) = record { low = omega arith; high = omega arith } in
-      is-eq r (either (ltZ z (negℤ (pos (2 ^ (n - 1))))) (ltZ (pos (2 ^ (n - 1) - 1)) z)) (is-ite r (says-slt r hw f fl p low) (one-bit 1 (omega arith)) (is-ite r (says-slt r hw fh f high p) (one-bit 1 (omega arith)) (one-bit 0 (omega arith))))
+      is-eq r (either (ltZ z (negℤ (pos (2 ^ (n - 1))))) (ltZ (pos (2 ^ (n - 1) - 1)) z))
+      (is-ite r (says-slt r hw f fl p low) (one-bit 1 (omega arith)) (is-ite r (says-slt r hw fh f high p) (one-bit 1 (omega arith)) (one-bit 0 (omega arith))))
 
   pub is-clippedSU : {v : Expr} {w n : ℕ} {z : ℤ} → 0 < n → n < w → FitsS w z → Is r v w z → Is r (clipped v w n SignedToUnsigned) 1 (pos (bit (beyondU n z)))
   unfolding clipped beyondU outside
@@ -71,7 +98,8 @@ module _ (r : ℕ → ℕ) where
       let high = is-const r (2 ^ n - 1) w (omega arith) in
       let fl : FitsS w (pos 0) = record { low = omega arith; high = omega arith } in
       let fh : FitsS w (pos (2 ^ n - 1)) = record { low = omega arith; high = omega arith } in
-      is-eq r (either (ltZ z (pos 0)) (ltZ (pos (2 ^ n - 1)) z)) (is-ite r (says-slt r hw f fl p low) (one-bit 1 (omega arith)) (is-ite r (says-slt r hw fh f high p) (one-bit 1 (omega arith)) (one-bit 0 (omega arith))))
+      is-eq r (either (ltZ z (pos 0)) (ltZ (pos (2 ^ n - 1)) z)) (is-ite r (says-slt r hw f fl p low) (one-bit 1 (omega arith))
+      (is-ite r (says-slt r hw fh f high p) (one-bit 1 (omega arith)) (one-bit 0 (omega arith))))
 
   pub is-clippedU : {v : Expr} {w n : ℕ} {z : ℤ} → 0 < n → n ≤ w → FitsU w z → Is r v w z → Is r (clipped v w n Unsigned) 1 (pos (bit (beyondU n z)))
   unfolding clipped beyondU outside

@@ -91,7 +91,8 @@ module _ (r : ℕ → ℕ) where
     bit-sqabs =
         is-clippedS r hn (omega arith) (sat.abs-fits r a b n x hn f p x (sat.x-fits r a b n x hn f p) (sat.minus-fits r a b n x hn f p))
         (is-eq r (sat.abs-is r a b n x hn f p x)
-        (is-ite r (says-slt r (omega arith) (sat.x-fits r a b n x hn f p) (sat.zero-fits (n + 1)) (sat.wide-x r a b n x hn f p) (is-const r 0 (n + 1) (pow-pos (n + 1)))) (sat.minus r a b n x hn f p) (sat.wide-x r a b n x hn f p)))
+        (is-ite r (says-slt r (omega arith) (sat.x-fits r a b n x hn f p) (sat.zero-fits (n + 1)) (sat.wide-x r a b n x hn f p) (is-const r 0 (n + 1) (pow-pos (n + 1))))
+        (sat.minus r a b n x hn f p) (sat.wide-x r a b n x hn f p)))
 
   -- ---- doubling, the high half: 40 and 41
   module _ (a b : Expr) (n : ℕ) (x y : ℤ) (hn : 0 < n) (f : FitsS n x) (g : FitsS n y) (p : Is r a n x) (q : Is r b n y) where
@@ -117,7 +118,8 @@ module _ (r : ℕ → ℕ) where
     unfolding doublingLongBit
     bit-dmlal subtract d z k o =
         either (as-bit (beyondS (h * 2) (x *ℤ y *ℤ pos 2)) bit-dmull)
-        (as-bit (beyondS (h * 2) (applyZ subtract z (cS (h * 2) (x *ℤ y *ℤ pos 2)))) (is-clippedS r (omega arith) (omega arith) (sat.apply-fits r subtract (omega arith) k (clamp-fits (h * 2) (x *ℤ y *ℤ pos 2)))
+        (as-bit (beyondS (h * 2) (applyZ subtract z (cS (h * 2) (x *ℤ y *ℤ pos 2))))
+        (is-clippedS r (omega arith) (omega arith) (sat.apply-fits r subtract (omega arith) k (clamp-fits (h * 2) (x *ℤ y *ℤ pos 2)))
         (sat.is-apply r subtract (is-extend r true (omega arith) (omega arith) k o)
         (is-extend r true (omega arith) (omega arith) (clamp-fits (h * 2) (x *ℤ y *ℤ pos 2)) (sat.is-dmull r a b h x y hh f g p q)))))
 
@@ -210,7 +212,8 @@ module _ (r : ℕ → ℕ) (n i : ℕ) (d a b : Expr) (w x y : ℕ) (h8 : 8 ≤ 
   long-with : (subtract : Bool) → Sources r a b x y (n / 2)
       → BitIs r (doublingLongBit (With (cond subtract Sub Add)) d a b n) (beyondS n (twice n x y) || beyondS n (applyZ subtract (S n w) (doubled n x y)))
   long-with subtract g =
-      subst (λ (m : ℕ). FitsS m (S n w) → Is r d m (S n w) → BitIs r (doublingLongBit (With (cond subtract Sub Add)) d a b m) (beyondS m (S (n / 2) x *ℤ S (n / 2) y *ℤ pos 2) || beyondS m (applyZ subtract (S n w) (cS m (S (n / 2) x *ℤ S (n / 2) y *ℤ pos 2))))) even
+      subst (λ (m : ℕ). FitsS m (S n w) → Is r d m (S n w) → BitIs r (doublingLongBit (With (cond subtract Sub Add)) d a b m)
+      (beyondS m (S (n / 2) x *ℤ S (n / 2) y *ℤ pos 2) || beyondS m (applyZ subtract (S n w) (cS m (S (n / 2) x *ℤ S (n / 2) y *ℤ pos 2))))) even
       (bit-dmlal r a b (n / 2) (S (n / 2) x) (S (n / 2) y) (omega arith) (g .sx) (g .sy) (g .qa) (g .qb) subtract d (S n w)) sw qd
 
   pub bit-is : (o : Op) → least o ≤ i → i ≤ most o n → Sources r a b x y (sourceBits (form o .lanes) n) → (upper : Bool) → BitIs r (laneBit (neonOp o i upper) n d a b) (saturatesLane o n i w x y)

@@ -4,3 +4,4 @@ pub mod Some
 pub mod Families
 pub mod Block
 pub mod Family
+pub mod Which

@@ -77,11 +77,14 @@ leftBit (Into SignedToUnsigned) value shift n signed =
     let wide = n + shift + 1 in
     clipped (Bv Shl (SignExtend value wide) (Const shift wide)) wide n SignedToUnsigned
 
+-- `by` is the signed amount of a register shift
+abbrev pub shiftedBit : ShiftKind → (signed : Bool) (value by : Expr) (n : ℕ) → Expr
+shiftedBit (LeftImmediate shift saturate) signed value by n = leftBit saturate value shift n signed
+shiftedBit (RightImmediate shift rounding) signed value by n = no
+shiftedBit (Register rounding saturate) signed value by n = cond saturate (Ite (Compare Slt by (Const 0 n)) no (lost value by signed)) no
+
 unfoldable pub shiftBit : ShiftKind → (signed : Bool) (value amount : Expr) (n : ℕ) → Expr
-shiftBit (LeftImmediate shift saturate) signed value amount n = leftBit saturate value shift n signed
-shiftBit (RightImmediate shift rounding) signed value amount n = no
-shiftBit (Register rounding saturate) signed value amount n =
-    let by = signedAmount amount n in cond saturate (Ite (Compare Slt by (Const 0 n)) no (lost value by signed)) no
+shiftBit kind signed value amount n = shiftedBit kind signed value (signedAmount amount n) n
 
 -- of a lane of `mixed_sign_add_lanes`, and of `doubling_long_lanes`: either clamp
 unfoldable pub mixedSignBit : (signed : Bool) (d a : Expr) (n : ℕ) → Expr

@@ -1,3 +1,4 @@
 pub mod Saturates
 pub mod Bits
 pub mod Family
+pub mod Demand

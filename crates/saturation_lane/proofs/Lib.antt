@@ -1,0 +1,2 @@
+pub mod Clipping
+pub mod Shifts

@@ -1,0 +1,35 @@
+-- saturating_bit: the clamp's tests over the exact value.
+use native.Mathlib.Omega.{arith}
+use Rattle.saturation_lane.proofs.Clipping.{exact-fits, saturating}
+use borrow.Author.Needs.{needs}
+use Rattle.saturation_lane.proofs.saturating_bit.Statement.{statement}
+use Rattle.saturation_lane.proofs.saturating_bit.Tie as tie
+
+exact-bits-requires : tie.Need-exact-bits-requires
+exact-bits-requires c κs = search needs
+
+exact-lane-requires : tie.Need-exact-lane-requires
+exact-lane-requires c κs = search needs
+
+clip-requires : tie.Need-clip-requires
+clip-requires c κs =
+    let l-exact-lane = c .before .before .before in
+    let l-exact-bits = l-exact-lane .before .before in
+    let st = l-exact-bits .before .before in
+    omega (arith, st .pre, l-exact-bits .exact-bits .ensures, l-exact-lane .exact-lane .ensures .sized, exact-fits (st .args .kind) (st .args .lane-bits) (st .pre .1 .4))
+
+same-length : tie.Need-same-length
+same-length c = search needs
+
+returns : tie.Need-returns
+returns c =
+    let l-clip = c .before .before in
+    let l-exact-lane = l-clip .before .before .before .before in
+    let l-exact-bits = l-exact-lane .before .before in
+    let st = l-exact-bits .before .before in
+    saturating (st .args .kind) (st .args .to) (st .args .lane-bits) (st .args .signed-sources) (l-exact-bits .exact-bits .ensures) (st .pre .1 .5)
+    (l-exact-lane .exact-lane .ensures) (l-clip .clip .ensures)
+
+pub saturating-bit-spec : {M : Type 1} → statement M
+saturating-bit-spec =
+    tie.close (tie.spec exact-bits-requires exact-lane-requires clip-requires same-length returns)
