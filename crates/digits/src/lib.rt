@@ -1,10 +1,12 @@
 // Bytes and numbers into a lent buffer. Each writer takes the place where it begins and returns the place after what it wrote.
 ghost use mathlib.Core.Path.{_≡_};
-ghost use Prim.Native.Nat.{_+_, _*_, _-_, _≤_, _<_};
+ghost use mathlib.Core.List.{[], _∷_};
+ghost use Prim.Native.Nat.{_+_, _*_, _-_, _/_, _%_, _≤_, _<_};
 ghost use lib.Dec.{ltb};
 ghost use lib.ListN.{length};
 ghost use Rattle.terms.specs.Display.{digit, decimal, hexadecimal};
 ghost use Rattle.pool.specs.Node.{wide};
+ghost use Rattle.digits.specs.Pairs.{fourPairs};
 ghost use Rattle.digits.specs.Writing.{Room, Wrote};
 
 // What is left of x when y is taken off, and 0 where y is larger.
@@ -40,41 +42,14 @@ pub struct Tens {
     pub ones: u64,
 }
 
-// k tens more, where the ones have them. No loop: of one that subtracts tens the compiler makes a division.
-fn take_tens(t: Tens, k: u64) -> Tens
-    requires { ⌜ (k ≤ 8) × (t .tens ≤ 16) × (t .ones < 20 * k) ⌝ }
-    ensures { λ r. ⌜ (10 * r .tens + r .ones ≡ 10 * t .tens + t .ones) × (r .ones < 10 * k) × (r .tens ≤ t .tens + k) ⌝ }
-{
-    let size = 10 * k;
-    if t.ones < size {
-        return t;
-    }
-    Tens {
-        tens: t.tens + k,
-        ones: t.ones - size,
-    }
-}
-
-// Positions and widths are below 130.
-fn short_tens(x: u64) -> Tens
-    requires { ⌜ x < 160 ⌝ }
-    ensures { λ r. ⌜ (10 * r .tens + r .ones ≡ x) × (r .ones < 10) ⌝ }
-{
-    let eight = take_tens(Tens { tens: 0, ones: x }, 8);
-    let four = take_tens(eight, 4);
-    let two = take_tens(four, 2);
-    take_tens(two, 1)
-}
-
-// The tens of a longer number: it is halved until it is short, and its tens are doubled again.
-fn long_tens(x: u64) -> u64
+// How many tens a number has: twice those of its half, or one more. Of a loop that subtracts tens the compiler makes a division.
+fn tens_in(x: u64) -> u64
     ensures { λ r. ⌜ (10 * r ≤ x) × (x < 10 * r + 10) ⌝ }
 {
-    if x < 160 {
-        let t = short_tens(x);
-        return t.tens;
+    if x < 10 {
+        return 0;
     }
-    let twice = 2 * long_tens(x / 2);
+    let twice = 2 * tens_in(x / 2);
     if x - 10 * twice < 10 {
         return twice;
     }
@@ -84,10 +59,7 @@ fn long_tens(x: u64) -> u64
 pub fn tens_of(x: u64) -> Tens
     ensures { λ r. ⌜ (10 * r .tens + r .ones ≡ x) × (r .ones < 10) ⌝ }
 {
-    if x < 160 {
-        return short_tens(x);
-    }
-    let tens = long_tens(x);
+    let tens = tens_in(x);
     Tens {
         tens,
         ones: x - 10 * tens,
@@ -103,8 +75,55 @@ pub fn decimal_length(x: u64) -> usize
     if x < 100 { digits } else { digits + 1 }
 }
 
-// The digits of a number from 10 on. Two are written without a further call: most numbers have no more.
-fn put_tens(x: u64, buf: &mut [u8], at: usize) -> usize
+// The characters of the four numbers from 4 × k on, all below 100: two a number, the tens' first, the first number's lowest. Of a `match`
+// the compiler makes a table in read-only memory, where a constant array would be copied at each use.
+fn pairs(k: u64) -> u64
+    requires { ⌜ k < 25 ⌝ }
+    ensures { λ r. ⌜ r ≡ fourPairs k ⌝ }
+{
+    match k {
+        0 => 0x3330323031303030,
+        1 => 0x3730363035303430,
+        2 => 0x3131303139303830,
+        3 => 0x3531343133313231,
+        4 => 0x3931383137313631,
+        5 => 0x3332323231323032,
+        6 => 0x3732363235323432,
+        7 => 0x3133303339323832,
+        8 => 0x3533343333333233,
+        9 => 0x3933383337333633,
+        10 => 0x3334323431343034,
+        11 => 0x3734363435343434,
+        12 => 0x3135303539343834,
+        13 => 0x3535343533353235,
+        14 => 0x3935383537353635,
+        15 => 0x3336323631363036,
+        16 => 0x3736363635363436,
+        17 => 0x3137303739363836,
+        18 => 0x3537343733373237,
+        19 => 0x3937383737373637,
+        20 => 0x3338323831383038,
+        21 => 0x3738363835383438,
+        22 => 0x3139303939383838,
+        23 => 0x3539343933393239,
+        _ => 0x3939383937393639,
+    }
+}
+
+// Two digits of a number below 100.
+fn put_pair(x: u64, buf: &mut [u8], at: usize) -> usize
+    requires { ⌜ x < 100 ⌝ }
+    requires { ⌜ at + 2 ≤ length (now buf) ⌝ }
+    ensures { λ r. ⌜ Wrote (now (buf .entry)) at (digit (x / 10) ∷ digit (x % 10) ∷ []) r (now (buf .exit)) ⌝ }
+{
+    let pair = (pairs(x / 4) >> (16 * (x % 4))) % 65536;
+    buf[at] = (pair % 256) as u8;
+    buf[at + 1] = (pair / 256) as u8;
+    at + 2
+}
+
+// The digits of a number from 200 on, which no text has.
+fn put_long(x: u64, buf: &mut [u8], at: usize) -> usize
     requires { ⌜ 10 ≤ x ⌝ }
     requires { ⌜ Room (now buf) at (decimal x) ⌝ }
     ensures { λ r. ⌜ Wrote (now (buf .entry)) at (decimal x) r (now (buf .exit)) ⌝ }
@@ -115,9 +134,25 @@ fn put_tens(x: u64, buf: &mut [u8], at: usize) -> usize
         buf[at + 1] = decimal_digit(t.ones);
         return at + 2;
     }
-    let i = put_tens(t.tens, buf, at);
+    let i = put_long(t.tens, buf, at);
     buf[i] = decimal_digit(t.ones);
     i + 1
+}
+
+// The digits of a number from 10 on. Positions and widths are below 130.
+fn put_tens(x: u64, buf: &mut [u8], at: usize) -> usize
+    requires { ⌜ 10 ≤ x ⌝ }
+    requires { ⌜ Room (now buf) at (decimal x) ⌝ }
+    ensures { λ r. ⌜ Wrote (now (buf .entry)) at (decimal x) r (now (buf .exit)) ⌝ }
+{
+    if x < 100 {
+        return put_pair(x, buf, at);
+    }
+    if x < 200 {
+        buf[at] = b'1';
+        return put_pair(x - 100, buf, at + 1);
+    }
+    put_long(x, buf, at)
 }
 
 // Decimal digits. One is written without a call.
