@@ -28,7 +28,7 @@ valid-less ws zero (suc j) l v = absurd (not-suc-le-zero l)
 valid-less ws (suc k) j l v =
     ⊎-elim (λ e. subst (λ (m : ℕ). Valid ws m) (sym e) v) (λ h. valid-less ws k j (le-of-suc-le-suc h) (and-both _ _ v .0)) (eq-or-lt-of-le l)
 
-ready-less : {ws : List ℕ} {n m : ℕ} → m < n → Ready ws n → Ready ws m
+pub ready-less : {ws : List ℕ} {n m : ℕ} → m < n → Ready ws n → Ready ws m
 ready-less {ws} {n} {m} l r = record { inside = omega (arith, r .inside); valid = valid-less ws (n + 1) (m + 1) (omega arith) (r .valid) }
 
 pub ready-of : (ws : List ℕ) (count n : ℕ) → Valid ws count → n < count → 4 * count ≤ length ws → Ready ws n

@@ -6,14 +6,14 @@ use Rattle.text_length.proofs.length_to.Tie as tie
 add-most : tie.Need-add-most
 add-most c = search needs
 
-measure-requires : tie.Need-measure-requires
-measure-requires c κs = c .before .pre
+less-any-requires : tie.Need-less-any-requires
+less-any-requires c κs = c .before .pre
 
 sub-result : tie.Need-sub-result
 sub-result c = search needs
 
 returns : tie.Need-returns
-returns c = omega (arith, c .measure .ensures)
+returns c = omega (arith, c .less-any .ensures)
 
 pub length-to-spec : {M : Type 1} → statement M
-length-to-spec = tie.close (tie.spec add-most measure-requires sub-result returns)
+length-to-spec = tie.close (tie.spec add-most less-any-requires sub-result returns)
