@@ -1,14 +1,17 @@
 -- What `write_text` answers, by the way that it took. Assumes nothing.
 use mathlib.Core.Bool.{Bool, true, false}
 use mathlib.Core.List.{List, _++_}
-use mathlib.Core.Path.{_≡_, refl, sym, _∙_}
+use mathlib.Core.Path.{_≡_, refl, sym, ap, _∙_}
 use Prim.Native.Nat.{ℕ, zero, suc, _≤_, _<_}
+use native.Mathlib.Nat.{zero-add}
 use native.Mathlib.Omega.{arith}
 use lib.Dec.{leb, ltb}
 use lib.ListN.{length, drop}
+use lib.Seq.{sets-eq}
 use borrow.Author.Tests.{le-leb, lt-leb}
 use Rattle.facts.specs.Refuse.{unless}
 use Rattle.pool.specs.Rules.{poolOk}
+use Rattle.digits.specs.Writing.{Wrote}
 use Rattle.text_parts.specs.Text.{text}
 use Rattle.text_length.specs.Answer.{nodeNumber}
 use Rattle.text_length.proofs.Answers.{good-node, no-length}
@@ -27,6 +30,11 @@ first-refusal : (good inside : Bool) (rest : ℕ) → 0 < unless good 1 (unless 
 first-refusal false inside rest h = refl
 first-refusal true false rest h = refl
 first-refusal true true rest h = none h
+
+-- a text at the front of a buffer, and the bytes after it
+pub in-front : {old new s : List ℕ} {end : ℕ} → Wrote old 0 s end new → length s ≤ length old → new ≡ s ++ drop (length s) old
+in-front {old} {new} {s} w h =
+    w .after-is ∙ sets-eq s old 0 (omega arith) ∙ ap (λ (k : ℕ). s ++ drop k old) (zero-add (length s))
 
 module _ (ws : List ℕ) (count n : ℕ) where
   pub bad : (room : ℕ) → 0 < nodeNumber ws count n 0 → nodeNumber ws count n 0 ≡ textNumber ws count n room

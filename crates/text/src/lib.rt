@@ -4,10 +4,7 @@ use pool::Node;
 use text_length::measure;
 use text_length::node_number;
 use text_terms::write_node;
-ghost use mathlib.Core.List.{_++_};
-ghost use mathlib.Core.Path.{_≡_};
-ghost use Prim.Native.Nat.{_≤_};
-ghost use lib.ListN.{length, drop};
+ghost use Rattle.digits.specs.Writing.{Room, Wrote};
 ghost use Rattle.text_parts.specs.Text.{text, Ready};
 ghost use Rattle.text.specs.Answer.{Answered};
 
@@ -17,14 +14,15 @@ pub struct Written {
     pub length: usize,
 }
 
-// Writes the text of a node to the front of a buffer, and leaves the bytes after it, where the pool is known to be good and the text
-// to fit.
-pub fn write_known(p: &[u64], n: Node, buffer: &mut [u8])
+// Writes the text of a node into a buffer at `at`, where the pool is known to be good and the text to fit. The place after it.
+pub fn write_known(p: &[u64], n: Node, buffer: &mut [u8], at: usize) -> usize
     requires { ⌜ Ready (now p) (n .0) ⌝ }
-    requires { ⌜ length (text (now p) (n .0)) ≤ length (now buffer) ⌝ }
-    ensures { λ _. ⌜ now (buffer .exit) ≡ text (now (p .entry)) (n .0) ++ drop (length (text (now (p .entry)) (n .0))) (now (buffer .entry)) ⌝ }
+    requires { ⌜ Room (now buffer) at (text (now p) (n .0)) ⌝ }
+    ensures { λ r. ⌜ Wrote (now (buffer .entry)) at (text (now (p .entry)) (n .0)) r (now (buffer .exit)) ⌝ }
 {
-    write_node(p, n, buffer);
+    let mut end = at;
+    write_node(p, n, buffer, at, &mut end);
+    end
 }
 
 // Writes the text of a node to the front of a buffer, and leaves the bytes after it. Refuses by 1, 5 and 9, and
@@ -44,7 +42,7 @@ pub fn write_text(pool: &[u64], count: usize, node: usize, buffer: &mut [u8]) ->
             length: 0,
         };
     }
-    write_known(pool, Node(node), buffer);
+    write_known(pool, Node(node), buffer, 0);
     Written {
         number,
         length: most - left,

@@ -14,7 +14,8 @@ use text_parts::put_end;
 use text_parts::put_leaf;
 use text_parts::put_open;
 ghost use mathlib.Core.Path.{_≡_};
-ghost use Prim.Native.Nat.{_≤_};
+ghost use Prim.Native.Nat.{_+_, _≤_};
+ghost use lib.ListN.{length};
 ghost use lib.Seq.{sets};
 ghost use denote.Ref.{at-last};
 ghost use Rattle.pool.specs.Node.{widthAt};
@@ -61,17 +62,24 @@ fn write_condition(p: &&[u64], n: Node, buf: &mut &mut [u8], at: usize) -> usize
     put(b")", *buf, m)
 }
 
-// Writes a node of either sort at the front of a buffer, and hands the buffer back.
-pub fn write_node<'a>(p: &[u64], n: Node, buf: &'a mut [u8]) -> &'a mut [u8]
+// Writes a node of either sort, says the place after it, and hands the buffer back.
+pub fn write_node<'a>(
+    p: &[u64],
+    n: Node,
+    buf: &'a mut [u8],
+    at: usize,
+    end: &mut usize,
+) -> &'a mut [u8]
     requires { ⌜ Ready (now p) (n .0) ⌝ }
-    requires { ⌜ Room (now buf) 0 (text (now p) (n .0)) ⌝ }
-    ensures { λ r. ⌜ r ≡ at-last (buf .entry) (sets (now (buf .entry)) 0 (text (now (p .entry)) (n .0))) ⌝ }
+    requires { ⌜ Room (now buf) at (text (now p) (n .0)) ⌝ }
+    ensures { λ r. ⌜ r ≡ at-last (buf .entry) (sets (now (buf .entry)) at (text (now (p .entry)) (n .0))) ⌝ }
+    ensures { λ _. ⌜ now (end .exit) ≡ at + length (text (now (p .entry)) (n .0)) ⌝ }
 {
     let mut b = buf;
     if width_of(p, n) == 0 {
-        write_condition(&p, n, &mut b, 0);
+        *end = write_condition(&p, n, &mut b, at);
     } else {
-        write_term(&p, n, &mut b, 0);
+        *end = write_term(&p, n, &mut b, at);
     }
     let written = b;
     written

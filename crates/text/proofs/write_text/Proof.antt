@@ -6,7 +6,7 @@ use lib.ListN.{length}
 use Rattle.pool.specs.Rules.{poolOk}
 use Rattle.text_parts.specs.Text.{text, Ready}
 use Rattle.text_length.proofs.Answers.{ready, accepted}
-use Rattle.text.proofs.Answers.{bad, short, fits, refused, written}
+use Rattle.text.proofs.Answers.{bad, short, fits, refused, written, in-front}
 use borrow.Author.Needs.{needs}
 use Rattle.text.proofs.write_text.Statement.{statement}
 use Rattle.text.proofs.write_text.Tie as tie
@@ -62,7 +62,7 @@ returns-2 c =
     (omega arith)
 
 write-known-requires : tie.Need-write-known-requires
-write-known-requires c κs = (whole (measured (c .before)), enough (c .before))
+write-known-requires c κs = (whole (measured (c .before)), record { room = omega (arith, enough (c .before)) })
 
 sub-t9 : tie.Need-sub-t9
 sub-t9 c = search needs
@@ -79,7 +79,7 @@ returns-3 c =
     written (a .pool .now) (a .count) (a .node) (zero e)
     (fits (a .pool .now) (a .count) (a .node) (length (a .buffer .now)) (good e .0) (good e .1) (enough f))
     (omega (arith, f .before .measure .ensures, enough f))
-    (w .write-known .ensures)
+    (in-front (w .write-known .ensures) (enough f))
 
 pub write-text-spec : {M : Type 1} → statement M
 write-text-spec =

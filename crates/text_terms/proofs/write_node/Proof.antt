@@ -1,3 +1,4 @@
+-- `text_terms::write_node` meets its contract: the buffer comes back with the text of either writer.
 use mathlib.Core.Path.{_∙_}
 use mathlib.Core.Logic.{⊎-elim}
 use Rattle.text_terms.proofs.Behind.{behind-whole}
@@ -15,7 +16,11 @@ write-term-requires : tie.Need-write-term-requires
 write-term-requires c κs = search needs
 
 returns : tie.Need-returns
-returns c = ⊎-elim (λ w. w .4 ∙ behind-whole (w .3 .ensures)) (λ w. w .4 ∙ behind-whole (w .3 .ensures)) (c .if1 .came)
+returns c =
+    ⊎-elim
+    (λ w. (w .5 ∙ behind-whole (w .3 .ensures), w .4 ∙ w .3 .ensures .wrote .next-is))
+    (λ w. (w .5 ∙ behind-whole (w .3 .ensures), w .4 ∙ w .3 .ensures .wrote .next-is))
+    (c .if1 .came)
 
 pub write-node-spec : {M : Type 1} → statement M
 write-node-spec =
