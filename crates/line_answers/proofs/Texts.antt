@@ -1,25 +1,28 @@
 -- The answers to a line: a text too long for its buffer, and a text between its number and its newline. Assumes nothing.
 use mathlib.Core.List.{List, [], _∷_, _++_}
-use mathlib.Core.Path.{_≡_, ap, _∙_}
-use Prim.Native.Nat.{ℕ, _+_, _≤_, _<_}
+use mathlib.Core.Bool.{Bool, true, false}
+use mathlib.Core.Path.{_≡_, refl, sym, ap, _∙_}
+use Prim.Native.Nat.{ℕ, _+_, min, _≤_, _<_}
 use native.Mathlib.Omega.{arith}
-use lib.ListN.{length, take, drop}
-use borrow.Author.Tests.{le-leb, lt-leb}
+use lib.Dec.{leb}
+use lib.ListN.{length}
+use borrow.Author.Tests.{le-leb, lt-leb, leb-true, leb-false}
 use Rattle.digits.specs.Writing.{Wrote}
 use Rattle.digits.proofs.Laws.{wrote-then}
 use Rattle.columns.specs.Columns.{columns}
 use Rattle.columns.proofs.Characters.{columns-are}
 use Rattle.line_answers.specs.Answer.{textRoom, roomNumber, written}
-use Rattle.line_answers.proofs.Stores.{part-back}
 
 pub length-columns : (x : ℕ) → x < 10000 → length (columns x) ≡ 4
 length-columns x h = ap length (columns-are x h)
 
--- a text that was written into its part of the buffer
-pub text-put : (l : List ℕ) (from end k : ℕ) (s : List ℕ) {part : List ℕ} → end ≡ from + length s → end ≤ length l → k ≡ length s
-    → part ≡ s ++ drop (length s) (take k (drop from l)) → Wrote l from s end (take from l ++ (part ++ drop k (drop from l)))
-text-put l from end k s e h i p =
-    record { next-is = e; after-is = ap (λ (q : List ℕ). take from l ++ (q ++ drop k (drop from l))) p ∙ part-back l from k s (omega arith) (omega arith) }
+-- a length up to one more than the room says whether a text has room
+pub has-room : (x y : ℕ) → x ≡ min y (textRoom + 1) → leb x textRoom ≡ leb y textRoom
+has-room x y e = go (leb y textRoom) refl
+  where
+    go : (t : Bool) → leb y textRoom ≡ t → leb x textRoom ≡ leb y textRoom
+    go true h = let l = leb-true y textRoom h in le-leb x textRoom (omega arith) ∙ sym h
+    go false h = let l = leb-false y textRoom h in lt-leb x textRoom (omega arith) ∙ sym h
 
 pub term-refused : {l m : List ℕ} {at r : ℕ} (s : List ℕ) → textRoom < length s → Wrote l at (columns 9 ++ (10 ∷ [])) r m → Wrote l at (written (roomNumber s) s) r m
 term-refused s h w = rw (lt-leb (length s) textRoom h) w

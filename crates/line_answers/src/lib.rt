@@ -3,16 +3,19 @@ use columns::put_columns;
 use digits::put;
 use pool::Node;
 use text::write_known;
+use text_bound::surely_short;
 use text_length::length_to;
 ghost use mathlib.Core.Bool.{true};
 ghost use mathlib.Core.List.{[], _∷_, _++_};
 ghost use mathlib.Core.Path.{_≡_};
 ghost use Prim.Native.Nat.{_+_, _≤_, _<_};
+ghost use lib.Dec.{leb};
 ghost use lib.ListN.{length};
 ghost use Rattle.pool.specs.Rules.{poolOk};
 ghost use Rattle.columns.specs.Columns.{columns};
 ghost use Rattle.digits.specs.Writing.{Wrote};
 ghost use Rattle.text_parts.specs.Text.{text, Ready};
+ghost use Rattle.text_bound.specs.Bounds.{Leaves};
 ghost use Rattle.line_answers.specs.Answer.{textRoom, answerRoom, roomNumber, written};
 
 // The most bytes that an answer has: a number, a blank, a text of at most 65,536 bytes, a newline.
@@ -28,30 +31,30 @@ pub fn put_number(number: u64, out: &mut [u8], at: usize) -> usize
     put(b"\n", out, i)
 }
 
-// Writes the text of a node at `from`, where it is known to end at `end`.
-fn put_text(pool: &[u64], node: Node, out: &mut [u8], from: usize, end: usize)
+// Whether a text has room in an answer. Most texts are surely short; the length of the others is asked for.
+fn fits(pool: &[u64], node: Node) -> bool
     requires { ⌜ Ready (now pool) (node .0) ⌝ }
-    requires { ⌜ end ≡ from + length (text (now pool) (node .0)) ⌝ }
-    requires { ⌜ end ≤ length (now out) ⌝ }
-    ensures { λ _. ⌜ Wrote (now (out .entry)) from (text (now (pool .entry)) (node .0)) end (now (out .exit)) ⌝ }
+    requires { ⌜ Leaves (now pool) 32 ⌝ }
+    ensures { λ r. ⌜ r ≡ leb (length (text (now (pool .entry)) (node .0))) textRoom ⌝ }
 {
-    write_known(pool, node, &mut out[from..end]);
+    if surely_short(pool, node, 32) {
+        return true;
+    }
+    length_to(pool, node, 65536) <= 65536
 }
 
-// Writes the answer of an accepted record: 0 and the text of a node, or 9. The length is asked for first.
+// Writes the answer of an accepted record: 0 and the text of a node, or 9. The first 32 nodes of its pool have no operands.
 pub fn put_term(pool: &[u64], count: usize, node: usize, out: &mut [u8], at: usize) -> usize
     requires { ⌜ poolOk (now pool) count ≡ true ⌝ }
-    requires { ⌜ node < count ⌝ }
+    requires { ⌜ (node < count) × Leaves (now pool) 32 ⌝ }
     requires { ⌜ at + answerRoom ≤ length (now out) ⌝ }
     ensures { λ r. ⌜ Wrote (now (out .entry)) at (written (roomNumber (text (now (pool .entry)) node)) (text (now (pool .entry)) node)) r (now (out .exit)) ⌝ }
 {
-    let length = length_to(pool, Node(node), 65536);
-    if 65536 < length {
+    if !fits(pool, Node(node)) {
         return put_number(9, out, at);
     }
     let i = put_columns(0, out, at);
     let from = put(b" ", out, i);
-    let end = from + (length as usize);
-    put_text(pool, Node(node), out, from, end);
+    let end = write_known(pool, Node(node), out, from);
     put(b"\n", out, end)
 }

@@ -47,7 +47,7 @@ module _ (ws : List ℕ) (n : ℕ) (r : Ready ws n) (k : ℕ) (is-k : k ≡ kind
   abbrev pub before : ℕ
   before = cond (eqb k 15) (length (text ws (opA ws n))) 0
 
-  two-size : 3 ≤ k → single k ≡ false
+  pub two-size : 3 ≤ k → single k ≡ false
       → length (text ws n)
       ≡ length (openText k) + cond (eqb k 15) 2 0 + length (betweenText k) + 1 + before + length (text ws (leftOf ws n)) + length (text ws (rightOf ws n))
   two-size h s = go (eqb k 15) refl

@@ -11,7 +11,7 @@ use Rattle.line_fields.specs.Fields.{lineNumber, recordOf}
 use Rattle.line_fields.proofs.Numbers.{line-low}
 use Rattle.line_answers.specs.Answer.{answerRoom}
 use Rattle.lines.proofs.Fits.{inside}
-use Rattle.lines.proofs.Records.{block-low, answered-one, long, low-d, node-under, left-little, left-other, lowered-one, no-room, little-room, other, refused, done}
+use Rattle.lines.proofs.Records.{block-low, answered-one, long, low-d, node-under, registers, left-little, left-other, lowered-one, no-room, little-room, other, refused, done}
 use borrow.Author.Needs.{needs}
 use Rattle.lines.proofs.answer_line.Statement.{statement}
 use Rattle.lines.proofs.answer_line.Tie as tie
@@ -132,7 +132,8 @@ put-term-requires c κs =
     let g = c .before .before in
     let l = lowered (g .before .before) in
     let z = accepted (g .before .before) in
-    (one l .accepted z .checked, (omega (arith, node-is g, node-under (entry (roomy (ordered l)) .args .line .now) (one l) z), room (roomy (ordered l))))
+    let line = entry (roomy (ordered l)) .args .line .now in
+    (one l .accepted z .checked, ((omega (arith, node-is g, node-under line (one l) z), registers line (one l) z), room (roomy (ordered l))))
 
 same-length-4 : tie.Need-same-length-4
 same-length-4 c = search needs
