@@ -2,16 +2,24 @@
 use digits::put;
 use digits::tens_of;
 ghost use mathlib.Core.Path.{_≡_};
+ghost use mathlib.Core.Bool.{_&&_};
 ghost use Prim.Native.Nat.{_+_, _%_, _≤_, _<_};
+ghost use lib.Dec.{leb, eqb};
 ghost use lib.ListN.{length};
 ghost use Rattle.digits.specs.Writing.{Room, Wrote};
 ghost use Rattle.columns.specs.Columns.{columns, characterOf, shown, fieldAt, isField};
+
+fn is_digit(b: u8) -> bool
+    ensures { λ r. ⌜ r ≡ (leb 48 b && leb b 57) ⌝ }
+{
+    (48 <= b) & (b <= 57)
+}
 
 // The digit that a character shows.
 fn digit(b: u8) -> u64
     ensures { λ r. ⌜ (r ≡ shown b) × (r ≤ 9) ⌝ }
 {
-    if (48 <= b) & (b <= 57) {
+    if is_digit(b) {
         return (b - 48) as u64;
     }
     0
@@ -54,13 +62,23 @@ fn written(x: u64) -> [u8; 4]
     ]
 }
 
+// Whether a character is that of a column but the last; its digit is the last of `above`.
+fn stands(b: u8, above: u64) -> bool
+    requires { ⌜ shown b ≡ above % 10 ⌝ }
+    ensures { λ r. ⌜ r ≡ eqb b (characterOf above) ⌝ }
+{
+    if above == 0 { b == 32 } else { is_digit(b) }
+}
+
 // Whether the 4 characters are a number in columns.
 pub fn is_field(line: &[u8], at: usize) -> bool
     requires { ⌜ at + 4 ≤ length (now line) ⌝ }
     ensures { λ r. ⌜ r ≡ isField (now (line .entry)) at ⌝ }
 {
-    let w = written(field(line, at));
-    (line[at] == w[0]) & (line[at + 1] == w[1]) & (line[at + 2] == w[2]) & (line[at + 3] == w[3])
+    let a = digit(line[at]);
+    let b = 10 * a + digit(line[at + 1]);
+    let c = 10 * b + digit(line[at + 2]);
+    stands(line[at], a) & stands(line[at + 1], b) & stands(line[at + 2], c) & is_digit(line[at + 3])
 }
 
 // Writes a number in columns.

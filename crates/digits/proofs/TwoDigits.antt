@@ -1,7 +1,7 @@
 -- The two digits of a number below 100 in its word of four pairs, by one computed test, and what two digits written are. Assumes nothing.
 use mathlib.Core.Path.{_≡_, refl, sym, ap, _∙_, subst}
 use mathlib.Core.Bool.{Bool, true, false, _&&_}
-use mathlib.Core.List.{List, [], _∷_, _++_}
+use mathlib.Core.List.{List, [], _∷_, _++_, append-assoc}
 use Prim.Native.Nat.{ℕ, zero, suc, _+_, _*_, _-_, _/_, _%_, _^_, _≤_, _<_}
 use mathlib.Core.Logic.{⊎-elim}
 use native.Mathlib.Numerals.{add-one}
@@ -49,7 +49,21 @@ low-byte x l = omega (arith, decimal-digit (x / 10) (omega arith), decimal-digit
 pub high-byte : (x : ℕ) → x < 100 → pairOf x / 256 ≡ digit (x % 10)
 high-byte x l = omega (arith, decimal-digit (x / 10) (omega arith), decimal-digit (x % 10) (omega arith))
 
--- two digits, and three that begin with 1
+-- hexadecimal digits: two, and two after others
+pub two-sixteens : (x : ℕ) → 16 ≤ x → x < 256 → digits 16 x ≡ digit (x / 16) ∷ digit (x % 16) ∷ []
+two-sixteens x h l = digits-more 16 x (omega arith) h ∙ ap (λ (s : List ℕ). s ++ (digit (x % 16) ∷ [])) (digits-one 16 (x / 16) (omega arith))
+
+pub byte-more : (x : ℕ) → 256 ≤ x → digits 16 x ≡ digits 16 (x / 256) ++ (digit (x % 256 / 16) ∷ digit (x % 256 % 16) ∷ [])
+byte-more x h =
+    let q : x / 16 / 16 ≡ x / 256 = omega arith in
+    let t : x / 16 % 16 ≡ x % 256 / 16 = omega arith in
+    let o : x % 16 ≡ x % 256 % 16 = omega arith in
+    digits-more 16 x (omega arith) (omega arith)
+    ∙ ap (λ (s : List ℕ). s ++ (digit (x % 16) ∷ [])) (digits-more 16 (x / 16) (omega arith) (omega arith))
+    ∙ append-assoc (digits 16 (x / 16 / 16)) (digit (x / 16 % 16) ∷ []) (digit (x % 16) ∷ [])
+    ∙ rw (q, t, o)
+
+-- decimal digits: two, and three that begin with 1
 pub two-digits : (x : ℕ) → 10 ≤ x → x < 100 → digits 10 x ≡ digit (x / 10) ∷ digit (x % 10) ∷ []
 two-digits x h l = digits-more 10 x (omega arith) h ∙ ap (λ (s : List ℕ). s ++ (digit (x % 10) ∷ [])) (digits-one 10 (x / 10) (omega arith))
 

@@ -106,7 +106,8 @@ fn pairs(k: u64) -> u64
         21 => 0x3738363835383438,
         22 => 0x3139303939383838,
         23 => 0x3539343933393239,
-        _ => 0x3939383937393639,
+        24 => 0x3939383937393639,
+        _ => 0,
     }
 }
 
@@ -185,6 +186,33 @@ pub fn less_hex(low: u64, high: u64, b: usize) -> usize
     less_hex(low / 16 + high % 16 * 1152921504606846976, high / 16, c)
 }
 
+// Two hexadecimal digits of a number below 256.
+fn put_byte(x: u64, buf: &mut [u8], at: usize) -> usize
+    requires { ⌜ x < 256 ⌝ }
+    requires { ⌜ at + 2 ≤ length (now buf) ⌝ }
+    ensures { λ r. ⌜ Wrote (now (buf .entry)) at (digit (x / 16) ∷ digit (x % 16) ∷ []) r (now (buf .exit)) ⌝ }
+{
+    buf[at] = hex_digit(x / 16);
+    buf[at + 1] = hex_digit(x % 16);
+    at + 2
+}
+
+// The hexadecimal digits of a word, two at each call.
+fn put_word(x: u64, buf: &mut [u8], at: usize) -> usize
+    requires { ⌜ Room (now buf) at (hexadecimal x) ⌝ }
+    ensures { λ r. ⌜ Wrote (now (buf .entry)) at (hexadecimal x) r (now (buf .exit)) ⌝ }
+{
+    if x < 16 {
+        buf[at] = hex_digit(x);
+        return at + 1;
+    }
+    if x < 256 {
+        return put_byte(x, buf, at);
+    }
+    let i = put_word(x / 256, buf, at);
+    put_byte(x % 256, buf, i)
+}
+
 // The hexadecimal digits of two words, a number from 16 on. 1152921504606846976 is 2^60: the high word's last digit becomes the low
 // word's first.
 fn put_sixteens(low: u64, high: u64, buf: &mut [u8], at: usize) -> usize
@@ -212,6 +240,9 @@ pub fn put_hex(low: u64, high: u64, buf: &mut [u8], at: usize) -> usize
     if one_digit(low, high) {
         buf[at] = hex_digit(low);
         return at + 1;
+    }
+    if high == 0 {
+        return put_word(low, buf, at);
     }
     put_sixteens(low, high, buf, at)
 }

@@ -7,16 +7,16 @@ use native.Mathlib.Nat.{mul-le-mul-left, lt-of-lt-of-le}
 use native.Mathlib.Omega.{arith}
 use lib.Dec.{eqb, ltb}
 use lib.ListN.{length, length-append}
-use borrow.Author.Tests.{eqb-true, eqb-false, ltb-true, ltb-false, ne-eqb}
+use borrow.Author.Tests.{eqb-true, eqb-false, ltb-true, ltb-false, eq-eqb, ne-eqb}
 use Rattle.terms.specs.Display.{decimal, hexadecimal}
 use Rattle.pool.specs.Node.{kinds, kindAt, wide, wordAt, widthAt, kindNumber}
-use Rattle.node_fields.specs.Fields.{opA, leftOf, rightOf}
+use Rattle.node_fields.specs.Fields.{opA, opB, opC, leftOf, rightOf}
 use Rattle.digits.proofs.Laws.{digits, digits-one, length-more}
 use Rattle.digits.proofs.Lengths.{decimal-one, decimal-two, decimal-three}
 use Rattle.text_operators.specs.Between.{Joined, betweenText}
 use Rattle.text_operators.proofs.Lengths.{operator-three, operator-shl, operator-shr, operator-compare}
 use Rattle.text_parts.specs.Text.{text, openText, endText, single, Ready}
-use Rattle.text_parts.proofs.Operands.{Single, is-const, single-kinds, from-18, register-small, range-small, width-small}
+use Rattle.text_parts.proofs.Operands.{Single, is-const, is-pair, from-18, ite-a, ite-b, first-term, pair-b, register-small, range-small, width-small}
 use Rattle.text_parts.proofs.Pieces.{a-joined}
 use Rattle.text_parts.proofs.Tree.{bracket, whole-single}
 use Rattle.text_length.proofs.Sizes.{size-var, size-const, about-extract, about-extend, before, two-size}
@@ -110,6 +110,34 @@ module _ (ws : List ℕ) (n : ℕ) (r : Ready ws n) (k : ℕ) (is-k : k ≡ kind
           rw (ne-eqb k 15 (λ q. omega (arith, q, l))) (omega (arith, ap length (bracket (j .from) l), between-most (j .from) l))
       low false e = high (ltb-false k 15 e) (eqb k 15) refl
 
-  pub two-most : 3 ≤ k → single k ≡ false
+  two-most : 3 ≤ k → single k ≡ false
       → length (text ws n) ≤ before ws n r k is-k + length (text ws (leftOf ws n)) + length (text ws (rightOf ws n)) + 11
   two-most h s = omega (arith, two-size ws n r k is-k h s, own-most (a-joined ws n r k is-k h s))
+
+  not-single : k ≡ 15 → single k ≡ false
+  not-single e = rw e refl
+
+  -- an Ite, and a kind with two operands
+  pub ite-most : k ≡ 15
+      → length (text ws n) ≤ length (text ws (opA ws n)) + length (text ws (opB ws n)) + length (text ws (opC ws n)) + 11
+  ite-most e = rw (eq-eqb k 15 e, eq-eqb (kindNumber ws n) 15 (sym is-k ∙ e)) at (two-most (omega arith) (not-single e))
+
+  pub pair-most : 3 ≤ k → (k ≡ 15 → ⊥) → single k ≡ false
+      → length (text ws n) ≤ length (text ws (opA ws n)) + length (text ws (opB ws n)) + 11
+  pair-most h f s =
+      let m = rw (ne-eqb k 15 f, ne-eqb (kindNumber ws n) 15 (λ e. f (is-k ∙ e))) at (two-most h s) in omega (arith, m)
+
+  -- operands come before
+  pub first-less : 3 ≤ k → opA ws n < n
+  first-less h = go (eqb k 15) refl
+    where
+      go : (t : Bool) → eqb k 15 ≡ t → opA ws n < n
+      go true e = ite-a ws n r k is-k (eqb-true k 15 e) .before
+      go false e = first-term ws n r k is-k h (eqb-false k 15 e) .before
+
+  pub second-less : 3 ≤ k → single k ≡ false → opB ws n < n
+  second-less h s = go (eqb k 15) refl
+    where
+      go : (t : Bool) → eqb k 15 ≡ t → opB ws n < n
+      go true e = ite-b ws n r k is-k (eqb-true k 15 e) .before
+      go false e = pair-b ws n r k is-k (is-pair k h (eqb-false k 15 e) s) .before

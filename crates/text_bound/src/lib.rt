@@ -1,8 +1,8 @@
 // Whether a node's text is surely short: by a bound for each node, which costs a fraction of the text's length where the text has nodes
 // more often than the pool.
 use node_fields::first;
-use node_fields::left;
-use node_fields::right;
+use node_fields::second;
+use node_fields::third;
 use pool::Node;
 use pool::words::kind_of;
 use text_parts::is_single;
@@ -40,15 +40,15 @@ fn bound_of(p: &[u64], n: Node, bounds: &[u16]) -> usize
     if k < 3 {
         return LEAF;
     }
+    let one = bound_at(bounds, first(p, n)) + OWN;
     if is_single(k) {
-        return bound_at(bounds, first(p, n)) + OWN;
+        return one;
     }
-    let mut c = OWN;
+    let two = bound_at(bounds, second(p, n)) + one;
     if k == 15 {
-        c = bound_at(bounds, first(p, n)) + OWN;
+        return bound_at(bounds, third(p, n)) + two;
     }
-    let d = bound_at(bounds, left(p, n)) + c;
-    bound_at(bounds, right(p, n)) + d
+    two
 }
 
 // A bound in 16 bits: 65,535 for all that is more.

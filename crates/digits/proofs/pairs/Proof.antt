@@ -111,14 +111,17 @@ past : (i k : ℕ) → Past i k → i ≤ k
 past zero k p = omega arith
 past (suc i) k p = omega (arith, past i k (p .0), p .1)
 
-last : {k : ℕ} → k < 25 → 24 ≤ k → k ≡ 24
-last l h = omega arith
+none : {k : ℕ} → k < 25 → 25 ≤ k → ⊥
+none l h = omega arith
 
 returns-25 : tie.Need-returns-25
 unfolding fourPairs
-returns-25 c = rw (last (c .before .pre) (past 24 (c .before .args .k) (c .match .rest)))
+returns-25 c = rw (c .match .keys25)
+
+returns-26 : tie.Need-returns-26
+returns-26 c = absurd (none (c .before .pre) (past 25 (c .before .args .k) (c .match .rest)))
 
 pub pairs-spec : {M : Type 1} → statement M
 pairs-spec =
     tie.close
-    (tie.spec returns returns-2 returns-3 returns-4 returns-5 returns-6 returns-7 returns-8 returns-9 returns-10 returns-11 returns-12 returns-13 returns-14 returns-15 returns-16 returns-17 returns-18 returns-19 returns-20 returns-21 returns-22 returns-23 returns-24 returns-25)
+    (tie.spec returns returns-2 returns-3 returns-4 returns-5 returns-6 returns-7 returns-8 returns-9 returns-10 returns-11 returns-12 returns-13 returns-14 returns-15 returns-16 returns-17 returns-18 returns-19 returns-20 returns-21 returns-22 returns-23 returns-24 returns-25 returns-26)

@@ -1,11 +1,12 @@
-use mathlib.Core.Path.{sym, _∙_}
+-- `digits::put_hex` meets its contract: one digit, one word or two.
+use mathlib.Core.Path.{_≡_, sym, ap, _∙_}
 use Prim.Native.Nat.{_<_}
 use native.Mathlib.Omega.{arith}
 use borrow.Author.Needs.{needs}
 use borrow.Author.Tests.{ltb-true, ltb-false}
 use Rattle.terms.specs.Display.{hexadecimal}
 use Rattle.pool.specs.Node.{wide}
-use Rattle.digits.proofs.Laws.{length-digit, wrote-digit}
+use Rattle.digits.proofs.Laws.{length-digit, room-as, wrote-as, wrote-digit}
 use Rattle.digits.proofs.put_hex.Statement.{statement}
 use Rattle.digits.proofs.put_hex.Tie as tie
 
@@ -36,16 +37,33 @@ returns : tie.Need-returns
 unfolding hexadecimal
 returns c = wrote-digit _ _ _ (one (c .before)) (c .hex-digit .ensures)
 
-put-sixteens-requires : tie.Need-put-sixteens-requires
-put-sixteens-requires c κs =
-    let e = c .before in
-    (ltb-false _ 16 (sym (e .before .one-digit .ensures) ∙ e .if1 .left), e .before .before .before .pre)
+-- one word is the number
+word : (c : tie.Then2) → let a = c .before .before .before .before .args in wide (a .low) (a .high) ≡ a .low
+word c = omega (arith, c .if2 .taken)
+
+put-word-requires : tie.Need-put-word-requires
+put-word-requires c κs =
+    let i = c .before in
+    room-as (ap hexadecimal (word i)) (i .before .before .before .before .pre)
 
 same-length-2 : tie.Need-same-length-2
 same-length-2 c = search needs
 
 returns-2 : tie.Need-returns-2
-returns-2 c = search needs
+returns-2 c =
+    let w = c .before .before in
+    wrote-as (ap hexadecimal (word (w .before .before))) (w .put-word .ensures)
+
+put-sixteens-requires : tie.Need-put-sixteens-requires
+put-sixteens-requires c κs =
+    let e = c .before .before in
+    (ltb-false _ 16 (sym (e .before .one-digit .ensures) ∙ e .if1 .left), e .before .before .before .pre)
+
+same-length-3 : tie.Need-same-length-3
+same-length-3 c = search needs
+
+returns-3 : tie.Need-returns-3
+returns-3 c = search needs
 
 pub put-hex-spec : {M : Type 1} → statement M
 put-hex-spec =
@@ -57,6 +75,9 @@ put-hex-spec =
     add-result
     same-length
     returns
-    put-sixteens-requires
+    put-word-requires
     same-length-2
-    returns-2)
+    returns-2
+    put-sixteens-requires
+    same-length-3
+    returns-3)
