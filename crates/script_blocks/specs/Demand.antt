@@ -12,8 +12,7 @@ use Rattle.neon.specs.Run.{armRun}
 use Rattle.register_map.specs.Map.{nodeOf}
 use Rattle.block.specs.declared.BlockAnswer.{BlockAnswer}
 use Rattle.block.specs.Block as block
-use Rattle.script_meaning.specs.Meaning.{Script, meant}
-use Rattle.script_meaning.specs.Demand.{ModelOf}
+use Rattle.script_meaning.specs.Demand.{ModelOf, Holds}
 use Rattle.script_length.specs.Answer.{scriptNumber}
 use Rattle.scripts.specs.Answer as scripts
 
@@ -23,10 +22,6 @@ RegistersChosen =
     (old : List ℕ) (cs : List Instruction) (new : List ℕ) (a : BlockAnswer) → block.Answered old cs new a → a .number ≡ 0
     → (r r′ rest : ℕ) → r < 32 → r′ < 32
     → scriptNumber new (a .map .count) (nodeOf (a .map) r) (nodeOf (a .map) r′) rest ≡ rest
-
--- the bytes are a script that the reader takes, and its assertion holds
-abbrev pub Holds : (List ℕ → ℕ) → List ℕ → Type 0
-Holds model bytes = (s : Script) × (meant model bytes ≡ some s) × (s .holds ≡ true)
 
 -- for every start and every accepted block: two registers after the Arm run differ exactly when the assertion of their script holds in
 -- the start's model

@@ -26,7 +26,7 @@ plain-of : (s : List ℕ) → 0 < length s → all isPlain s ≡ true → plain 
 plain-of [] h p = absurd (omega arith)
 plain-of (c ∷ s) h p = p
 
-plain-decimal : (n : ℕ) → plain (decimal n) ≡ true
+pub plain-decimal : (n : ℕ) → plain (decimal n) ≡ true
 plain-decimal n = plain-of (decimal n) (decimal-some n) (decimal-plain n)
 
 plain-name : (κ : Kind) (k : Cell) (n : ℕ) → plain (nameBy κ k n) ≡ true
@@ -57,7 +57,7 @@ plain-comparison Eq = refl
 plain-comparison Ult = refl
 plain-comparison Slt = refl
 
-fine-sort : (w : ℕ) → fine (sortBy w) ≡ true
+pub fine-sort : (w : ℕ) → fine (sortBy w) ≡ true
 unfolding fine
 fine-sort zero = refl
 fine-sort (suc w) = rw (plain-decimal (suc w))
@@ -79,23 +79,29 @@ module _ (n : ℕ) (k : Cell) (A B C m : ℕ) (a b c : List ℕ) (ha : plain a �
   fine-term sext h d xs f g = rw (f (rw (plain-decimal (k .width - m), ha)), g)
 
 module _ (ws : List ℕ) (count : ℕ) (valid : Valid ws count) where
-  plain-at : (n : ℕ) → plain (nameOf ws n) ≡ true
+  pub plain-at : (n : ℕ) → plain (nameOf ws n) ≡ true
   plain-at n = plain-name (cellAt ws n .kind) (cellAt ws n) n
+
+  -- a node's command is fine where its term is
+  pub fine-command : (n : ℕ) (d : Sexp) (xs : Items) → n < count → (fine (termOf ws n) ≡ true → fine d ≡ true) → fineAll xs ≡ true
+      → fineAll (definedBy (cellAt ws n .kind) d xs) ≡ true
+  unfolding decode
+  fine-command n d xs h f g =
+      let c = cellAt ws n in
+      fine-term n c (widthBefore ws n (c .a)) (widthBefore ws n (c .b)) (widthBefore ws n (c .c)) (widthAt ws (c .a)) (nameOf ws (c .a)) (nameOf ws (c .b)) (nameOf ws (c .c))
+      (plain-at (c .a)) (plain-at (c .b)) (plain-at (c .c)) (c .kind) (valid-node ws count n valid h) d xs f g
 
   fine-definition : (n : ℕ) → fine (termOf ws n) ≡ true → fine (definition ws n) ≡ true
   unfolding fine
   fine-definition n h = rw (decimal-plain n, fine-sort (sortWidth ws n), h)
 
   fine-definitions : (k n : ℕ) (rest : Items) → n + k ≤ count → fineAll rest ≡ true → fineAll (definitions ws k n rest) ≡ true
-  unfolding definitions decode
+  unfolding definitions
   fine-definitions zero n rest e h = h
   fine-definitions (suc k) n rest e h =
-      let c = cellAt ws n in
-      fine-term n c (widthBefore ws n (c .a)) (widthBefore ws n (c .b)) (widthBefore ws n (c .c)) (widthAt ws (c .a)) (nameOf ws (c .a)) (nameOf ws (c .b)) (nameOf ws (c .c))
-      (plain-at (c .a)) (plain-at (c .b)) (plain-at (c .c)) (c .kind) (valid-node ws count n valid (omega arith)) (definition ws n) (definitions ws k (suc n) rest)
-      (fine-definition n) (fine-definitions k (suc n) rest (omega arith) h)
+      fine-command n (definition ws n) (definitions ws k (suc n) rest) (omega arith) (fine-definition n) (fine-definitions k (suc n) rest (omega arith) h)
 
-  fine-declarations : (k r : ℕ) (rest : Items) → fineAll rest ≡ true → fineAll (declarations k r rest) ≡ true
+  pub fine-declarations : (k r : ℕ) (rest : Items) → fineAll rest ≡ true → fineAll (declarations k r rest) ≡ true
   unfolding declarations fine
   fine-declarations zero r rest h = h
   fine-declarations (suc k) r rest h = rw (decimal-plain r, plain-decimal 128, fine-declarations k (suc r) rest h)

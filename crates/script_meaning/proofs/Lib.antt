@@ -3,6 +3,9 @@ pub mod Numbers
 pub mod Vars
 pub mod Terms
 pub mod Names
+pub mod Commands
+pub mod Registers
+pub mod Nodes
 pub mod Run
 pub mod Fine
 pub mod Script

@@ -1,10 +1,9 @@
 -- The bytes of a pool's script, read by the standard at a start: the theorem of specs/Demand.antt. Assumes nothing.
 use mathlib.Core.Path.{_≡_, refl, ap, _∙_}
 use mathlib.Core.Option.{Option, some}
-use Rattle.terms.specs.Display.{bytes}
-use Rattle.script_meaning.specs.Sexp.{word, list, Items, stop, _⨾_}
+use Rattle.script_meaning.specs.Sexp.{Items, _⨾_}
 use Rattle.script_meaning.specs.Meaning.{andThen, begun, meant}
-use Rattle.script_meaning.specs.Script.{declarations, definitions, commandsOf, scriptOf}
+use Rattle.script_meaning.specs.Script.{setLogic, declarations, definitions, commandsOf, scriptOf}
 use Rattle.script_meaning.specs.Demand.{ScriptMeans}
 use Rattle.script_meaning.proofs.Reading.{read-lines}
 use Rattle.script_meaning.proofs.Fine.{fine-script}
@@ -14,8 +13,7 @@ pub script-means : ScriptMeans
 unfolding meant scriptOf commandsOf
 script-means ws count valid x y hx hy w start model m =
     let r = run-script ws count valid start model x y hx hy w (m .fits) (m .gives) in
-    let all-defined : commandsOf ws count x y ≡ list (word (bytes "set-logic") ⨾ word (bytes "QF_BV") ⨾ stop)
-    ⨾ declarations 32 0 (definitions ws count 0 (claim ws count valid start model x y)) = refl in
+    let all-defined : commandsOf ws count x y ≡ setLogic ⨾ declarations 32 0 (definitions ws count 0 (claim ws count valid start model x y)) = refl in
     record {
       names = r .names;
       values = r .values;

@@ -24,7 +24,7 @@ use Rattle.script_meaning.specs.Sexp.{Sexp, word, list, Items, stop, _�
 use Rattle.script_meaning.specs.Meaning as meanings
 use Rattle.script_meaning.specs.Meaning.{andThen, when, isNone, all, number, isBinaryDigit, literal, Meaning, meaning, Entry, find, functions, indexed, cut, zeros, signs}
 use Rattle.script_meaning.specs.Meaning.{Function, equal, distinct, choose, join, isVector, sameSort, applied, appliedAt, words, numeral, numerals, indexedBy, called, atom, term}
-use Rattle.script_meaning.specs.Script.{binary, operator, comparison, apply1, apply2, apply3, index1, index2, termBy}
+use Rattle.script_meaning.specs.Script.{binary, operator, comparison, apply1, applyTo, apply2, apply3, index1, index2, termBy}
 use Rattle.script_meaning.proofs.Vars.{isVar}
 use Rattle.script_meaning.proofs.Numbers.{decimal-numeral, binary-number, binary-length, binary-digits}
 
@@ -54,11 +54,16 @@ find-operator LShr = refl
 find-operator AShr = refl
 
 module _ (env : List (Entry Meaning)) where
-  -- the names of two and of three arguments
+  -- two arguments; the names of two and of three
+  pub two-terms : (f : List ℕ) (s t : Sexp) (o : Function) (u v : Meaning) → find functions f ≡ some o → term s env ≡ some u → term t env ≡ some v
+      → term (applyTo f s t) env ≡ applied o (u ∷ v ∷ [])
+  unfolding term
+  two-terms f s t o u v e p q = rw (p, q, e)
+
   pub two-args : (f a b : List ℕ) (o : Function) (u v : Meaning) → find functions f ≡ some o → atom env a ≡ some u → atom env b ≡ some v
       → term (apply2 f a b) env ≡ applied o (u ∷ v ∷ [])
   unfolding term
-  two-args f a b o u v e p q = rw (p, q, e)
+  two-args f a b o u v e p q = two-terms f (word a) (word b) o u v e p q
 
   three-args : (f a b c : List ℕ) (o : Function) (u v w : Meaning) → find functions f ≡ some o → atom env a ≡ some u → atom env b ≡ some v → atom env c ≡ some w
       → term (apply3 f a b c) env ≡ applied o (u ∷ v ∷ w ∷ [])
@@ -70,7 +75,7 @@ module _ (env : List (Entry Meaning)) where
   unfolding term
   indexed-1 f a i o u e p = rw (p, e, decimal-numeral i)
 
-  indexed-2 : (f a : List ℕ) (i j : ℕ) (o : meanings.Indexed) (u : Meaning) → find indexed f ≡ some o → atom env a ≡ some u
+  pub indexed-2 : (f a : List ℕ) (i j : ℕ) (o : meanings.Indexed) (u : Meaning) → find indexed f ≡ some o → atom env a ≡ some u
       → term (apply1 (index2 f i j) a) env ≡ appliedAt o (i ∷ j ∷ []) (u ∷ [])
   unfolding term
   indexed-2 f a i j o u e p = rw (p, e, decimal-numeral i, decimal-numeral j)

@@ -1,5 +1,5 @@
 -- What a pool's script means, by the standard (document 02, S-1): the statements of the theorems.
-use mathlib.Core.Bool.{not}
+use mathlib.Core.Bool.{true, not}
 use mathlib.Core.List.{List}
 use mathlib.Core.Option.{some}
 use mathlib.Core.Path.{_≡_}
@@ -9,13 +9,17 @@ use Rattle.terms.specs.Value.{value}
 use Rattle.pool.specs.Node.{widthAt}
 use Rattle.pool.specs.Rules.{Valid}
 use Rattle.pool.specs.Unfold.{unfoldAt}
-use Rattle.script_meaning.specs.Meaning.{Meaning, meaning, Entry, find, script, meant}
+use Rattle.script_meaning.specs.Meaning.{Meaning, meaning, Entry, find, Script, script, meant}
 use Rattle.script_meaning.specs.Script.{registerName, nameOf, scriptOf}
 
 -- the model of a start: r0 to r31 are its registers, of 128 bits
 pub record ModelOf (start : ℕ → ℕ) (model : List ℕ → ℕ) : Type 0 where
   pub fits : (r : ℕ) → r < 32 → start r < 2 ^ 128
   pub gives : (r : ℕ) → r < 32 → model (registerName r) ≡ start r
+
+-- the bytes are a script that the reader takes in that model, and its assertions hold there
+abbrev pub Holds : (List ℕ → ℕ) → List ℕ → Type 0
+Holds model bytes = (s : Script) × (meant model bytes ≡ some s) × (s .holds ≡ true)
 
 -- the bytes, read by the standard in that model, give every node's name its width and value, and their assertion holds exactly when the
 -- values of nodes x and y differ

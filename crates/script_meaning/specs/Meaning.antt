@@ -270,11 +270,16 @@ defined s (n ∷ ps ∷ m ∷ t ∷ []) =
     andThen (term t (s .defined)) λ v. andThen (when (isStop ps && eqb (v .sort) m) v) λ v. added s n v
 defined s (n ∷ ps ∷ m ∷ t ∷ x ∷ xs) = none
 
--- model has the value of each constant that is declared
+-- how many values a sort has
+abbrev pub valuesOf : ℕ → ℕ
+valuesOf zero = 2
+valuesOf (suc m) = 2 ^ suc m
+
+-- model has the value of each constant that is declared; where it gives one that its sort does not have, nothing is read
 unfoldable pub done : (model : List ℕ → ℕ) → Command → List Sexp → Script → Option Script
 done model declare xs s =
     two xs λ n m.
-    andThen (asName n) λ n. andThen (sort m) λ m. andThen (when (ltb 0 m && ltb (model n) (2 ^ m)) (meaning m (model n))) λ v. added s n v
+    andThen (asName n) λ n. andThen (sort m) λ m. andThen (when (ltb (model n) (valuesOf m)) (meaning m (model n))) λ v. added s n v
 done model define xs s = defined s xs
 done model claim xs s =
     one xs λ t. andThen (term t (s .defined)) λ v. when (eqb (v .sort) 0) (script (s .defined) (s .holds && ltb 0 (v .is)))

@@ -66,12 +66,15 @@ functionOf concat = bytes "concat"
 functionOf zext = bytes "zero_extend"
 functionOf sext = bytes "sign_extend"
 
--- (f a), (f a b), (f a b c)
+-- (f a), (f s t), (f a b), (f a b c)
 abbrev pub apply1 : Sexp → List ℕ → Sexp
 apply1 f a = list (f ⨾ word a ⨾ stop)
 
+abbrev pub applyTo : List ℕ → Sexp → Sexp → Sexp
+applyTo f s t = list (word f ⨾ s ⨾ t ⨾ stop)
+
 abbrev pub apply2 : List ℕ → List ℕ → List ℕ → Sexp
-apply2 f a b = list (word f ⨾ word a ⨾ word b ⨾ stop)
+apply2 f a b = applyTo f (word a) (word b)
 
 abbrev pub apply3 : List ℕ → List ℕ → List ℕ → List ℕ → Sexp
 apply3 f a b c = list (word f ⨾ word a ⨾ word b ⨾ word c ⨾ stop)
@@ -104,6 +107,12 @@ abbrev pub sortBy : ℕ → Sexp
 sortBy zero = word (bytes "Bool")
 sortBy (suc w) = index1 (bytes "BitVec") (suc w)
 
+abbrev pub declareConst : List ℕ → Sexp → Sexp
+declareConst n s = list (word (bytes "declare-const") ⨾ word n ⨾ s ⨾ stop)
+
+abbrev pub assertion : Sexp → Sexp
+assertion t = list (word (bytes "assert") ⨾ t ⨾ stop)
+
 abbrev pub defineFun : List ℕ → Sexp → Sexp → Sexp
 defineFun n s t = list (word (bytes "define-fun") ⨾ word n ⨾ list stop ⨾ s ⨾ t ⨾ stop)
 
@@ -135,15 +144,21 @@ definitions ws (suc k) n rest = definedBy (cellAt ws n .kind) (definition ws n) 
 -- the declarations of k registers from register r on
 unfoldable pub declarations : (k r : ℕ) → Items → Items
 declarations zero r rest = rest
-declarations (suc k) r rest =
-    list (word (bytes "declare-const") ⨾ word (registerName r) ⨾ sortBy 128 ⨾ stop) ⨾ declarations k (suc r) rest
+declarations (suc k) r rest = declareConst (registerName r) (sortBy 128) ⨾ declarations k (suc r) rest
+
+-- the first command and the last
+abbrev pub setLogic : Sexp
+setLogic = list (word (bytes "set-logic") ⨾ word (bytes "QF_BV") ⨾ stop)
+
+abbrev pub checkSat : Sexp
+checkSat = list (word (bytes "check-sat") ⨾ stop)
 
 unfoldable pub commandsOf : List ℕ → (count x y : ℕ) → Items
 commandsOf ws count x y =
-    list (word (bytes "set-logic") ⨾ word (bytes "QF_BV") ⨾ stop)
+    setLogic
     ⨾ declarations 32 0
     (definitions ws count 0
-    (list (word (bytes "assert") ⨾ apply2 (bytes "distinct") (nameOf ws x) (nameOf ws y) ⨾ stop) ⨾ list (word (bytes "check-sat") ⨾ stop) ⨾ stop))
+    (assertion (apply2 (bytes "distinct") (nameOf ws x) (nameOf ws y)) ⨾ checkSat ⨾ stop))
 
 -- the bytes of the script that asks whether nodes x and y differ
 unfoldable pub scriptOf : List ℕ → (count x y : ℕ) → List ℕ
