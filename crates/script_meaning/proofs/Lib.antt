@@ -10,3 +10,4 @@ pub mod Run
 pub mod Fine
 pub mod Script
 pub mod Example
+pub mod Stays

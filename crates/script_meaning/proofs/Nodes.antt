@@ -41,29 +41,37 @@ module _ (ws : List ℕ) (count : ℕ) (valid : Valid ws count) (regs : ℕ → 
   pub before : (env : Names) → Declared regs env 32 → Defined env 0
   before env d = record { registers = d .known; named = λ m h. absurd (omega arith); free = λ j h. d .no-node j }
 
-  pub atom-is : (env : Names) (n m : ℕ) → Defined env n → m < n → atom env (nameOf ws m) ≡ some (meaningAt m)
-  atom-is env n m d l = atom-name env (cellAt ws m .kind) (cellAt ws m) m ∙ d .named m l
+  -- the names of the nodes before n
+  abbrev pub Before : Names → ℕ → Type 0
+  Before env n = (m : ℕ) → m < n → find env (nameOf ws m) ≡ some (meaningAt m)
 
-  -- the operand m of node n, where the names up to i are there
-  operand : (env : Names) (n i m : ℕ) → n ≤ count → n ≤ i → Defined env i → m < n → Means env regs (nameOf ws m) (earlier (ltb m n) (unfoldAt ws m)) (widthBefore ws n m)
-  operand env n i m h g d l =
-      rw (lt-ltb m n l)
-      (record { is = atom-is env i m d (omega arith); wide-is = sound ws count valid m (omega arith) .wide })
+  pub atom-is : (env : Names) (m : ℕ) → find env (nameOf ws m) ≡ some (meaningAt m) → atom env (nameOf ws m) ≡ some (meaningAt m)
+  atom-is env m e = atom-name env (cellAt ws m .kind) (cellAt ws m) m ∙ e
 
-  pub term-reads : (env : Names) (n i : ℕ) → n < count → n ≤ i → Defined env i → isVar (cellAt ws n .kind) ≡ false → term (termOf ws n) env ≡ some (meaningAt n)
+  -- the operand m of node n
+  operand : (env : Names) (n m : ℕ) → n ≤ count → Before env n → m < n → Means env regs (nameOf ws m) (earlier (ltb m n) (unfoldAt ws m)) (widthBefore ws n m)
+  operand env n m h d l = rw (lt-ltb m n l) (record { is = atom-is env m (d m l); wide-is = sound ws count valid m (omega arith) .wide })
+
+  pub term-reads : (env : Names) (n : ℕ) → n < count → Before env n → isVar (cellAt ws n .kind) ≡ false → term (termOf ws n) env ≡ some (meaningAt n)
   unfolding decode
-  term-reads env n i h g d v =
+  term-reads env n h d v =
       let k = cellAt ws n in
       by-kind env regs n k (widthBefore ws n (k .a)) (widthBefore ws n (k .b)) (widthBefore ws n (k .c)) (widthAt ws (k .a)) (nameOf ws (k .a)) (nameOf ws (k .b)) (nameOf ws (k .c))
       (earlier (ltb (k .a) n) (unfoldAt ws (k .a))) (earlier (ltb (k .b) n) (unfoldAt ws (k .b))) (earlier (ltb (k .c) n) (unfoldAt ws (k .c)))
-      (operand env n i (k .a) (omega arith) g d) (operand env n i (k .b) (omega arith) g d) (operand env n i (k .c) (omega arith) g d) (λ l. rw (lt-ltb (k .a) n l)) (k .kind) v
+      (operand env n (k .a) (omega arith) d) (operand env n (k .b) (omega arith) d) (operand env n (k .c) (omega arith) d) (λ l. rw (lt-ltb (k .a) n l)) (k .kind) v
       (valid-node ws count n valid h)
       ∙ ap (λ (e : Expr). some (meaning (widthAt ws n) (value regs e))) (sym (unfold-step ws n k refl))
 
   -- a Var is its register
-  pub var-named : (env : Names) (n : ℕ) → n < count → Defined env n → cellAt ws n .kind ≡ var → find env (nameOf ws n) ≡ some (meaningAt n)
-  unfolding decode value
-  var-named env n h d e =
+  pub record IsRegister (n : ℕ) : Type 0 where
+    pub named-so : nameOf ws n ≡ registerName (cellAt ws n .x)
+    pub one-of : cellAt ws n .x < 32
+    pub wide-is : widthAt ws n ≡ 128
+    pub tree : unfoldAt ws n ≡ Var (cellAt ws n .x)
+
+  pub is-register : (n : ℕ) → n < count → cellAt ws n .kind ≡ var → IsRegister n
+  unfolding decode
+  is-register n h e =
       let k = cellAt ws n in
       let A = widthBefore ws n (k .a) in
       let B = widthBefore ws n (k .b) in
@@ -72,11 +80,22 @@ module _ (ws : List ℕ) (count : ℕ) (valid : Valid ws count) (regs : ℕ → 
       let x = earlier (ltb (k .a) n) (unfoldAt ws (k .a)) in
       let y = earlier (ltb (k .b) n) (unfoldAt ws (k .b)) in
       let z = earlier (ltb (k .c) n) (unfoldAt ws (k .c)) in
-      let tree : unfoldAt ws n ≡ Var (k .x) = unfold-step ws n k refl ∙ ap (λ (κ : Kind). shapeOf κ k x y z) e in
-      ap (λ (κ : Kind). find env (nameBy κ k n)) e
-      ∙ d .registers (k .x) (register n k A B C ok)
-      ∙ ap (λ (w : ℕ). some (meaning w (regs (k .x)))) (sym (var-wide n k A B C ok))
-      ∙ ap (λ (t : Expr). some (meaning (widthAt ws n) (value regs t))) (sym tree)
+      record {
+        named-so = ap (λ (κ : Kind). nameBy κ k n) e;
+        one-of = register n k A B C ok;
+        wide-is = var-wide n k A B C ok;
+        tree = unfold-step ws n k refl ∙ ap (λ (κ : Kind). shapeOf κ k x y z) e;
+      }
+
+  pub var-named : (env : Names) (n : ℕ) → n < count → Defined env n → cellAt ws n .kind ≡ var → find env (nameOf ws n) ≡ some (meaningAt n)
+  unfolding value
+  var-named env n h d e =
+      let r = is-register n h e in
+      let x = cellAt ws n .x in
+      ap (find env) (r .named-so)
+      ∙ d .registers x (r .one-of)
+      ∙ ap (λ (w : ℕ). some (meaning w (regs x))) (sym (r .wide-is))
+      ∙ ap (λ (t : Expr). some (meaning (widthAt ws n) (value regs t))) (sym (r .tree))
 
   -- the next node's name
   pub next : (env : Names) (n : ℕ) → Defined env n → find env (nameOf ws n) ≡ some (meaningAt n) → Defined env (suc n)
@@ -102,6 +121,9 @@ module _ (ws : List ℕ) (count : ℕ) (valid : Valid ws count) (regs : ℕ → 
   name-apart zext k m n h = other-decimal n m (λ e. omega arith)
   name-apart sext k m n h = other-decimal n m (λ e. omega arith)
 
+  pub before-past : (env : Names) (n : ℕ) (v : Meaning) → Before env n → Before (nodeName n ↦ᵉ v ∷ env) n
+  before-past env n v d m l = find-past (nodeName n) (nameOf ws m) v env (name-apart (cellAt ws m .kind) (cellAt ws m) m n l) ∙ d m l
+
   pub with-node : (env : Names) (n : ℕ) → Defined env n → isVar (cellAt ws n .kind) ≡ false → Defined (nodeName n ↦ᵉ meaningAt n ∷ env) (suc n)
   with-node env n d v =
       let new = nodeName n ↦ᵉ meaningAt n ∷ env in
@@ -113,7 +135,7 @@ module _ (ws : List ℕ) (count : ℕ) (valid : Valid ws count) (regs : ℕ → 
             (λ p.
             subst (λ (i : ℕ). find new (nameOf ws i) ≡ some (meaningAt i)) (sym p)
             (ap (find new) (name-other (cellAt ws n .kind) (cellAt ws n) n v) ∙ find-here (nodeName n) (meaningAt n) env))
-            (λ l. find-past (nodeName n) (nameOf ws m) (meaningAt n) env (name-apart (cellAt ws m .kind) (cellAt ws m) m n l) ∙ d .named m l)
+            (λ l. before-past env n (meaningAt n) (d .named) m l)
             (eq-or-lt-of-le (le-of-suc-le-suc h));
         free = λ j h. find-past (nodeName n) (nodeName j) (meaningAt n) env (other-decimal n j (λ e. omega arith)) ∙ d .free j (omega arith);
       }

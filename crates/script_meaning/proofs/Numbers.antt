@@ -101,10 +101,13 @@ decimal-numeral x =
     let s = spelt x x (omega arith) in
     rw (ap isNumeral (s .are) ∙ numeral-of x (s .first) (s .more) (s .digits-are) (s .no-zero) (s .alone), s .is)
 
+pub decimal-number : (x : ℕ) → number 10 0 (decimal x) ≡ x
+unfolding decimal
+decimal-number x = spelt x x (omega arith) .is
+
 -- so each number has its own decimal
 pub decimal-one : (x y : ℕ) → decimal x ≡ decimal y → x ≡ y
-unfolding decimal
-decimal-one x y e = sym (spelt x x (omega arith) .is) ∙ ap (number 10 0) e ∙ spelt y y (omega arith) .is
+decimal-one x y e = sym (decimal-number x) ∙ ap (number 10 0) e ∙ decimal-number y
 
 -- a decimal is not empty, and of digits
 pub decimal-digits : (x : ℕ) → all isDigit (decimal x) ≡ true

@@ -50,7 +50,7 @@ module _ (ws : List ℕ) (count : ℕ) (valid : Valid ws count) (regs : ℕ → 
           }
       go false v ih =
           let s = ih (nodeName n ↦ᵉ means n ∷ env) (with-node ws count valid regs env n d v) in
-          let reads = term-reads ws count valid regs env n n (omega arith) (omega arith) d v in
+          let reads = term-reads ws count valid regs env n (omega arith) (d .named) v in
           let sort-is : means n .sort ≡ sortWidth ws n = refl in
           let step = define-step model env true (nodeName n) (sortWidth ws n) (termOf ws n) (means n) reads sort-is (fresh-node env n (d .free n (omega arith))) in
           record {
@@ -74,8 +74,8 @@ module _ (ws : List ℕ) (count : ℕ) (valid : Valid ws count) (regs : ℕ → 
       → run model (claim x y) (script env true) ≡ some (script env (differ x y))
   unfolding run find functions commands done applied
   claimed env x y d hx hy e =
-      let at = atom-is ws count valid regs env count in
-      let t = two-args env (bytes "distinct") (nameOf ws x) (nameOf ws y) distinct (means x) (means y) refl (at x d hx) (at y d hy) in
+      let at = atom-is ws count valid regs env in
+      let t = two-args env (bytes "distinct") (nameOf ws x) (nameOf ws y) distinct (means x) (means y) refl (at x (d .named x hx)) (at y (d .named y hy)) in
       let step = assert-step model env true (apply2 (bytes "distinct") (nameOf ws x) (nameOf ws y)) (differ x y) (t ∙ rw (eq-eqb (widthAt ws x) (widthAt ws y) e)) in
       ap (λ (o : Option Script). andThen o (λ s. run model (checkSat ⨾ stop) s)) step
 

@@ -1,0 +1,4 @@
+pub mod Values
+pub mod Fine
+pub mod Run
+pub mod Script

@@ -1,0 +1,2 @@
+pub mod LaneScript
+pub mod Demand
