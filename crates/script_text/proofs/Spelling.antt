@@ -15,11 +15,11 @@ use Rattle.script_text.specs.Lines.{lineBy, lineAt}
 use Rattle.script_text.proofs.Chunks.{line}
 use Rattle.script_meaning.proofs.Vars.{isVar, is-var, name-other}
 
-kind-one : (k : ℕ) → k ≡ 1 → kindAt k ≡ var
+pub kind-one : (k : ℕ) → k ≡ 1 → kindAt k ≡ var
 unfolding kindAt kinds
 kind-one k e = rw e
 
-not-one : (k : ℕ) → (k ≡ 1 → ⊥) → isVar (kindAt k) ≡ false
+pub not-one : (k : ℕ) → (k ≡ 1 → ⊥) → isVar (kindAt k) ≡ false
 not-one k f = go (isVar (kindAt k)) refl
   where
     go : (b : Bool) → isVar (kindAt k) ≡ b → isVar (kindAt k) ≡ false
@@ -46,7 +46,7 @@ last-kind k h l = omega arith
 
 -- ---- the line of a node
 
-line-other : (κ : Kind) (s : List ℕ) → isVar κ ≡ false → lineBy κ s ≡ s
+pub line-other : (κ : Kind) (s : List ℕ) → isVar κ ≡ false → lineBy κ s ≡ s
 line-other bad s h = refl
 line-other var s h = absurd (false≢true (sym h))
 line-other const s h = refl

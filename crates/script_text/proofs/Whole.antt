@@ -6,13 +6,13 @@ use native.Mathlib.Nat.{add-zero, zero-add, add-suc, suc-add}
 use Rattle.terms.specs.Display.{bytes, decimal, digitsTo}
 use Rattle.pool.specs.Node.{Kind, bad, var, const, bv, compare, ite, extract, concat, zext, sext, cellAt}
 use Rattle.series.specs.Series.{upTo}
-use Rattle.script_meaning.specs.Sexp.{Sexp, word, list, Items, stop, _⨾_, show, showLines}
-use Rattle.script_meaning.specs.Script.{registerName, nameOf, sortBy, apply2, definition, definedBy, definitions, declarations, commandsOf, scriptOf}
+use Rattle.script_meaning.specs.Sexp.{Sexp, Items, stop, _⨾_, show, showLines}
+use Rattle.script_meaning.specs.Script.{registerName, nameOf, sortBy, apply2, declareConst, assertion, checkSat, definition, definedBy, definitions, declarations, commandsOf, scriptOf}
 use native.Mathlib.Omega.{arith}
 use Rattle.script_text.proofs.Chunks.{long-sort}
 use Rattle.script_text.specs.Lines.{lineBy, lineAt, declaration, declarationLine, claimLines}
 
-lines-by : (κ : Kind) (d : Sexp) (xs : Items) → showLines (definedBy κ d xs) ≡ lineBy κ (show d ++ bytes "\n") ++ showLines xs
+pub lines-by : (κ : Kind) (d : Sexp) (xs : Items) → showLines (definedBy κ d xs) ≡ lineBy κ (show d ++ bytes "\n") ++ showLines xs
 unfolding showLines
 lines-by bad d xs = sym (append-assoc (show d) (bytes "\n") (showLines xs))
 lines-by var d xs = refl
@@ -48,7 +48,7 @@ declarations-from rest (suc k) r =
     ∙ declarations-from rest k (suc r)
     ∙ ap (λ (j : ℕ). upTo j declarationLine ++ showLines rest) (suc-add r k ∙ sym (add-suc r k))
 
-declarations-lines : (rest : Items) (k : ℕ) → showLines (declarations k 0 rest) ≡ upTo k declarationLine ++ showLines rest
+pub declarations-lines : (rest : Items) (k : ℕ) → showLines (declarations k 0 rest) ≡ upTo k declarationLine ++ showLines rest
 unfolding upTo
 declarations-lines rest k = declarations-from rest k 0 ∙ ap (λ (j : ℕ). upTo j declarationLine ++ showLines rest) (zero-add k)
 
@@ -57,7 +57,7 @@ pub script-lines : (ws : List ℕ) (count x y : ℕ)
     → scriptOf ws count x y ≡ bytes "(set-logic QF_BV)\n" ++ (upTo 32 declarationLine ++ (upTo count (lineAt ws) ++ claimLines ws x y))
 unfolding scriptOf commandsOf showLines show
 script-lines ws count x y =
-    let claim = list (word (bytes "assert") ⨾ apply2 (bytes "distinct") (nameOf ws x) (nameOf ws y) ⨾ stop) ⨾ list (word (bytes "check-sat") ⨾ stop) ⨾ stop in
+    let claim = assertion (apply2 (bytes "distinct") (nameOf ws x) (nameOf ws y)) ⨾ checkSat ⨾ stop in
     ap (λ (s : List ℕ). bytes "(set-logic QF_BV)\n" ++ s)
     (declarations-lines (definitions ws count 0 claim) 32 ∙ ap (λ (s : List ℕ). upTo 32 declarationLine ++ s) (definitions-lines ws claim count))
 
@@ -65,8 +65,7 @@ all-bits : decimal 128 ≡ bytes "128"
 unfolding decimal digitsTo
 all-bits = refl
 
-declared : (n : List ℕ) (s : Sexp)
-    → show (list (word (bytes "declare-const") ⨾ word n ⨾ s ⨾ stop)) ++ bytes "\n" ≡ bytes "(declare-const " ++ (n ++ (bytes " " ++ (show s ++ bytes ")\n")))
+pub declared : (n : List ℕ) (s : Sexp) → show (declareConst n s) ++ bytes "\n" ≡ bytes "(declare-const " ++ (n ++ (bytes " " ++ (show s ++ bytes ")\n")))
 unfolding show
 declared n s = simp append-assoc
 

@@ -4,8 +4,8 @@ use Prim.Native.Nat.{ℕ, _<_}
 use Rattle.terms.specs.Display.{bytes}
 use Rattle.pool.specs.Node.{Kind, bad, var, const, bv, compare, ite, extract, concat, zext, sext, cellAt}
 use Rattle.text_parts.specs.Text.{Ready}
-use Rattle.script_meaning.specs.Sexp.{Sexp, word, list, stop, _⨾_, show}
-use Rattle.script_meaning.specs.Script.{registerName, nameOf, sortBy, apply2, definition}
+use Rattle.script_meaning.specs.Sexp.{Sexp, show}
+use Rattle.script_meaning.specs.Script.{registerName, nameOf, sortBy, apply2, declareConst, assertion, definition}
 
 -- a Var has none
 abbrev pub lineBy : Kind → List ℕ → List ℕ
@@ -25,14 +25,14 @@ lineAt ws n = lineBy (cellAt ws n .kind) (show (definition ws n) ++ bytes "\n")
 
 -- the line that declares a register
 abbrev pub declaration : ℕ → Sexp
-declaration r = list (word (bytes "declare-const") ⨾ word (registerName r) ⨾ sortBy 128 ⨾ stop)
+declaration r = declareConst (registerName r) (sortBy 128)
 
 abbrev pub declarationLine : ℕ → List ℕ
 declarationLine r = show (declaration r) ++ bytes "\n"
 
 -- the last two lines
 abbrev pub claimLines : List ℕ → (x y : ℕ) → List ℕ
-claimLines ws x y = show (list (word (bytes "assert") ⨾ apply2 (bytes "distinct") (nameOf ws x) (nameOf ws y) ⨾ stop)) ++ bytes "\n(check-sat)\n"
+claimLines ws x y = show (assertion (apply2 (bytes "distinct") (nameOf ws x) (nameOf ws y))) ++ bytes "\n(check-sat)\n"
 
 -- each node below count may be written
 abbrev pub AllReady : List ℕ → ℕ → Type 0

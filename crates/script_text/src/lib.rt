@@ -53,7 +53,7 @@ fn put_binary(low: u64, high: u64, width: u64, buf: &mut [u8], at: usize) -> usi
 }
 
 // A node's own name, and a register's.
-fn put_node_name(n: u64, buf: &mut [u8], at: usize) -> usize
+pub fn put_node_name(n: u64, buf: &mut [u8], at: usize) -> usize
     requires { ⌜ Room (now buf) at (nodeName n) ⌝ }
     ensures { λ r. ⌜ Wrote (now (buf .entry)) at (nodeName n) r (now (buf .exit)) ⌝ }
 {
@@ -62,7 +62,7 @@ fn put_node_name(n: u64, buf: &mut [u8], at: usize) -> usize
 }
 
 // Bool, or (_ BitVec w).
-fn put_sort(width: u64, buf: &mut [u8], at: usize) -> usize
+pub fn put_sort(width: u64, buf: &mut [u8], at: usize) -> usize
     requires { ⌜ Room (now buf) at (show (sortBy width)) ⌝ }
     ensures { λ r. ⌜ Wrote (now (buf .entry)) at (show (sortBy width)) r (now (buf .exit)) ⌝ }
 {
@@ -152,7 +152,7 @@ fn put_three(p: &[u64], a: Node, b: Node, c: Node, buf: &mut [u8], at: usize) ->
 }
 
 // ((_ extract hi lo) a)
-fn put_cut(p: &[u64], a: Node, hi: u64, lo: u64, buf: &mut [u8], at: usize) -> usize
+pub fn put_cut(p: &[u64], a: Node, hi: u64, lo: u64, buf: &mut [u8], at: usize) -> usize
     requires { ⌜ 4 * a .0 + 3 < length (now p) ⌝ }
     requires { ⌜ Room (now buf) at (show (apply1 (index2 (bytes "extract") hi lo) (nameOf (now p) (a .0)))) ⌝ }
     ensures { λ r. ⌜ Wrote (now (buf .entry)) at (show (apply1 (index2 (bytes "extract") hi lo) (nameOf (now (p .entry)) (a .0)))) r (now (buf .exit)) ⌝ }
@@ -192,7 +192,7 @@ fn put_constant(low: u64, high: u64, width: u64, buf: &mut [u8], at: usize) -> u
 }
 
 // The term of a node that is no Var. k is the number of its kind.
-fn put_term(p: &[u64], n: Node, k: u64, buf: &mut [u8], at: usize) -> usize
+pub fn put_term(p: &[u64], n: Node, k: u64, buf: &mut [u8], at: usize) -> usize
     requires { ⌜ Ready (now p) (n .0) × (k ≡ kindNumber (now p) (n .0)) × (2 ≤ k) ⌝ }
     requires { ⌜ Room (now buf) at (show (termOf (now p) (n .0))) ⌝ }
     ensures { λ r. ⌜ Wrote (now (buf .entry)) at (show (termOf (now (p .entry)) (n .0))) r (now (buf .exit)) ⌝ }
@@ -243,7 +243,7 @@ fn put_declaration(r: u64, buf: &mut [u8], at: usize) -> usize
     put(b" (_ BitVec 128))\n", buf, j)
 }
 
-fn put_declarations(buf: &mut [u8], at: usize) -> usize
+pub fn put_declarations(buf: &mut [u8], at: usize) -> usize
     requires { ⌜ Room (now buf) at (upTo 32 declarationLine) ⌝ }
     ensures { λ e. ⌜ Wrote (now (buf .entry)) at (upTo 32 declarationLine) e (now (buf .exit)) ⌝ }
 {

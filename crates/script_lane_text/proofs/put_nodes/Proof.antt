@@ -1,0 +1,77 @@
+-- `put_nodes` writes the lines of the nodes below count. Assumes nothing.
+use mathlib.Core.Path.{_≡_, refl, _∙_, subst}
+use Prim.Native.Nat.{ℕ, _+_, _-_, _≤_, _<_}
+use native.Mathlib.Omega.{arith}
+use lib.ListN.{length}
+use Rattle.digits.specs.Writing.{Wrote}
+use Rattle.digits.proofs.Laws.{wrote-length}
+use Rattle.series.specs.Series.{upTo}
+use Rattle.series.proofs.Texts.{room-next, wrote-next, wrote-first}
+use Rattle.script_lane_text.specs.Lines.{linesAt}
+use Rattle.script_lane_text.proofs.put_nodes.Statement.{statement}
+use Rattle.script_lane_text.proofs.put_nodes.Tie as tie
+
+abbrev Inv-loop : tie.InvT-loop
+Inv-loop p count buf₀ at n₀ end₀ buf n end = Wrote buf₀ at (upTo n (linesAt p)) end buf × (n ≤ count) × (length buf ≡ length buf₀)
+
+abbrev μ-loop : tie.MeasureT-loop
+μ-loop p count buf₀ at n₀ end₀ buf n end = count - n
+
+loop-holds : tie.Need-loop-holds Inv-loop μ-loop
+loop-holds c =
+    let st = c .before .before in (wrote-first (linesAt (st .args .p .now)) (st .args .buf .now) (st .args .at), omega arith, refl)
+
+put-node-requires : tie.Need-put-node-requires Inv-loop μ-loop
+put-node-requires c κs =
+    let at-loop-test = c .before in
+    let at-loop = at-loop-test .before in
+    let st = at-loop .before .before .before in
+    let l = at-loop .loop in
+    let t = at-loop-test .loop-test .taken in
+    (st .pre .0 (l .n) t, room-next (linesAt (st .args .p .now)) (st .args .count) (l .n) t (st .pre .1) (l .inv .0))
+
+add-n : tie.Need-add-n Inv-loop μ-loop
+add-n c =
+    let at-loop-test = c .before .before .before .before in
+    omega (arith, at-loop-test .loop-test .taken)
+
+loop-less : tie.Need-loop-less Inv-loop μ-loop
+loop-less c =
+    let at-loop-test = c .before .before .before .before in
+    omega (arith, at-loop-test .loop-test .taken)
+
+loop-again : tie.Need-loop-again Inv-loop μ-loop
+loop-again c =
+    let at-put-node = c .before .before in
+    let at-loop-test = at-put-node .before .before in
+    let at-loop = at-loop-test .before in
+    let st = at-loop .before .before .before in
+    let l = at-loop .loop in
+    let w = at-put-node .put-node .ensures in
+    (wrote-next (linesAt (st .args .p .now)) (l .n) (l .inv .0) w, omega (arith, at-loop-test .loop-test .taken), wrote-length w ∙ l .inv .2)
+
+same-length : tie.Need-same-length Inv-loop μ-loop
+same-length c =
+    c .before .loop .inv .2
+
+returns : tie.Need-returns Inv-loop μ-loop
+returns c =
+    let at-loop = c .before in
+    let st = at-loop .before .before .before in
+    let l = at-loop .loop in
+    let e : l .n ≡ (st .args .count) = omega (arith, l .inv .1, c .loop-test .left) in
+    subst (λ (j : ℕ). Wrote (st .args .buf .now) (st .args .at) (upTo j (linesAt (st .args .p .now))) (l .end) (l .buf)) e (l .inv .0)
+
+pub put-nodes-spec : {M : Type 1} → statement M
+put-nodes-spec =
+    tie.close
+    (tie.spec
+    Inv-loop
+    μ-loop
+    loop-holds
+    put-node-requires
+    add-n
+    loop-less
+    loop-again
+    same-length
+    returns)
