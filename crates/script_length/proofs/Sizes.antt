@@ -80,11 +80,11 @@ pub no-lines : (ws : List ℕ) → length (upTo 0 (lineAt ws)) ≡ 0
 unfolding upTo
 no-lines ws = refl
 
-size-declarations : length (upTo 32 declarationLine) ≡ 1110
+pub size-declarations : length (upTo 32 declarationLine) ≡ 1110
 unfolding upTo decimal digitsTo show showAll showMore
 size-declarations = refl
 
-claimed : (a b : List ℕ) → length (bytes "(assert (distinct " ++ (a ++ (bytes " " ++ (b ++ bytes "))\n(check-sat)\n")))) ≡ length a + length b + 34
+pub claimed : (a b : List ℕ) → length (bytes "(assert (distinct " ++ (a ++ (bytes " " ++ (b ++ bytes "))\n(check-sat)\n")))) ≡ length a + length b + 34
 claimed a b = simp length-append (omega arith)
 
 size-claim : (ws : List ℕ) (x y : ℕ) → length (claimLines ws x y) ≡ length (nameOf ws x) + length (nameOf ws y) + 34

@@ -34,7 +34,7 @@ fn name_length(p: &[u64], n: Node) -> usize
 }
 
 // Bool, or (_ BitVec w).
-fn sort_length(width: u64) -> usize
+pub fn sort_length(width: u64) -> usize
     requires { ⌜ width < 1000 ⌝ }
     ensures { λ r. ⌜ (r ≡ length (show (sortBy width))) × (r ≤ 16) ⌝ }
 {
@@ -87,7 +87,7 @@ fn three_length(p: &[u64], a: Node, b: Node, c: Node) -> usize
 }
 
 // ((_ extract hi lo) a)
-fn cut_length(p: &[u64], a: Node, hi: u64, lo: u64) -> usize
+pub fn cut_length(p: &[u64], a: Node, hi: u64, lo: u64) -> usize
     requires { ⌜ Named (now p) (a .0) × (hi < 1000) × (lo < 1000) ⌝ }
     ensures { λ r. ⌜ (r ≡ length (show (apply1 (index2 (bytes "extract") hi lo) (nameOf (now (p .entry)) (a .0))))) × (r ≤ 131) ⌝ }
 {
@@ -103,7 +103,7 @@ fn extension_length(p: &[u64], k: u64, by: u64, a: Node) -> usize
 }
 
 // The term of a node that is no Var. k is the number of its kind.
-fn term_length(p: &[u64], n: Node, k: u64) -> usize
+pub fn term_length(p: &[u64], n: Node, k: u64) -> usize
     requires { ⌜ Named (now p) (n .0) × (k ≡ kindNumber (now p) (n .0)) × (2 ≤ k) ⌝ }
     ensures { λ r. ⌜ (r ≡ length (show (termOf (now (p .entry)) (n .0)))) × (r ≤ 131) ⌝ }
 {
