@@ -1,7 +1,6 @@
 -- The theorems of specs/Demand.antt: the registers of an accepted block, by their script. Assumes nothing.
-use mathlib.Core.Bool.{Bool, true, false, not, false≢true}
+use mathlib.Core.Bool.{true, not, false≢true}
 use mathlib.Core.List.{List}
-use mathlib.Core.Option.{Option, some, none}
 use mathlib.Core.Path.{_≡_, sym, ap, _∙_}
 use Prim.Native.Nat.{ℕ}
 use lib.Dec.{ltb, eqb}
@@ -13,7 +12,8 @@ use Rattle.pool.specs.Unfold.{unfoldAt}
 use Rattle.pool.specs.Growth.{NodeIs}
 use Rattle.register_map.specs.Map.{nodeOf}
 use Rattle.block.proofs.Equal.{registers-hold}
-use Rattle.script_meaning.specs.Meaning.{Script, script}
+use Rattle.script_meaning.specs.Meaning.{script}
+use Rattle.script_meaning.proofs.Stays.{holdsOf}
 use Rattle.script_length.specs.Answer.{chosen}
 use Rattle.script_length.proofs.Answers.{good-nodes}
 use Rattle.scripts.proofs.Means.{written-means}
@@ -30,11 +30,6 @@ registers-chosen old cs new a h z r r′ rest l l′ =
     let y = nodeOf (a .map) r′ in
     good-nodes new c x y rest (block .checked) (may-be-chosen new c x _ (block .terms r l)) (may-be-chosen new c y _ (block .terms r′ l′))
 
--- no script: no assertion that holds
-abbrev holds-of : Option Script → Bool
-holds-of (some s) = s .holds
-holds-of none = false
-
 pub differ-when-script-holds : DifferWhenScriptHolds
 differ-when-script-holds old cs new a h z r r′ l l′ buffer len out w start model m =
     let x = nodeOf (a .map) r in
@@ -46,6 +41,6 @@ differ-when-script-holds old cs new a h z r r′ l l′ buffer len out w start m
     let e′ = registers-hold old cs new a h z start r′ l′ in (
       λ differ. (script (read .names) (not (eqb vx vy)), read .meant-is, ap not (ne-eqb vx vy (λ q. differ (e ∙ q ∙ sym e′)))),
       λ holds same.
-          let holds-is : not (eqb vx vy) ≡ true = ap holds-of (sym (read .meant-is) ∙ holds .1) ∙ holds .2 in
+          let holds-is : not (eqb vx vy) ≡ true = ap holdsOf (sym (read .meant-is) ∙ holds .1) ∙ holds .2 in
           false≢true (sym (ap not (eq-eqb vx vy (sym e ∙ same ∙ e′))) ∙ holds-is),
     )
