@@ -1,0 +1,52 @@
+-- What the release desk may conclude from scripts by lanes: the statements. The Arm runs are fed a start and the records, the reader of
+-- scripts a model and bytes; neither knows anything of a pool.
+use mathlib.Core.List.{List}
+use mathlib.Core.Path.{_≡_}
+use Prim.Native.Nat.{ℕ, _+_, _-_, _*_, _^_, _<_}
+use lib.ListN.{take}
+use Rattle.neon.specs.declared.Instruction.{Instruction}
+use Rattle.neon.specs.Run.{armRun}
+use Rattle.register_map.specs.Map.{nodeOf}
+use Rattle.block.specs.declared.BlockAnswer.{BlockAnswer}
+use Rattle.join.specs.declared.Joined.{Joined}
+use Rattle.join.specs.Join.{moved}
+use Rattle.join_blocks.specs.Demand.{OfTwoBlocks}
+use Rattle.script_meaning.specs.Demand.{ModelOf, Holds}
+use Rattle.script_lanes.specs.Answer.{LaneAnswered}
+
+-- a script was written, and no model at all meets its assertions: what a solver says by "unsat"
+pub record Unmet (ws : List ℕ) (count x y hi lo : ℕ) : Type 0 where
+  pub buffer : List ℕ
+  pub len : ℕ
+  pub out : List ℕ
+  pub written : LaneAnswered ws count x y hi lo buffer 0 len out
+  pub unmet : (model : List ℕ → ℕ) → Holds model (take len out) → ⊥
+
+-- so it is for each of k lanes of w bits
+abbrev pub NoLaneMet : List ℕ → (count x y w k : ℕ) → Type 0
+NoLaneMet ws count x y w k = (i : ℕ) → i < k → Unmet ws count x y (w * i + (w - 1)) (w * i)
+
+-- P of every two accepted blocks whose pools are joined in `out`, and of register q after the first and q′ after the second: x and y are their nodes
+-- there. The registers that the Eq of the join was made of may be any.
+abbrev pub OfTwoRegisters : ((cs cs′ : List Instruction) (q q′ : ℕ) (out : List ℕ) (count x y : ℕ) → Type 0) → Type 0
+OfTwoRegisters P =
+    OfTwoBlocks (λ cs a r cs′ a′ r′ buffer out j.
+    j .number ≡ 0 → (q q′ : ℕ) → q < 32 → q′ < 32 → P cs cs′ q q′ out (j .count) (nodeOf (a .map) q) (moved (a .map .count) (nodeOf (a′ .map) q′)))
+
+-- a start of 128-bit registers
+abbrev pub Start : (ℕ → ℕ) → Type 0
+Start start = (r : ℕ) → r < 32 → start r < 2 ^ 128
+
+-- where no lane's script can be met, the registers after both Arm runs are equal at every start
+abbrev pub EqualWhenNoLaneIsMet : Type 0
+EqualWhenNoLaneIsMet =
+    OfTwoRegisters (λ cs cs′ q q′ out count x y.
+    (w k : ℕ) → w * k ≡ 128 → NoLaneMet out count x y w k → (start : ℕ → ℕ) → Start start → armRun cs start q ≡ armRun cs′ start q′)
+
+-- where a model of a start meets the script of some bits, they differ at that start
+abbrev pub DifferWhereALaneIsMet : Type 0
+DifferWhereALaneIsMet =
+    OfTwoRegisters (λ cs cs′ q q′ out count x y.
+    (hi lo : ℕ) (buffer : List ℕ) (len : ℕ) (text : List ℕ) → LaneAnswered out count x y hi lo buffer 0 len text
+    → (start : ℕ → ℕ) (model : List ℕ → ℕ) → ModelOf start model → Holds model (take len text)
+    → armRun cs start q ≡ armRun cs′ start q′ → ⊥)

@@ -1,0 +1,1 @@
+// Two routines by scripts: specs/ has the statements, proofs/ the theorems.
