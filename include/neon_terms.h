@@ -41,7 +41,7 @@ enum neon_number {
     NEON_NO_SUCH_OPERATION = 2, /* not 1 to 67 */
     NEON_NO_SUCH_FORM = 3,      /* no such arrangement, or the operation has none such */
     NEON_IMMEDIATE = 4,         /* i is not one of the form's */
-    NEON_SOURCE = 5,            /* a wanted node is not below the count or has another width; an unwanted one is not NEON_NO_NODE */
+    NEON_SOURCE = 5,            /* a wanted node is not below the count or has another width; an unwanted one is not NEON_NO_NODE; no cut of a lane */
     NEON_NO_ROOM = 6,           /* fewer than 768 free places; block of k: fewer than 32 + 768 * k places, with its bit 33 + 2,048 * k */
     NEON_REGISTER = 7,          /* above 31, m above 15 for an element of 16 bits, or m not 0 with no second source */
     NEON_LONG_BLOCK = 8,        /* more than 85 records, with a saturation bit more than 31 */
@@ -214,6 +214,22 @@ uint64_t neon_write_script(const uint64_t *pool, size_t words, size_t count, siz
 
 /* The length of the script alone, so that a buffer can be lent that fits: 1 and 5. */
 uint64_t neon_script_length(const uint64_t *pool, size_t words, size_t count, size_t a, size_t b, size_t *length);
+
+/* Scripts by lanes. The second form asks about the bits from hi down to lo of the two nodes, and has two commands for a node that is no Var:
+ *   (declare-const n40 (_ BitVec 64))
+ *   (assert (= n40 (bvlshr n38 n39)))
+ * and in the place of S-1's assertion
+ *   (assert (distinct ((_ extract 7 0) n90) ((_ extract 7 0) n91)))
+ * The assertions can be met exactly where the two lanes differ: where each of the 16 scripts of a byte is `unsat`, the nodes are equal. Both solvers
+ * keep what terms share, and a lane is often decided where all 128 bits are not. At most 192 bytes a node and 1,218 more. Numbers as for scripts; 5
+ * too where hi and lo are no cut of 128 bits, that is, lo <= hi < 128. */
+
+/* Writes the script to the front of `buffer`, with no zero byte after it; later bytes stay. */
+uint64_t neon_write_lane_script(const uint64_t *pool, size_t words, size_t count, size_t a, size_t b, uint64_t hi, uint64_t lo, uint8_t *buffer,
+                                size_t bytes, size_t *length);
+
+/* The length of the script alone: 1 and 5. */
+uint64_t neon_lane_script_length(const uint64_t *pool, size_t words, size_t count, size_t a, size_t b, uint64_t hi, uint64_t lo, size_t *length);
 
 #ifdef __cplusplus
 }

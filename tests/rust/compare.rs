@@ -93,7 +93,7 @@ struct Sample {
 }
 
 /// The samples in tests/stored that a judge makes, by name and number of cases; tests/stored/NAME.c reads NAME.in and writes NAME.out.
-const STORED: &[(&str, u64, fn(u64) -> Sample)] = &[("pools", 300, damage_part::stored), ("evaluate", 200, evaluate_part::stored), ("words", 300, words_part::stored), ("join", 60, join_part::stored), ("canonical", 120, canonical_part::stored), ("scripts", 200, script_part::stored)];
+const STORED: &[(&str, u64, fn(u64) -> Sample)] = &[("pools", 300, damage_part::stored), ("evaluate", 200, evaluate_part::stored), ("words", 300, words_part::stored), ("join", 60, join_part::stored), ("canonical", 120, canonical_part::stored), ("scripts", 200, script_part::stored), ("lane_scripts", 120, script_part::stored_lanes)];
 
 impl Part {
     /// The library has to make do with 8 MB of stack, whatever this machine gives the first thread.

@@ -26,6 +26,10 @@ unsafe extern "C" {
         pool: *const u64, words: usize, count: usize, a: usize, b: usize, buffer: *mut u8, bytes: usize, length: *mut usize,
     ) -> u64;
     fn neon_script_length(pool: *const u64, words: usize, count: usize, a: usize, b: usize, length: *mut usize) -> u64;
+    fn neon_write_lane_script(
+        pool: *const u64, words: usize, count: usize, a: usize, b: usize, hi: u64, lo: u64, buffer: *mut u8, bytes: usize, length: *mut usize,
+    ) -> u64;
+    fn neon_lane_script_length(pool: *const u64, words: usize, count: usize, a: usize, b: usize, hi: u64, lo: u64, length: *mut usize) -> u64;
 }
 
 const GUARDS: usize = 8;
@@ -211,17 +215,23 @@ pub fn run_block(start: &[u128; 32], records: &[u64]) -> (u64, u64, [u128; 32]) 
     (number, results.items()[0], std::array::from_fn(|r| u128::from(after[2 * r + 1]) << 64 | u128::from(after[2 * r])))
 }
 
-/// Number and length.
-pub fn write_script(pool: &[u64], count: usize, a: usize, b: usize, buffer: &mut Lent<u8>) -> (u64, usize) {
+/// Number and length of S-1's script, or of the bits `lane`.
+pub fn write_script(pool: &[u64], count: usize, [a, b]: [usize; 2], lane: Option<[u64; 2]>, buffer: &mut Lent<u8>) -> (u64, usize) {
     let (at, size) = buffer.lend();
     let mut length = 77;
-    let number = unsafe { neon_write_script(pool.as_ptr(), pool.len(), count, a, b, at, size, &mut length) };
+    let number = match lane {
+        None => unsafe { neon_write_script(pool.as_ptr(), pool.len(), count, a, b, at, size, &mut length) },
+        Some([hi, lo]) => unsafe { neon_write_lane_script(pool.as_ptr(), pool.len(), count, a, b, hi, lo, at, size, &mut length) },
+    };
     buffer.look();
     (number, length)
 }
 
-pub fn script_length(pool: &[u64], count: usize, a: usize, b: usize) -> (u64, usize) {
+pub fn script_length(pool: &[u64], count: usize, [a, b]: [usize; 2], lane: Option<[u64; 2]>) -> (u64, usize) {
     let mut length = 77;
-    let number = unsafe { neon_script_length(pool.as_ptr(), pool.len(), count, a, b, &mut length) };
+    let number = match lane {
+        None => unsafe { neon_script_length(pool.as_ptr(), pool.len(), count, a, b, &mut length) },
+        Some([hi, lo]) => unsafe { neon_lane_script_length(pool.as_ptr(), pool.len(), count, a, b, hi, lo, &mut length) },
+    };
     (number, length)
 }

@@ -1,5 +1,5 @@
-//! Scripts of pools, byte for byte, by a writer from document 02's S-1 alone; and what solvers
-//! answer to scripts.
+//! Scripts of pools in both forms, byte for byte, by a writer from document 02's S-1 and the header's words on lanes alone; and what
+//! solvers answer to scripts.
 use std::fmt::Write as _;
 use std::io::Write as _;
 use std::process::{Command, Stdio};
@@ -46,8 +46,11 @@ fn term(pool: &[u64], n: usize) -> String {
     format!("({function} {})", names.join(" "))
 }
 
+/// The bits from hi down to lo, or all of them by S-1's form.
+type Lane = Option<[u64; 2]>;
+
 /// The script of a valid pool.
-fn script(pool: &[u64], count: usize, a: usize, b: usize) -> String {
+fn script(pool: &[u64], count: usize, nodes: [usize; 2], lane: Lane) -> String {
     let mut text = "(set-logic QF_BV)\n".to_string();
     for r in 0..32 {
         writeln!(text, "(declare-const r{r} (_ BitVec 128))").expect("a string");
@@ -56,17 +59,27 @@ fn script(pool: &[u64], count: usize, a: usize, b: usize) -> String {
         let node = Node::at(pool, n);
         if node.kind != 1 {
             let sort = if node.width == 0 { "Bool".to_string() } else { format!("(_ BitVec {})", node.width) };
-            writeln!(text, "(define-fun n{n} () {sort} {})", term(pool, n)).expect("a string");
+            let term = term(pool, n);
+            match lane {
+                None => writeln!(text, "(define-fun n{n} () {sort} {term})"),
+                Some(_) => writeln!(text, "(declare-const n{n} {sort})\n(assert (= n{n} {term}))"),
+            }
+            .expect("a string");
         }
     }
-    writeln!(text, "(assert (distinct {} {}))\n(check-sat)", name(pool, a), name(pool, b)).expect("a string");
+    let [x, y] = nodes.map(|n| match lane {
+        None => name(pool, n),
+        Some([hi, lo]) => format!("((_ extract {hi} {lo}) {})", name(pool, n)),
+    });
+    writeln!(text, "(assert (distinct {x} {y}))\n(check-sat)").expect("a string");
     text
 }
 
 /// 1 or 5, or 0 where there is a script.
-fn number(pool: &[u64], count: usize, a: usize, b: usize) -> u64 {
+fn number(pool: &[u64], count: usize, nodes: [usize; 2], lane: Lane) -> u64 {
     let chosen = |n: usize| n < count && Node::at(pool, n).width == 128;
-    match (valid(pool, count), chosen(a) && chosen(b)) {
+    let cut = lane.is_none_or(|[hi, lo]| lo <= hi && hi <= 127);
+    match (valid(pool, count), nodes.into_iter().all(chosen) && cut) {
         (false, _) => 1,
         (true, false) => 5,
         (true, true) => 0,
@@ -75,25 +88,39 @@ fn number(pool: &[u64], count: usize, a: usize, b: usize) -> u64 {
 
 /// The script for a buffer of `room` bytes, or of as many as its length and `room` make: number, length and buffer are as document 02
 /// says. Returns the number.
-fn try_script(pool: &[u64], count: usize, [a, b]: [usize; 2], room: isize) -> u64 {
-    let refused = number(pool, count, a, b);
-    let want = if refused == 0 { script(pool, count, a, b) } else { String::new() };
-    assert_eq!(native::script_length(pool, count, a, b), (refused, want.len()), "{a} {b} {count} {pool:?}");
+fn try_script(pool: &[u64], count: usize, nodes: [usize; 2], lane: Lane, room: isize) -> u64 {
+    let refused = number(pool, count, nodes, lane);
+    let want = if refused == 0 { script(pool, count, nodes, lane) } else { String::new() };
+    assert_eq!(native::script_length(pool, count, nodes, lane), (refused, want.len()), "{nodes:?} {lane:?} {count} {pool:?}");
     let mut buffer = bytes(want.len().saturating_add_signed(room));
     let short = refused == 0 && buffer.items().len() < want.len();
     let number = if short { 9 } else { refused };
     let length = if number == 0 { want.len() } else { 0 };
-    assert_eq!(native::write_script(pool, count, a, b, &mut buffer), (number, length), "{a} {b} {count} {pool:?}");
+    assert_eq!(native::write_script(pool, count, nodes, lane, &mut buffer), (number, length), "{nodes:?} {lane:?} {count} {pool:?}");
     if number == 0 {
-        assert!(&buffer.items()[..length] == want.as_bytes(), "the script of {a} and {b} differs: {count} {pool:?}");
+        assert!(&buffer.items()[..length] == want.as_bytes(), "the script of {nodes:?} {lane:?} differs: {count} {pool:?}");
     }
     assert!(buffer.items()[length..].iter().all(|&x| x == OLD), "a byte past the script changed");
     number
 }
 
+/// The bits of a lane, mostly ones that there are.
+fn lane(r: &mut Rng) -> [u64; 2] {
+    let [x, y] = [(); 2].map(|()| r.below(128));
+    match r.below(12) {
+        0 => [x.min(y), x.max(y)],
+        1 => [r.one_of(&[128, 129, 1000, 1 << 32, u64::MAX]), y],
+        2 => [x, r.one_of(&[128, 1 << 32, u64::MAX])],
+        3 => [127, 0],
+        4..8 => [y | 7, y & !7],
+        _ => [x.max(y), x.min(y)],
+    }
+}
+
 #[derive(Default)]
 struct Seen {
     numbers: [u64; 14],
+    lanes: [u64; 14],
     kinds: [u64; 20],
     widest: u64,
     late_vars: u64,
@@ -142,7 +169,9 @@ fn try_random(r: &mut Rng, seen: &mut Seen) {
         pool[at] ^= 1 << r.below(64);
     }
     let room = r.one_of(&[0, 0, 1, 70, -1, -30, isize::MIN]);
-    let number = try_script(&pool, count, chosen, room);
+    let by_lane = lane(r);
+    seen.lanes[try_script(&pool, count, chosen, Some(by_lane), room) as usize] += 1;
+    let number = try_script(&pool, count, chosen, None, room);
     seen.numbers[number as usize] += 1;
     if number == 0 {
         for (n, node) in nodes.iter().enumerate() {
@@ -166,7 +195,9 @@ fn try_block(r: &mut Rng, long: u64) -> usize {
     let records: Vec<Record> = (0..long).map(|_| record(r, 32)).collect();
     let (pool, results) = lowered(&records);
     let chosen = [(); 2].map(|()| results[r.below(32) as usize] as usize);
-    assert_eq!(try_script(&pool, results[32] as usize, chosen, 0), 0);
+    for lane in [None, Some([127, 120])] {
+        assert_eq!(try_script(&pool, results[32] as usize, chosen, lane, 0), 0);
+    }
     results[32] as usize
 }
 
@@ -214,7 +245,8 @@ fn ask(solver: (&str, &[&str]), script: &str, start: &[u128; 32], differ: bool) 
     Some(())
 }
 
-/// Two registers after a block of one or two records: the solvers say that they differ exactly where they do after the Arm run.
+/// Two registers after a block of one or two records: the solvers say that they differ, and that a lane does, exactly where they do after the
+/// Arm run.
 fn try_solvers(r: &mut Rng, count: u64) {
     let mut answers = [0; 2];
     let mut missing = [false; 2];
@@ -222,22 +254,27 @@ fn try_solvers(r: &mut Rng, count: u64) {
         let records: Vec<Record> = (0..1 + r.below(2)).map(|_| record(r, 4)).collect();
         let (pool, results) = lowered(&records);
         let registers = [(); 2].map(|()| r.below(4) as usize);
-        let [a, b] = registers.map(|register| results[register] as usize);
+        let nodes = registers.map(|register| results[register] as usize);
         let count = results[32] as usize;
-        assert_eq!(try_script(&pool, count, [a, b], 0), 0);
-        let mut buffer = bytes(native::script_length(&pool, count, a, b).1);
-        native::write_script(&pool, count, a, b, &mut buffer);
-        let script = String::from_utf8(buffer.items().to_vec()).expect("text");
+        let byte = 8 * r.below(16);
+        let scripts = [None, Some([byte + 7, byte])].map(|lane| {
+            assert_eq!(try_script(&pool, count, nodes, lane, 0), 0);
+            let mut buffer = bytes(native::script_length(&pool, count, nodes, lane).1);
+            native::write_script(&pool, count, nodes, lane, &mut buffer);
+            String::from_utf8(buffer.items().to_vec()).expect("text")
+        });
         // one number in all registers, now and then: so some registers are equal
         let one = r.wide() & r.one_of(&[0, 1, u128::MAX]);
         let start: [u128; 32] = if r.below(2) == 0 { [one; 32] } else { std::array::from_fn(|_| r.wide()) };
         let mut after = start;
         let block: Vec<forms::Record> = records.iter().map(oracle_record).collect();
         arm::run(&block, &mut after);
-        let differ = after[registers[0]] != after[registers[1]];
-        answers[usize::from(differ)] += 1;
-        for (solver, missing) in SOLVERS.into_iter().zip(&mut missing) {
-            *missing |= ask(solver, &script, &start, differ).is_none();
+        let [x, y] = registers.map(|register| after[register]);
+        for (script, differ) in scripts.iter().zip([x != y, (x >> byte) as u8 != (y >> byte) as u8]) {
+            answers[usize::from(differ)] += 1;
+            for (solver, missing) in SOLVERS.into_iter().zip(&mut missing) {
+                *missing |= ask(solver, script, &start, differ).is_none();
+            }
         }
     }
     assert!(answers.iter().all(|&n| n > 0), "scripts: registers equal and different {answers:?} times");
@@ -245,7 +282,7 @@ fn try_solvers(r: &mut Rng, count: u64) {
         if missing {
             println!("skipped: scripts for {solver} (no {solver})");
         } else {
-            println!("scripts: {solver} takes {count} of them as they are, and says at a start of each what the Arm run says ({answers:?} equal, different)");
+            println!("scripts: {solver} takes {count} of each form as they are, and says at a start what the Arm run says ({answers:?} equal, different)");
         }
     }
 }
@@ -256,18 +293,20 @@ pub fn main(count: u64) {
     for _ in 0..count {
         try_random(&mut r, &mut seen);
     }
-    for (number, &times) in seen.numbers.iter().enumerate() {
+    for (number, &times) in seen.numbers.iter().enumerate().chain(seen.lanes.iter().enumerate()) {
         assert_eq!(times > 0, [0, 1, 5, 9].contains(&number), "scripts: {number} was given {times} times");
     }
     assert!(seen.kinds[1..].iter().all(|&n| n > 0) && seen.widest == 129 && seen.late_vars > 0, "scripts: not every kind of node came up");
-    println!("scripts: {count} random pools, answers by number {:?}, all as the judge's; of each kind so many nodes {:?}", seen.numbers, &seen.kinds[1..]);
+    println!("scripts: {count} random pools, answers by number {:?}, by lanes {:?}, all as the judge's; of each kind so many nodes {:?}", seen.numbers, seen.lanes, &seen.kinds[1..]);
     let blocks = count / 100 + 8;
     let nodes: usize = (0..blocks).map(|turn| try_block(&mut r, turn * 7 % 86)).sum();
     println!("scripts: {blocks} pools of blocks of 0 to 85 records, {nodes} nodes");
     let largest = random_pool(&mut r, 65_535);
     let wide: Vec<usize> = (0..largest.len()).filter(|&n| largest[n].width == 128).collect();
     let chosen = [r.one_of(&wide), *wide.last().expect("a wide node")];
-    assert_eq!(try_script(&pool_words(&largest), 65_535, chosen, 0), 0);
+    for lane in [None, Some([127, 120])] {
+        assert_eq!(try_script(&pool_words(&largest), 65_535, chosen, lane, 0), 0);
+    }
     println!("scripts: the pool of 65,535 nodes");
     try_solvers(&mut r, count / 500 + 12);
 }
@@ -279,24 +318,34 @@ fn hash(text: &[u8]) -> u64 {
 
 /// The sample for tests/stored/scripts: pools, chosen nodes and rooms; the number, the length and the script's hash.
 pub fn stored(count: u64) -> Sample {
-    let mut r = Rng(0x1f83_d9ab_fb41_bd6b);
+    sample(Rng(0x1f83_d9ab_fb41_bd6b), count, |_| None)
+}
+
+/// The sample for tests/stored/lane_scripts, with the bits after the nodes.
+pub fn stored_lanes(count: u64) -> Sample {
+    sample(Rng(0x5be0_cd19_137e_2179), count, |r| Some(lane(r)))
+}
+
+fn sample(mut r: Rng, count: u64, lane: fn(&mut Rng) -> Lane) -> Sample {
     let (mut input, mut answers, mut seen) = (String::new(), String::new(), [0; 14]);
     for _ in 0..count {
         let many = 1 + r.below(60) as usize;
         let nodes = random_pool(&mut r, many);
         let [a, b] = choose(&mut r, &nodes);
+        let lane = lane(&mut r);
         let mut pool = pool_words(&nodes);
         if r.below(8) == 0 {
             let at = r.below(pool.len() as u64) as usize;
             pool[at] ^= 1 << r.below(64);
         }
-        let refused = number(&pool, many, a, b);
-        let text = if refused == 0 { script(&pool, many, a, b) } else { String::new() };
+        let refused = number(&pool, many, [a, b], lane);
+        let text = if refused == 0 { script(&pool, many, [a, b], lane) } else { String::new() };
         let room = text.len().saturating_add_signed(r.one_of(&[0, 9, -1, isize::MIN]));
         let number = if refused == 0 && room < text.len() { 9 } else { refused };
         let (length, hash) = if number == 0 { (text.len(), hash(text.as_bytes())) } else { (0, hash(b"")) };
         let body: Vec<String> = pool.iter().map(|w| format!("{w:x}")).collect();
-        input += &format!("{} {many} {a} {b} {room} {}\n", pool.len(), body.join(" "));
+        let bits = lane.map_or(String::new(), |[hi, lo]| format!("{hi} {lo} "));
+        input += &format!("{} {many} {a} {b} {bits}{room} {}\n", pool.len(), body.join(" "));
         answers += &format!("{number} {length} {} {hash:x}\n", text.len());
         seen[number as usize] += 1;
     }

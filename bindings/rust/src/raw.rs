@@ -64,6 +64,10 @@ unsafe extern "C" {
         pool: *const u64, words: usize, count: usize, a: usize, b: usize, buffer: *mut u8, bytes: usize, length: *mut usize,
     ) -> u64;
     fn neon_script_length(pool: *const u64, words: usize, count: usize, a: usize, b: usize, length: *mut usize) -> u64;
+    fn neon_write_lane_script(
+        pool: *const u64, words: usize, count: usize, a: usize, b: usize, hi: u64, lo: u64, buffer: *mut u8, bytes: usize, length: *mut usize,
+    ) -> u64;
+    fn neon_lane_script_length(pool: *const u64, words: usize, count: usize, a: usize, b: usize, hi: u64, lo: u64, length: *mut usize) -> u64;
 }
 
 pub fn form_code(operation: u64, arrangement: u64) -> u64 {
@@ -177,5 +181,20 @@ pub fn write_script(pool: &[u64], count: usize, [a, b]: [usize; 2], buffer: &mut
 pub fn script_length(pool: &[u64], count: usize, [a, b]: [usize; 2]) -> (u64, usize) {
     let mut length = 0;
     let number = unsafe { neon_script_length(pool.as_ptr(), pool.len(), count, a, b, &mut length) };
+    (number, length)
+}
+
+/// Number and length.
+pub fn write_lane_script(pool: &[u64], count: usize, [a, b]: [usize; 2], [hi, lo]: [u64; 2], buffer: &mut [u8]) -> (u64, usize) {
+    let mut length = 0;
+    let (at, bytes) = (buffer.as_mut_ptr(), buffer.len());
+    let number = unsafe { neon_write_lane_script(pool.as_ptr(), pool.len(), count, a, b, hi, lo, at, bytes, &mut length) };
+    (number, length)
+}
+
+/// Number and length.
+pub fn lane_script_length(pool: &[u64], count: usize, [a, b]: [usize; 2], [hi, lo]: [u64; 2]) -> (u64, usize) {
+    let mut length = 0;
+    let number = unsafe { neon_lane_script_length(pool.as_ptr(), pool.len(), count, a, b, hi, lo, &mut length) };
     (number, length)
 }

@@ -1,4 +1,4 @@
-//! A pool as an SMT-LIB script.
+//! A pool as an SMT-LIB script, in two forms.
 
 use crate::{Node, Pool, Refusal, answer, raw};
 
@@ -36,6 +36,45 @@ impl Pool {
     /// Writes the script to the front of a buffer, and returns its length.
     pub fn write_script(&self, a: Node, b: Node, buffer: &mut [u8]) -> Result<usize, Refusal> {
         let (number, length) = raw::write_script(&self.words, self.count, [a.0, b.0], buffer);
+        answer(number)?;
+        Ok(length)
+    }
+    /// The QF_BV script that asks a solver whether the nodes a and b, of 128 bits, can differ in the bits from hi down to lo: a constant and an
+    /// equation a node, so that solvers keep what terms share. The nodes are equal at every start where no lane's script can be met.
+    ///
+    /// ```
+    /// use neon_terms::{Arrangement, Number, Pool, Record};
+    /// // sqadd v0.16b, v1.16b, v2.16b, and the same to v3 with the sources exchanged
+    /// let record = Record { operation: 19, arrangement: Arrangement::B16 as u64, i: 0, d: 0, n: 1, m: 2 };
+    /// let (pool, registers) = Pool::from_block(&[record, Record { d: 3, n: 2, m: 1, ..record }])?;
+    /// let (a, b) = (registers[0], registers[3]);
+    /// for lane in 0..16 {
+    ///     let (hi, lo) = (8 * lane + 7, 8 * lane);
+    ///     let script = pool.lane_script(a, b, hi, lo)?;
+    ///     assert!(script.contains("(declare-const n32 (_ BitVec 8))\n(assert (= n32 ((_ extract 7 0) r1)))\n"));
+    ///     let cut = format!("(_ extract {hi} {lo})");
+    ///     assert!(script.ends_with(&format!("(assert (distinct ({cut} n{}) ({cut} n{})))\n(check-sat)\n", a.0, b.0)));
+    /// }
+    /// // no cut of 128 bits
+    /// assert_eq!(pool.lane_script(a, b, 128, 121).unwrap_err().number, Number::Source);
+    /// # Ok::<(), neon_terms::Refusal>(())
+    /// ```
+    pub fn lane_script(&self, a: Node, b: Node, hi: u64, lo: u64) -> Result<String, Refusal> {
+        let mut buffer = vec![0; self.lane_script_length(a, b, hi, lo)?];
+        self.write_lane_script(a, b, hi, lo, &mut buffer)?;
+        Ok(String::from_utf8(buffer).expect("the script is ASCII"))
+    }
+
+    /// The length of the script.
+    pub fn lane_script_length(&self, a: Node, b: Node, hi: u64, lo: u64) -> Result<usize, Refusal> {
+        let (number, length) = raw::lane_script_length(&self.words, self.count, [a.0, b.0], [hi, lo]);
+        answer(number)?;
+        Ok(length)
+    }
+
+    /// Writes the script to the front of a buffer, and returns its length.
+    pub fn write_lane_script(&self, a: Node, b: Node, hi: u64, lo: u64, buffer: &mut [u8]) -> Result<usize, Refusal> {
+        let (number, length) = raw::write_lane_script(&self.words, self.count, [a.0, b.0], [hi, lo], buffer);
         answer(number)?;
         Ok(length)
     }
