@@ -67,7 +67,7 @@ equal-when-no-lane-is-met old cs new a A z old′ cs′ new′ a′ A′ z′ r 
     let fy = subst (λ (v : ℕ). v < 2 ^ 128) vy (registers-fit old′ cs′ new′ a′ A′ z′ start bits q′ l′) in
     vx
     ∙ lanes-equal w (value start (unfoldAt out x)) (value start (unfoldAt out y)) (some-bits w k p) k 128 p fx fy
-    (λ i g. lane-equal out (j .count) x y (w * i + (w - 1)) (w * i) (unmet i g) start bits)
+    (λ i g. lane-equal out (j .count) x y (w * i + (w - 1)) (w * i) (unmet i (omega (arith, g))) start bits)
     ∙ sym vy
 
 pub differ-where-a-lane-is-met : DifferWhereALaneIsMet

@@ -2,7 +2,7 @@
 use mathlib.Core.Path.{_≡_}
 use mathlib.Core.Bool.{true}
 use mathlib.Core.List.{List}
-use Prim.Native.Nat.{ℕ, zero, suc, _+_}
+use Prim.Native.Nat.{ℕ, zero, suc, _+_, _≤_}
 use native.Mathlib.Omega.{arith}
 use Rattle.pool.specs.Node.{cellAt, widthAt}
 use Rattle.pool.specs.Rules.{Valid}
@@ -11,7 +11,7 @@ use Rattle.script_meaning.specs.Script.{termOf, definedBy}
 use Rattle.script_meaning.proofs.Reading.{fine, fineAll}
 use Rattle.script_meaning.proofs.Names.{decimal-plain}
 use Rattle.script_meaning.proofs.Fine.{plain-decimal, fine-sort, plain-at, fine-command, fine-declarations}
-use Rattle.script_lane_meaning.specs.LaneScript.{constant, equation, equations, laneCommands}
+use Rattle.script_lane_meaning.specs.LaneScript.{constant, equation, equations, defining, laneCommands}
 
 module _ (ws : List ℕ) (count : ℕ) (valid : Valid ws count) where
   fine-constant : (n : ℕ) → fine (constant ws n) ≡ true
@@ -22,7 +22,7 @@ module _ (ws : List ℕ) (count : ℕ) (valid : Valid ws count) where
   unfolding fine
   fine-equation n h = rw (decimal-plain n, h)
 
-  fine-equations : (k n : ℕ) (rest : Items) → n + k ≡ count → fineAll rest ≡ true → fineAll (equations ws k n rest) ≡ true
+  fine-equations : (k n : ℕ) (rest : Items) → n + k ≤ count → fineAll rest ≡ true → fineAll (equations ws k n rest) ≡ true
   unfolding equations
   fine-equations zero n rest e h = h
   fine-equations (suc k) n rest e h =
@@ -35,4 +35,4 @@ module _ (ws : List ℕ) (count : ℕ) (valid : Valid ws count) where
   unfolding laneCommands fine
   fine-script x y hi lo =
       fine-declarations ws count valid 32 0 _
-      (fine-equations count 0 _ (omega arith) (rw (plain-decimal hi, plain-decimal lo, plain-at ws count valid x, plain-at ws count valid y)))
+      (fine-equations (defining count) 0 _ (omega arith) (rw (plain-decimal hi, plain-decimal lo, plain-at ws count valid x, plain-at ws count valid y)))

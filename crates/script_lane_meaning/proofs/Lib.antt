@@ -2,3 +2,4 @@ pub mod Values
 pub mod Fine
 pub mod Run
 pub mod Script
+pub mod Example

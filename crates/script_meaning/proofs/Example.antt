@@ -9,7 +9,7 @@ use Rattle.pool.specs.Rules.{okPool, poolOk}
 use Rattle.script_meaning.specs.Sexp.{show, showLines}
 use Rattle.script_meaning.specs.Script.{binary, declarations, definitions, commandsOf, scriptOf}
 
-pool : List ℕ
+unfoldable pub pool : List ℕ
 pool =
     4303355905 ∷ 0 ∷ 0 ∷ 0 ∷ 8598323201 ∷ 0 ∷ 1 ∷ 0 ∷ 17188257793 ∷ 0 ∷ 2 ∷ 0 ∷ 34368126977 ∷ 0 ∷ 3 ∷ 0 ∷ 68727865345 ∷ 0 ∷ 4 ∷ 0
     ∷ 137447342081 ∷ 0 ∷ 5 ∷ 0 ∷ 274886295553 ∷ 0 ∷ 6 ∷ 0 ∷ 549764202497 ∷ 0 ∷ 7 ∷ 0 ∷ 1099520016385 ∷ 0 ∷ 8 ∷ 0
