@@ -4,14 +4,23 @@ use mathlib.Core.Bool.{true}
 use mathlib.Core.List.{List}
 use Prim.Native.Nat.{ℕ, zero, suc, _+_, _≤_}
 use native.Mathlib.Omega.{arith}
+use Rattle.terms.specs.Display.{bytes}
 use Rattle.pool.specs.Node.{cellAt, widthAt}
 use Rattle.pool.specs.Rules.{Valid}
-use Rattle.script_meaning.specs.Sexp.{Items}
-use Rattle.script_meaning.specs.Script.{termOf, definedBy}
+use Rattle.script_meaning.specs.Sexp.{Sexp, word, Items, stop, _⨾_}
+use Rattle.script_meaning.specs.Script.{nodeName, applyTo, termOf, assertion, definedBy, checkSat}
 use Rattle.script_meaning.proofs.Reading.{fine, fineAll}
 use Rattle.script_meaning.proofs.Names.{decimal-plain}
 use Rattle.script_meaning.proofs.Fine.{plain-decimal, fine-sort, plain-at, fine-command, fine-declarations}
-use Rattle.script_lane_meaning.specs.LaneScript.{constant, equation, equations, defining, laneCommands}
+use Rattle.script_lane_meaning.specs.LaneScript.{constant, equation, equations, defining, laneOf, laneClaim, laneCommands}
+
+fine-equal : (n : ℕ) (t : Sexp) → fine t ≡ true → fine (assertion (applyTo (bytes "=") (word (nodeName n)) t)) ≡ true
+unfolding fine
+fine-equal n t h = rw (decimal-plain n, h)
+
+fine-distinct : (s t : Sexp) → fine s ≡ true → fine t ≡ true → fineAll (assertion (applyTo (bytes "distinct") s t) ⨾ checkSat ⨾ stop) ≡ true
+unfolding fine
+fine-distinct s t p q = rw (p, q)
 
 module _ (ws : List ℕ) (count : ℕ) (valid : Valid ws count) where
   fine-constant : (n : ℕ) → fine (constant ws n) ≡ true
@@ -19,8 +28,7 @@ module _ (ws : List ℕ) (count : ℕ) (valid : Valid ws count) where
   fine-constant n = rw (decimal-plain n, fine-sort (widthAt ws n))
 
   fine-equation : (n : ℕ) → fine (termOf ws n) ≡ true → fine (equation ws n) ≡ true
-  unfolding fine
-  fine-equation n h = rw (decimal-plain n, h)
+  fine-equation n h = fine-equal _ _ h
 
   fine-equations : (k n : ℕ) (rest : Items) → n + k ≤ count → fineAll rest ≡ true → fineAll (equations ws k n rest) ≡ true
   unfolding equations
@@ -31,8 +39,13 @@ module _ (ws : List ℕ) (count : ℕ) (valid : Valid ws count) where
       fine-command ws count valid n (constant ws n) second (omega arith) (λ _. fine-constant n)
       (fine-command ws count valid n (equation ws n) (equations ws k (suc n) rest) (omega arith) (fine-equation n) more)
 
+  fine-lane : (hi lo n : ℕ) → fine (laneOf ws hi lo n) ≡ true
+  unfolding fine
+  fine-lane hi lo n = rw (plain-decimal hi, plain-decimal lo, plain-at ws count valid n)
+
+  fine-claim : (x y hi lo : ℕ) → fineAll (laneClaim ws x y hi lo ⨾ checkSat ⨾ stop) ≡ true
+  fine-claim x y hi lo = fine-distinct _ _ (fine-lane hi lo _) (fine-lane hi lo _)
+
   pub fine-script : (x y hi lo : ℕ) → fineAll (laneCommands ws count x y hi lo) ≡ true
   unfolding laneCommands fine
-  fine-script x y hi lo =
-      fine-declarations ws count valid 32 0 _
-      (fine-equations (defining count) 0 _ (omega arith) (rw (plain-decimal hi, plain-decimal lo, plain-at ws count valid x, plain-at ws count valid y)))
+  fine-script x y hi lo = fine-declarations ws count valid 32 0 _ (fine-equations (defining count) 0 _ (omega arith) (fine-claim x y hi lo))

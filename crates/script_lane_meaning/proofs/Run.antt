@@ -24,7 +24,7 @@ use Rattle.script_meaning.proofs.Commands.{fresh-node, declare-step, declare-ot
 use Rattle.script_meaning.proofs.Registers.{Names}
 use Rattle.script_meaning.proofs.Nodes.{valueAt, meaningAt, Defined, term-reads, var-named, next, before-past, with-node}
 use Rattle.script_meaning.proofs.Stays.{holdsOf, run-fails}
-use Rattle.script_lane_meaning.specs.LaneScript.{constant, equation, equations}
+use Rattle.script_lane_meaning.specs.LaneScript.{constant, equality, equation, equations}
 
 -- ---- the commands of a node
 
@@ -52,8 +52,7 @@ module _ (ws : List ℕ) (count : ℕ) (valid : Valid ws count) (regs : ℕ → 
   with-constant env n = nodeName n ↦ᵉ meaning (widthAt ws n) (model (nodeName n)) ∷ env
 
   equation-reads : (env : Names) (n : ℕ) → n < count → Known env n → isVar (cellAt ws n .kind) ≡ false
-      → term (applyTo (bytes "=") (word (nodeName n)) (termOf ws n)) (with-constant env n)
-      ≡ some (meaning 0 (bit (eqb (model (nodeName n)) (is n))))
+      → term (equality ws n) (with-constant env n) ≡ some (meaning 0 (bit (eqb (model (nodeName n)) (is n))))
   unfolding find functions applied term
   equation-reads env n h d v =
       let c = meaning (widthAt ws n) (model (nodeName n)) in
@@ -68,7 +67,7 @@ module _ (ws : List ℕ) (count : ℕ) (valid : Valid ws count) (regs : ℕ → 
   unfolding run
   both env n xs h d v l =
       let first = declare-step model env true (nodeName n) (widthAt ws n) l (fresh-node env n (d .free n (omega arith))) in
-      let second = assert-step model (with-constant env n) true (applyTo (bytes "=") (word (nodeName n)) (termOf ws n)) (eqb (model (nodeName n)) (is n)) (equation-reads env n h d v) in
+      let second = assert-step model (with-constant env n) true (equality ws n) (eqb (model (nodeName n)) (is n)) (equation-reads env n h d v) in
       ap (λ (o : Option Script). andThen o (λ s. run model (equation ws n ⨾ xs) s)) first ∙ ap (λ (o : Option Script). andThen o (λ s. run model xs s)) second
 
   -- ---- a model with the nodes' values

@@ -15,7 +15,7 @@ use Rattle.pool.specs.Rules.{Valid}
 use Rattle.pool.specs.Unfold.{unfoldAt}
 use Rattle.script_meaning.specs.Sexp.{Items, stop, _⨾_}
 use Rattle.script_meaning.specs.Meaning.{andThen, Meaning, meaning, Entry, find, functions, indexed, cut, distinct, applied, appliedAt, term, commands, Script, script, done, run, begun, meant}
-use Rattle.script_meaning.specs.Script.{nodeName, nameOf, applyTo, checkSat, declarations}
+use Rattle.script_meaning.specs.Script.{nodeName, nameOf, checkSat, declarations}
 use Rattle.script_meaning.specs.Demand.{ModelOf, Holds}
 use Rattle.script_meaning.proofs.Reading.{read-lines}
 use Rattle.script_meaning.proofs.Vars.{isVar, is-var, name-other}
@@ -24,7 +24,7 @@ use Rattle.script_meaning.proofs.Commands.{assert-step}
 use Rattle.script_meaning.proofs.Registers.{Names, nothing, AllDeclared, declare}
 use Rattle.script_meaning.proofs.Nodes.{Defined, before, atom-is, is-register}
 use Rattle.script_meaning.proofs.Stays.{holdsOf}
-use Rattle.script_lane_meaning.specs.LaneScript.{equations, defining, laneOf, laneClaim, laneCommands, laneScriptOf}
+use Rattle.script_lane_meaning.specs.LaneScript.{equations, defining, laneOf, lanesDiffer, laneClaim, laneCommands, laneScriptOf}
 use Rattle.script_lane_meaning.specs.Demand.{laneAt, Met, Solved, LaneScriptMeans}
 use Rattle.script_lane_meaning.proofs.Values.{value-fits, poolModel, model-register, model-node}
 use Rattle.script_lane_meaning.proofs.Fine.{fine-script}
@@ -51,14 +51,17 @@ module _ (ws : List ℕ) (count : ℕ) (valid : Valid ws count) (x y : ℕ) (hx 
       indexed-2 env (bytes "extract") (nameOf ws n) hi lo cut (meaning (widthAt ws n) (value start (unfoldAt ws n))) refl name-is
       ∙ rw (le-leb lo hi h, w, lt-ltb hi 128 g)
 
-  claimed : (model : List ℕ → ℕ) (env : Names) → Defined ws count valid start env count → run model claim (script env true) ≡ some (script env differ)
-  unfolding run find functions commands done applied
-  claimed model env d =
+  claim-reads : (env : Names) → Defined ws count valid start env count → term (lanesDiffer ws x y hi lo) env ≡ some (meaning 0 (bit differ))
+  unfolding find functions applied
+  claim-reads env d =
       let cut-of : ℕ → Meaning = λ n. meaning (suc (hi - lo)) (laneAt ws start hi lo n) in
-      let t = two-terms env (bytes "distinct") (laneOf ws hi lo x) (laneOf ws hi lo y) distinct (cut-of x) (cut-of y) refl (lane-reads env x d hx wx) (lane-reads env y d hy wy) in
-      let claim-is = applyTo (bytes "distinct") (laneOf ws hi lo x) (laneOf ws hi lo y) in
-      let step = assert-step model env true claim-is differ (t ∙ rw (eq-eqb (suc (hi - lo)) (suc (hi - lo)) refl)) in
-      ap (λ (o : Option Script). andThen o (λ s. run model (checkSat ⨾ stop) s)) step
+      two-terms env (bytes "distinct") (laneOf ws hi lo x) (laneOf ws hi lo y) distinct (cut-of x) (cut-of y) refl (lane-reads env x d hx wx) (lane-reads env y d hy wy)
+      ∙ rw (eq-eqb (suc (hi - lo)) (suc (hi - lo)) refl)
+
+  claimed : (model : List ℕ → ℕ) (env : Names) → Defined ws count valid start env count → run model claim (script env true) ≡ some (script env differ)
+  unfolding run find commands done
+  claimed model env d =
+      ap (λ (o : Option Script). andThen o (λ s. run model (checkSat ⨾ stop) s)) (assert-step model env true (lanesDiffer ws x y hi lo) differ (claim-reads env d))
 
   -- ---- the whole script
 

@@ -11,9 +11,12 @@ use Rattle.script_meaning.specs.Script.{nodeName, nameOf, apply1, applyTo, inde
 abbrev pub constant : List ℕ → ℕ → Sexp
 constant ws n = declareConst (nodeName n) (sortBy (widthAt ws n))
 
--- (assert (= n40 (bvlshr n38 n39)))
+-- (= n40 (bvlshr n38 n39))
+abbrev pub equality : List ℕ → ℕ → Sexp
+equality ws n = applyTo (bytes "=") (word (nodeName n)) (termOf ws n)
+
 abbrev pub equation : List ℕ → ℕ → Sexp
-equation ws n = assertion (applyTo (bytes "=") (word (nodeName n)) (termOf ws n))
+equation ws n = assertion (equality ws n)
 
 -- the constants and equations of k nodes from node n on, and what follows them; a Var has none
 unfoldable pub equations : List ℕ → (k n : ℕ) → Items → Items
@@ -29,8 +32,11 @@ defining count = count
 abbrev pub laneOf : List ℕ → (hi lo x : ℕ) → Sexp
 laneOf ws hi lo x = apply1 (index2 (bytes "extract") hi lo) (nameOf ws x)
 
+abbrev pub lanesDiffer : List ℕ → (x y hi lo : ℕ) → Sexp
+lanesDiffer ws x y hi lo = applyTo (bytes "distinct") (laneOf ws hi lo x) (laneOf ws hi lo y)
+
 abbrev pub laneClaim : List ℕ → (x y hi lo : ℕ) → Sexp
-laneClaim ws x y hi lo = assertion (applyTo (bytes "distinct") (laneOf ws hi lo x) (laneOf ws hi lo y))
+laneClaim ws x y hi lo = assertion (lanesDiffer ws x y hi lo)
 
 unfoldable pub laneCommands : List ℕ → (count x y hi lo : ℕ) → Items
 laneCommands ws count x y hi lo = setLogic ⨾ declarations 32 0 (equations ws (defining count) 0 (laneClaim ws x y hi lo ⨾ checkSat ⨾ stop))
