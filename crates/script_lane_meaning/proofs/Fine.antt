@@ -12,7 +12,7 @@ use Rattle.script_meaning.specs.Script.{nodeName, applyTo, termOf, assertion, d
 use Rattle.script_meaning.proofs.Reading.{fine, fineAll}
 use Rattle.script_meaning.proofs.Names.{decimal-plain}
 use Rattle.script_meaning.proofs.Fine.{plain-decimal, fine-sort, plain-at, fine-command, fine-declarations}
-use Rattle.script_lane_meaning.specs.LaneScript.{constant, equation, equations, defining, laneOf, laneClaim, laneCommands}
+use Rattle.script_lane_meaning.specs.LaneScript.{constant, equation, equations, laneOf, laneClaim, laneCommands}
 
 fine-equal : (n : ℕ) (t : Sexp) → fine t ≡ true → fine (assertion (applyTo (bytes "=") (word (nodeName n)) t)) ≡ true
 unfolding fine
@@ -48,4 +48,4 @@ module _ (ws : List ℕ) (count : ℕ) (valid : Valid ws count) where
 
   pub fine-script : (x y hi lo : ℕ) → fineAll (laneCommands ws count x y hi lo) ≡ true
   unfolding laneCommands fine
-  fine-script x y hi lo = fine-declarations ws count valid 32 0 _ (fine-equations (defining count) 0 _ (omega arith) (fine-claim x y hi lo))
+  fine-script x y hi lo = fine-declarations ws count valid 32 0 _ (fine-equations _ 0 _ (omega arith) (fine-claim x y hi lo))

@@ -15,7 +15,7 @@ use Rattle.pool.specs.Rules.{Valid}
 use Rattle.pool.specs.Unfold.{unfoldAt}
 use Rattle.script_meaning.specs.Sexp.{Items, stop, _⨾_}
 use Rattle.script_meaning.specs.Meaning.{andThen, Meaning, meaning, Entry, find, functions, indexed, cut, distinct, applied, appliedAt, term, commands, Script, script, done, run, begun, meant}
-use Rattle.script_meaning.specs.Script.{nodeName, nameOf, checkSat, declarations}
+use Rattle.script_meaning.specs.Script.{nodeName, nameOf, setLogic, checkSat, declarations}
 use Rattle.script_meaning.specs.Demand.{ModelOf, Holds}
 use Rattle.script_meaning.proofs.Reading.{read-lines}
 use Rattle.script_meaning.proofs.Vars.{isVar, is-var, name-other}
@@ -24,7 +24,7 @@ use Rattle.script_meaning.proofs.Commands.{assert-step}
 use Rattle.script_meaning.proofs.Registers.{Names, nothing, AllDeclared, declare}
 use Rattle.script_meaning.proofs.Nodes.{Defined, before, atom-is, is-register}
 use Rattle.script_meaning.proofs.Stays.{holdsOf}
-use Rattle.script_lane_meaning.specs.LaneScript.{equations, defining, laneOf, lanesDiffer, laneClaim, laneCommands, laneScriptOf}
+use Rattle.script_lane_meaning.specs.LaneScript.{equations, laneOf, lanesDiffer, laneClaim, laneCommands, laneScriptOf}
 use Rattle.script_lane_meaning.specs.Demand.{laneAt, Met, Solved, LaneScriptMeans}
 use Rattle.script_lane_meaning.proofs.Values.{value-fits, poolModel, model-register, model-node}
 use Rattle.script_lane_meaning.proofs.Fine.{fine-script}
@@ -65,9 +65,11 @@ module _ (ws : List ℕ) (count : ℕ) (valid : Valid ws count) (x y : ℕ) (hx 
 
   -- ---- the whole script
 
-  meant-from : (model : List ℕ → ℕ) → meant model script-bytes ≡ run model (declarations 32 0 (equations ws (defining count) 0 claim)) (script [] true)
+  meant-from : (model : List ℕ → ℕ) → meant model script-bytes ≡ run model (declarations 32 0 (equations ws count 0 claim)) (script [] true)
   unfolding meant laneScriptOf laneCommands
-  meant-from model = ap (λ (o : Option Items). andThen o (λ xs. begun model xs)) (read-lines (laneCommands ws count x y hi lo) (fine-script ws count valid x y hi lo))
+  meant-from model =
+      let all-equations : laneCommands ws count x y hi lo ≡ setLogic ⨾ declarations 32 0 (equations ws count 0 claim) = refl in
+      ap (λ (o : Option Items). andThen o (λ xs. begun model xs)) (read-lines _ (fine-script ws count valid x y hi lo) ∙ ap some all-equations)
 
   record Ran (model : List ℕ → ℕ) : Type 0 where
     names : Names
@@ -75,8 +77,8 @@ module _ (ws : List ℕ) (count : ℕ) (valid : Valid ws count) (x y : ℕ) (hx 
     meant-is : meant model script-bytes ≡ some (script names differ)
 
   module _ (model : List ℕ → ℕ) (m : ModelOf start model) where
-    registers : AllDeclared start model (m .fits) (m .gives) 32 0 [] (equations ws (defining count) 0 claim)
-    registers = declare start model (m .fits) (m .gives) 32 0 [] (equations ws (defining count) 0 claim) (omega arith) (nothing start)
+    registers : AllDeclared start model (m .fits) (m .gives) 32 0 [] (equations ws count 0 claim)
+    registers = declare start model (m .fits) (m .gives) 32 0 [] (equations ws count 0 claim) (omega arith) (nothing start)
 
     first : Defined ws count valid start (registers .names) 0
     first = before ws count valid start (registers .names) (registers .declared)
@@ -84,13 +86,13 @@ module _ (ws : List ℕ) (count : ℕ) (valid : Valid ws count) (x y : ℕ) (hx 
     -- where the model has the nodes' values
     ran : Right ws count valid start model → Ran model
     ran right =
-        let b = meet ws count valid start model (λ n l. value-fits start (m .fits) ws count n valid l) right (defining count) 0 (registers .names) claim (omega arith) first in
+        let b = meet ws count valid start model (λ n l. value-fits start (m .fits) ws count n valid l) right count 0 (registers .names) claim (omega arith) first in
         record { names = b .names; values = b .known .named; meant-is = meant-from model ∙ registers .ran ∙ b .ran ∙ claimed model (b .names) (b .known) }
 
     -- where all assertions hold
     right : Holds model script-bytes → Right ws count valid start model
     right (s, e, t) n l v =
-        force ws count valid start model s t (defining count) 0 (registers .names) claim (omega arith) first (sym (meant-from model ∙ registers .ran) ∙ e) n (omega arith) l v
+        force ws count valid start model s t count 0 (registers .names) claim (omega arith) first (sym (meant-from model ∙ registers .ran) ∙ e) n (omega arith) l v
 
     forced : Holds model script-bytes → (n : ℕ) → n < count → model (nameOf ws n) ≡ value start (unfoldAt ws n)
     unfolding value

@@ -24,10 +24,6 @@ equations ws zero n rest = rest
 equations ws (suc k) n rest =
     definedBy (cellAt ws n .kind) (constant ws n) (definedBy (cellAt ws n .kind) (equation ws n) (equations ws k (suc n) rest))
 
--- how many nodes have them: all
-abbrev pub defining : ℕ → ℕ
-defining count = count
-
 -- ((_ extract hi lo) n40)
 abbrev pub laneOf : List ℕ → (hi lo x : ℕ) → Sexp
 laneOf ws hi lo x = apply1 (index2 (bytes "extract") hi lo) (nameOf ws x)
@@ -39,7 +35,7 @@ abbrev pub laneClaim : List ℕ → (x y hi lo : ℕ) → Sexp
 laneClaim ws x y hi lo = assertion (lanesDiffer ws x y hi lo)
 
 unfoldable pub laneCommands : List ℕ → (count x y hi lo : ℕ) → Items
-laneCommands ws count x y hi lo = setLogic ⨾ declarations 32 0 (equations ws (defining count) 0 (laneClaim ws x y hi lo ⨾ checkSat ⨾ stop))
+laneCommands ws count x y hi lo = setLogic ⨾ declarations 32 0 (equations ws count 0 (laneClaim ws x y hi lo ⨾ checkSat ⨾ stop))
 
 -- the bytes of the script that asks whether nodes x and y differ in the bits from hi down to lo
 unfoldable pub laneScriptOf : List ℕ → (count x y hi lo : ℕ) → List ℕ
