@@ -33,12 +33,12 @@ not-apart a b f = go (eqb a b) refl
     go false e = absurd (f (λ q. false≢true (sym e ∙ eq-eqb a b q)))
 
 -- a lane whose script is not met is equal in both nodes
-lane-equal : (ws : List ℕ) (count x y hi lo : ℕ) → Unmet ws count x y hi lo → (start : ℕ → ℕ) → Start start → laneAt ws start hi lo x ≡ laneAt ws start hi lo y
+pub lane-equal : (ws : List ℕ) (count x y hi lo : ℕ) → Unmet ws count x y hi lo → (start : ℕ → ℕ) → Start start → laneAt ws start hi lo x ≡ laneAt ws start hi lo y
 lane-equal ws count x y hi lo u start bits =
     let read = lane-written-means ws count x y hi lo (u .buffer) (u .len) (u .out) (u .written) start bits in
     not-apart _ _ (λ differ. let m = read .met .1 differ in u .unmet (m .0) (m .2))
 
-some-bits : (w k : ℕ) → w * k ≡ 128 → 0 < w
+pub some-bits : (w k : ℕ) → w * k ≡ 128 → 0 < w
 some-bits zero k e = absurd (omega arith)
 some-bits (suc w) k e = omega arith
 

@@ -1,2 +1,3 @@
 pub mod Lanes
 pub mod Equal
+pub mod Canonical

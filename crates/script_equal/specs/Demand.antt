@@ -4,13 +4,17 @@ use mathlib.Core.List.{List}
 use mathlib.Core.Path.{_≡_}
 use Prim.Native.Nat.{ℕ, _+_, _-_, _*_, _^_, _<_}
 use lib.ListN.{take}
+use Rattle.terms.specs.declared.CmpOp.the-variants.{Eq}
 use Rattle.neon.specs.declared.Instruction.{Instruction}
 use Rattle.neon.specs.Run.{armRun}
+use Rattle.pool.specs.Node.{Cell, compare, cellAt}
 use Rattle.register_map.specs.Map.{nodeOf}
 use Rattle.block.specs.declared.BlockAnswer.{BlockAnswer}
 use Rattle.join.specs.declared.Joined.{Joined}
 use Rattle.join.specs.Join.{moved}
 use Rattle.join_blocks.specs.Demand.{OfTwoBlocks}
+use Rattle.canonise.specs.declared.Canonised.{Canonised}
+use Rattle.canonise.specs.Canonise as canonise
 use Rattle.script_meaning.specs.Demand.{ModelOf, Holds}
 use Rattle.script_lanes.specs.Answer.{LaneAnswered}
 
@@ -50,3 +54,17 @@ DifferWhereALaneIsMet =
     (hi lo : ℕ) (buffer : List ℕ) (len : ℕ) (text : List ℕ) → LaneAnswered out count x y hi lo buffer 0 len text
     → (start : ℕ → ℕ) (model : List ℕ → ℕ) → ModelOf start model → Holds model (take len text)
     → armRun cs start q ≡ armRun cs′ start q′ → ⊥)
+
+-- the Eq of nodes x and y
+abbrev pub eqOf : (x y : ℕ) → Cell
+eqOf x y = record { kind = compare Eq; width = 0; a = x; b = y; c = 0; x = 0; y = 0 }
+
+-- so it is where the scripts are of the canonical pool of the Eq, in which both routines' terms stand and nothing else: it ends with the Eq of x and y
+abbrev pub EqualWhenNoCanonicalLaneIsMet : Type 0
+EqualWhenNoCanonicalLaneIsMet =
+    OfTwoBlocks (λ cs a r cs′ a′ r′ buffer out j.
+    j .number ≡ 0
+    → (old ws : List ℕ) (c : Canonised) → canonise.Answered out (j .count) (j .node) old ws c → c .number ≡ 0
+    → (x y : ℕ) → cellAt ws (c .count - 1) ≡ eqOf x y
+    → (w k : ℕ) → w * k ≡ 128 → NoLaneMet ws (c .count) x y w k
+    → (start : ℕ → ℕ) → Start start → armRun cs start r ≡ armRun cs′ start r′)
