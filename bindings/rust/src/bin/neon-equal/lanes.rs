@@ -42,7 +42,7 @@ struct Work<'a> {
 pub fn ask(pair: &Pair, register: u8, args: &Args) -> Answer {
     let question = match pair.question(register) {
         Ok(question) => question,
-        Err(refusal) => return Answer::Left(format!("the two terms do not fit in one pool: {} ({refusal})", refusal.number.code())),
+        Err(refusal) => return Answer::Left(format!("the pools of both routines do not fit in one: {} ({refusal})", refusal.number.code())),
     };
     let (solvers, absent): (Vec<Solver>, Vec<Solver>) = args.solvers.iter().partition(|solver| solver.is_there());
     let learnt = Learnt { nothing: absent.into_iter().map(|solver| ((solver, Why::NotThere), 0)).collect(), ..Learnt::default() };
