@@ -31,6 +31,15 @@ pub fn third(p: &[u64], n: Node) -> Node
     Node((p[at + 1] / 4294967296) as usize)
 }
 
+// All operands in one word: A + 2^16 × B + 2^32 × C.
+pub fn operand_word(p: &[u64], n: Node) -> u64
+    requires { ⌜ 4 * n .0 + 3 < length (now p) ⌝ }
+    ensures { λ r. ⌜ r ≡ wordAt (now (p .entry)) (n .0) 1 ⌝ }
+{
+    let at = 4 * n.0;
+    p[at + 1]
+}
+
 // The left one of the two operands that an operator or a comma stands between in the text.
 pub fn left(p: &[u64], n: Node) -> Node
     requires { ⌜ 4 * n .0 + 3 < length (now p) ⌝ }

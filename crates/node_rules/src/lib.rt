@@ -1,24 +1,21 @@
-// The rules of a node by its kind (document 01, "Pool"), over its parts and the widths of its operands.
+// The rules of a node by its kind (document 01, "Pool"), each with the rule of its set (document 02, S-4). A test of a valid node never
+// fails, so the processor foresees each; kinds of two operands have one function, in which nothing branches by kind.
 // The Rust has no counterpart: its terms are boxes, and cannot be damaged.
+use node_fields::first;
+use node_fields::high;
+use node_fields::low;
+use node_fields::operand_word;
+use node_fields::second;
+use node_fields::third;
+use pool::Node;
+use pool::words::set_of;
+use pool::words::width_of;
 ghost use mathlib.Core.Path.{_≡_};
-ghost use Prim.Native.Nat.{_+_, _*_, _<_, _^_};
+ghost use Prim.Native.Nat.{_+_, _*_, _≤_, _<_, _^_};
 ghost use lib.Dec.{ltb};
-ghost use Rattle.terms.specs.declared.BinOp.{BinOp};
-ghost use Rattle.terms.specs.declared.CmpOp.{CmpOp};
-ghost use Rattle.pool.specs.Node.{Kind, kindAt};
-ghost use Rattle.pool.specs.Rules.{setOver};
-ghost use Rattle.node_rules.specs.Rule.{rule};
-
-// The parts of a node's four words.
-pub struct Fields {
-    pub kind: u64,
-    pub width: u64,
-    pub a: u64,
-    pub b: u64,
-    pub c: u64,
-    pub x: u64,
-    pub y: u64,
-}
+ghost use lib.ListN.{length};
+ghost use Rattle.pool.specs.Node.{Kind, kindAt, none};
+ghost use Rattle.node_rules.specs.Rule.{okAs, widthOver};
 
 // Whether two words are below 2^bits.
 fn below(x: u64, y: u64, bits: u64) -> bool
@@ -36,154 +33,140 @@ fn below(x: u64, y: u64, bits: u64) -> bool
     false
 }
 
-fn var_ok(f: Fields, n: u64, wa: u64, wb: u64, wc: u64) -> bool
-    ensures { λ r. ⌜ r ≡ rule Kind.var n f wa wb wc ⌝ }
+pub fn var_ok(p: &[u64], n: Node) -> bool
+    requires { ⌜ 4 * n .0 + 3 < length (now p) ⌝ }
+    ensures { λ r. ⌜ r ≡ okAs Kind.var (now (p .entry)) (n .0) ⌝ }
 {
-    (f.width == 128) & (f.a == 0) & (f.b == 0) & (f.c == 0) & (f.x < 32) & (f.y == 0)
-}
-
-fn const_ok(f: Fields, n: u64, wa: u64, wb: u64, wc: u64) -> bool
-    ensures { λ r. ⌜ r ≡ rule Kind.const n f wa wb wc ⌝ }
-{
-    (1 <= f.width)
-        & (f.width <= 129)
-        & (f.a == 0)
-        & (f.b == 0)
-        & (f.c == 0)
-        & below(f.x, f.y, f.width)
-}
-
-fn bin_ok(f: Fields, n: u64, wa: u64, wb: u64, wc: u64) -> bool
-    ensures { λ r. ⌜ r ≡ rule (Kind.bv BinOp.Add) n f wa wb wc ⌝ }
-{
-    (1 <= f.width)
-        & (f.width <= 129)
-        & (f.a < n)
-        & (f.b < n)
-        & (f.c == 0)
-        & (f.x == 0)
-        & (f.y == 0)
-        & (wa == f.width)
-        & (wb == f.width)
-}
-
-fn cmp_ok(f: Fields, n: u64, wa: u64, wb: u64, wc: u64) -> bool
-    ensures { λ r. ⌜ r ≡ rule (Kind.compare CmpOp.Eq) n f wa wb wc ⌝ }
-{
-    (f.width == 0)
-        & (f.a < n)
-        & (f.b < n)
-        & (f.c == 0)
-        & (f.x == 0)
-        & (f.y == 0)
-        & (1 <= wa)
-        & (wb == wa)
-}
-
-fn ite_ok(f: Fields, n: u64, wa: u64, wb: u64, wc: u64) -> bool
-    ensures { λ r. ⌜ r ≡ rule Kind.ite n f wa wb wc ⌝ }
-{
-    (1 <= f.width)
-        & (f.width <= 129)
-        & (f.a < n)
-        & (f.b < n)
-        & (f.c < n)
-        & (f.x == 0)
-        & (f.y == 0)
-        & (wa == 0)
-        & (wb == f.width)
-        & (wc == f.width)
-}
-
-fn extract_ok(f: Fields, n: u64, wa: u64, wb: u64, wc: u64) -> bool
-    ensures { λ r. ⌜ r ≡ rule Kind.extract n f wa wb wc ⌝ }
-{
-    if f.x < f.y {
+    let x = low(p, n);
+    if 32 <= x {
         return false;
     }
-    if wa <= f.x {
-        return false;
-    }
-    // hi - lo + 1 is in range from here on; what follows is the rule as it is written
-    (f.a < n) & (f.b == 0) & (f.c == 0) & (f.y <= f.x) & (f.x < wa) & (f.width == f.x - f.y + 1)
+    (width_of(p, n) == 128)
+        & (operand_word(p, n) == 0)
+        & (high(p, n) == 0)
+        & (set_of(p, n) == 1u64 << x)
 }
 
-fn concat_ok(f: Fields, n: u64, wa: u64, wb: u64, wc: u64) -> bool
-    requires { ⌜ (wa < 65536) × (wb < 65536) ⌝ }
-    ensures { λ r. ⌜ r ≡ rule Kind.concat n f wa wb wc ⌝ }
+pub fn const_ok(p: &[u64], n: Node) -> bool
+    requires { ⌜ 4 * n .0 + 3 < length (now p) ⌝ }
+    ensures { λ r. ⌜ r ≡ okAs Kind.const (now (p .entry)) (n .0) ⌝ }
 {
-    (1 <= f.width)
-        & (f.width <= 129)
-        & (f.a < n)
-        & (f.b < n)
-        & (f.c == 0)
-        & (f.x == 0)
-        & (f.y == 0)
-        & (1 <= wa)
-        & (1 <= wb)
-        & (f.width == wa + wb)
+    let width = width_of(p, n);
+    (1 <= width)
+        & (width <= 129)
+        & (operand_word(p, n) == 0)
+        & below(low(p, n), high(p, n), width)
+        & (set_of(p, n) == 0)
 }
 
-fn ext_ok(f: Fields, n: u64, wa: u64, wb: u64, wc: u64) -> bool
-    ensures { λ r. ⌜ r ≡ rule Kind.zext n f wa wb wc ⌝ }
+// The width over two operands of a and of b bits.
+fn width_over(kind: u64, a: u64, b: u64) -> u64
+    requires { ⌜ (a < 65536) × (b < 65536) ⌝ }
+    ensures { λ r. ⌜ r ≡ widthOver kind a b ⌝ }
 {
-    (1 <= f.width)
-        & (f.width <= 129)
-        & (f.a < n)
-        & (f.b == 0)
-        & (f.c == 0)
-        & (f.x == 0)
-        & (f.y == 0)
-        & (1 <= wa)
-        & (wa <= f.width)
-}
-
-pub fn kind_ok(f: Fields, n: u64, wa: u64, wb: u64, wc: u64) -> bool
-    requires { ⌜ (wa < 65536) × (wb < 65536) ⌝ }
-    ensures { λ r. ⌜ r ≡ rule (kindAt (f .kind)) n f wa wb wc ⌝ }
-{
-    let kind = f.kind;
-    match kind {
-        1 => var_ok(f, n, wa, wb, wc),
-        2 => const_ok(f, n, wa, wb, wc),
-        3..=11 => bin_ok(f, n, wa, wb, wc),
-        12..=14 => cmp_ok(f, n, wa, wb, wc),
-        15 => ite_ok(f, n, wa, wb, wc),
-        16 => extract_ok(f, n, wa, wb, wc),
-        17 => concat_ok(f, n, wa, wb, wc),
-        18 | 19 => ext_ok(f, n, wa, wb, wc),
-        _ => false,
-    }
-}
-
-// The registers beneath a node of this kind, over the sets of its operands. x is a Var's register.
-pub fn set_over(kind: u64, x: u64, a: u64, b: u64, c: u64) -> u64
-    requires { ⌜ (kind ≡ 1 → x < 32) ⌝ }
-    ensures { λ r. ⌜ r ≡ setOver (kindAt kind) x a b c ⌝ }
-{
-    if kind == 1 {
-        return 1u64 << x;
-    }
-    if kind == 2 {
-        return 0;
-    }
-    if kind == 0 {
-        return 0;
-    }
-    if kind < 15 {
-        return a | b;
-    }
-    if kind == 15 {
-        return a | b | c;
-    }
-    if kind == 16 {
-        return a;
-    }
     if kind == 17 {
-        return a | b;
+        return a + b;
     }
-    if kind < 20 {
+    if kind < 12 {
         return a;
     }
     0
+}
+
+// An operator, a comparison or a Concat.
+pub fn pair_ok(p: &[u64], n: Node, kind: u64) -> bool
+    requires { ⌜ (4 * n .0 + 3 < length (now p)) × (n .0 < none) ⌝ }
+    requires { ⌜ (3 ≤ kind) × (kind < 18) × (kind ≡ 15 → ⊥) × (kind ≡ 16 → ⊥) ⌝ }
+    ensures { λ r. ⌜ r ≡ okAs (kindAt kind) (now (p .entry)) (n .0) ⌝ }
+{
+    let a = first(p, n);
+    // B and, above it, C, which has to be 0
+    let rest = operand_word(p, n) / 65536;
+    if n.0 <= a.0 {
+        return false;
+    }
+    if n.0 as u64 <= rest {
+        return false;
+    }
+    let b = Node(rest as usize);
+    let wa = width_of(p, a);
+    let wb = width_of(p, b);
+    let width = width_of(p, n);
+    (1 <= wa)
+        & (1 <= wb)
+        & ((wa == wb) | (kind == 17))
+        & (width == width_over(kind, wa, wb))
+        & (width <= 129)
+        & (low(p, n) == 0)
+        & (high(p, n) == 0)
+        & (set_of(p, n) == set_of(p, a) | set_of(p, b))
+}
+
+pub fn ite_ok(p: &[u64], n: Node) -> bool
+    requires { ⌜ 4 * n .0 + 3 < length (now p) ⌝ }
+    ensures { λ r. ⌜ r ≡ okAs Kind.ite (now (p .entry)) (n .0) ⌝ }
+{
+    let a = first(p, n);
+    let b = second(p, n);
+    let c = third(p, n);
+    if n.0 <= a.0 {
+        return false;
+    }
+    if n.0 <= b.0 {
+        return false;
+    }
+    if n.0 <= c.0 {
+        return false;
+    }
+    let width = width_of(p, n);
+    (1 <= width)
+        & (width <= 129)
+        & (low(p, n) == 0)
+        & (high(p, n) == 0)
+        & (width_of(p, a) == 0)
+        & (width_of(p, b) == width)
+        & (width_of(p, c) == width)
+        & (set_of(p, n) == set_of(p, a) | set_of(p, b) | set_of(p, c))
+}
+
+pub fn extract_ok(p: &[u64], n: Node) -> bool
+    requires { ⌜ (4 * n .0 + 3 < length (now p)) × (n .0 < none) ⌝ }
+    ensures { λ r. ⌜ r ≡ okAs Kind.extract (now (p .entry)) (n .0) ⌝ }
+{
+    let hi = low(p, n);
+    let lo = high(p, n);
+    // A and, above it, B and C, which have to be 0
+    let rest = operand_word(p, n);
+    if n.0 as u64 <= rest {
+        return false;
+    }
+    if hi < lo {
+        return false;
+    }
+    let a = Node(rest as usize);
+    if width_of(p, a) <= hi {
+        return false;
+    }
+    (width_of(p, n) == hi - lo + 1) & (set_of(p, n) == set_of(p, a))
+}
+
+// A ZeroExtend or a SignExtend.
+pub fn extend_ok(p: &[u64], n: Node) -> bool
+    requires { ⌜ (4 * n .0 + 3 < length (now p)) × (n .0 < none) ⌝ }
+    ensures { λ r. ⌜ r ≡ okAs Kind.zext (now (p .entry)) (n .0) ⌝ }
+{
+    let rest = operand_word(p, n);
+    if n.0 as u64 <= rest {
+        return false;
+    }
+    let a = Node(rest as usize);
+    let wa = width_of(p, a);
+    let width = width_of(p, n);
+    (1 <= width)
+        & (width <= 129)
+        & (low(p, n) == 0)
+        & (high(p, n) == 0)
+        & (1 <= wa)
+        & (wa <= width)
+        & (set_of(p, n) == set_of(p, a))
 }

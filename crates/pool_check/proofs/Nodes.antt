@@ -1,18 +1,15 @@
 -- A pool's nodes one after the other. Assumes nothing.
-use Prim.Native.Nat.{ℕ, zero, suc, _+_, _<_}
+use Prim.Native.Nat.{ℕ, zero, suc, _+_, _≤_, _<_}
 use mathlib.Core.Path.{_≡_, refl, ap, sym, _∙_}
 use mathlib.Core.Bool.{Bool, true, false, _&&_}
 use mathlib.Core.List.{List}
 use mathlib.Core.Logic.{⊎-elim}
 use native.Mathlib.Nat.{eq-or-lt-of-le, le-of-suc-le-suc, not-suc-le-zero}
 use native.Mathlib.Numerals.{add-one}
-use Rattle.pool.specs.Node.{kinds, kindAt, kindNumber, decode, cellAt, setAt}
-use Rattle.pool.specs.Rules.{widthBefore, setBefore, setOver, okCell, okNode, okPool}
-use Rattle.node_rules.specs.declared.Fields.{Fields}
-use Rattle.node_rules.specs.Rule.{rule}
-use Rattle.node_rules.proofs.Kept.{register}
-use lib.Dec.{eqb}
-use Rattle.pool_check.specs.Fields.{fieldsAt}
+use Rattle.pool.specs.Node.{zext, kinds, kindAt, kindNumber, decode}
+use Rattle.pool.specs.Rules.{okNode, okPool}
+use Rattle.node_rules.specs.Rule.{okAs}
+use Rattle.node_rules.proofs.Numbers.{within, is-bad}
 
 pub some-bad : (ws : List ℕ) (n count : ℕ) → n < count → okNode ws n ≡ false → okPool ws count ≡ false
 unfolding okPool
@@ -27,32 +24,19 @@ some-bad ws n (suc c) l h =
     second true e = e
     second false e = refl
 
--- the rule of the kind, from the parts that the check reads
-pub cell-is : (ws : List ℕ) (n : ℕ) {r : Bool} {f : Fields} {A B C : ℕ} → f ≡ fieldsAt ws n → A ≡ widthBefore ws n (f .a) → B ≡ widthBefore ws n (f .b)
-    → C ≡ widthBefore ws n (f .c)
-    → r ≡ rule (kindAt (f .kind)) n f A B C
-    → r ≡ okCell ws n (cellAt ws n)
+-- the rules of the kind that the node's number names
+pub by-number : (ws : List ℕ) (n : ℕ) {k : ℕ} {r : Bool} → k ≡ kindNumber ws n → r ≡ okAs (kindAt k) ws n → r ≡ okNode ws n
 unfolding decode
-cell-is ws n e p q s h = h ∙ rw (p, q, s, e)
+by-number ws n e h = h ∙ rw e
 
--- it fails
-pub kind-bad : (ws : List ℕ) (n : ℕ) → okCell ws n (cellAt ws n) ≡ false → false ≡ okNode ws n
-kind-bad ws n e = rw e
+-- both extensions have one rule
+pub extension : (ws : List ℕ) (n k : ℕ) → 18 ≤ k → k < 20 → okAs zext ws n ≡ okAs (kindAt k) ws n
+unfolding kinds
+extension ws n k l h = within (λ κ. okAs zext ws n ≡ okAs κ ws n) 18 2 (refl, (refl, tt)) k l h
 
--- it holds: the set decides
-pub set-decides : (ws : List ℕ) (n : ℕ) {f : Fields} {s t A B C : ℕ} → okCell ws n (cellAt ws n) ≡ true → f ≡ fieldsAt ws n → s ≡ setAt ws n
-    → A ≡ setBefore ws n (f .a) → B ≡ setBefore ws n (f .b) → C ≡ setBefore ws n (f .c)
-    → t ≡ setOver (kindAt (f .kind)) (f .x) A B C
-    → eqb s t ≡ okNode ws n
-unfolding decode
-set-decides ws n o e g p q r h = rw (o, g, h, p, q, r, e)
-
--- a Var that keeps the rule of its kind has a register below 32
-pub var-register : (ws : List ℕ) (n : ℕ) {f : Fields} → okCell ws n (cellAt ws n) ≡ true → f ≡ fieldsAt ws n → f .kind ≡ 1 → f .x < 32
-unfolding decode kindAt kinds
-var-register ws n {f} o e k =
-    let at : kindNumber ws n ≡ 1 = sym (ap (λ (g : Fields). g .kind) e) ∙ k in
-    rw e (register n (cellAt ws n) (widthBefore ws n (cellAt ws n .a)) (widthBefore ws n (cellAt ws n .b)) (widthBefore ws n (cellAt ws n .c)) (rw at at o))
+-- a number of no kind
+pub no-kind : (ws : List ℕ) (n k : ℕ) → 20 ≤ k → false ≡ okAs (kindAt k) ws n
+no-kind ws n k l = rw (is-bad k l)
 
 pub one-more : (ws : List ℕ) (n : ℕ) → okPool ws n ≡ true → okNode ws n ≡ true → okPool ws (n + 1) ≡ true
 unfolding okPool

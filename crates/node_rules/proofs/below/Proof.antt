@@ -1,3 +1,4 @@
+-- below is a test of two words against a power of two
 use Rattle.node_rules.proofs.Words.{always, upper, lower, over}
 use borrow.Author.Needs.{needs}
 use Rattle.node_rules.proofs.below.Statement.{statement}

@@ -1,102 +1,105 @@
--- node_ok is okNode: the rule of the kind, then that of the set
+-- node_ok is okNode: each kind has its rules
 use denote.Ref.{now}
 use mathlib.Core.Path.{_≡_, sym, _∙_}
-use mathlib.Core.Bool.{true}
-use borrow.Author.Tests.{not-true, not-false}
-use Rattle.pool.specs.Node.{cellAt}
-use Rattle.pool.specs.Rules.{okCell}
-use Rattle.pool_check.proofs.Nodes.{cell-is, kind-bad, set-decides, var-register}
+use native.Mathlib.Omega.{arith}
+use Rattle.pool.specs.Node.{kindAt, kinds, kindNumber}
+use Rattle.pool_check.proofs.Nodes.{by-number, extension, no-kind}
 use borrow.Author.Needs.{needs}
 use Rattle.pool_check.proofs.node_ok.Statement.{statement}
 use Rattle.pool_check.proofs.node_ok.Tie as tie
 
-fields-at-requires : tie.Need-fields-at-requires
-fields-at-requires c κs = search needs
+kind-of-requires : tie.Need-kind-of-requires
+kind-of-requires c κs = search needs
 
-width-before-requires : tie.Need-width-before-requires
-width-before-requires c κs = search needs
-
-width-before-requires-2 : tie.Need-width-before-requires-2
-width-before-requires-2 c κs = search needs
-
-width-before-requires-3 : tie.Need-width-before-requires-3
-width-before-requires-3 c κs = search needs
-
-kind-ok-requires : tie.Need-kind-ok-requires
-kind-ok-requires c κs = search needs
-
--- ---- from each call back to the start
-
-abbrev entry : tie.After-kind-ok → tie.Start
-entry c = c .before .before .before .before .before .before
-
-abbrev fields : tie.Else1 → tie.After-fields-at
-fields c = c .before .before .before .before .before
-
--- ---- the first test is the rule of the kind
-
-kind-is : (c : tie.After-kind-ok) → let a = entry c .args in c .kind-ok .result ≡ okCell (now (a .pool)) (a .n) (cellAt (now (a .pool)) (a .n))
-kind-is c =
-    let wc = c .before in
-    let wb = wc .before in
-    let wa = wb .before in
-    let s = entry c in
-    cell-is (now (s .args .pool)) (s .args .n) (wa .before .fields-at .ensures) (wa .width-before .ensures .0) (wb .width-before2 .ensures .0)
-    (wc .width-before3 .ensures .0) (c .kind-ok .ensures)
-
-passed : (c : tie.Else1) → let a = entry (c .before) .args in okCell (now (a .pool)) (a .n) (cellAt (now (a .pool)) (a .n)) ≡ true
-passed c = sym (kind-is (c .before)) ∙ not-false (c .before .kind-ok .result) (c .if1 .left)
+var-ok-requires : tie.Need-var-ok-requires
+var-ok-requires c κs = search needs
 
 returns : tie.Need-returns
+unfolding kindAt kinds
 returns c =
-    let k = c .before in
-    let s = entry k in
-    kind-bad (now (s .args .pool)) (s .args .n) (sym (kind-is k) ∙ not-true (k .kind-ok .result) (c .if1 .taken))
+    let k = c .before .before .before in
+    let st = k .before .before in
+    by-number (now (st .args .pool)) (st .args .n .0) (k .kind-of .ensures) (rw (c .before .if2 .taken) (c .var-ok .ensures))
 
--- ---- the second is that of the set
-
-set-before-requires : tie.Need-set-before-requires
-set-before-requires c κs = search needs
-
-set-before-requires-2 : tie.Need-set-before-requires-2
-set-before-requires-2 c κs = search needs
-
-set-before-requires-3 : tie.Need-set-before-requires-3
-set-before-requires-3 c κs = search needs
-
-set-of-requires : tie.Need-set-of-requires
-set-of-requires c κs = search needs
-
-set-over-requires : tie.Need-set-over-requires
-set-over-requires c κs =
-    let e = c .before .before .before .before in
-    let s = entry (e .before) in
-    var-register (now (s .args .pool)) (s .args .n) (passed e) (fields e .fields-at .ensures)
+const-ok-requires : tie.Need-const-ok-requires
+const-ok-requires c κs = search needs
 
 returns-2 : tie.Need-returns-2
+unfolding kindAt kinds
 returns-2 c =
-    let own = c .before in
-    let sc = own .before in
-    let sb = sc .before in
-    let sa = sb .before in
-    let e = sa .before in
-    let s = entry (e .before) in
-    set-decides (now (s .args .pool)) (s .args .n) (passed e) (fields e .fields-at .ensures) (own .set-of .ensures .0) (sa .set-before .ensures)
-    (sb .set-before2 .ensures) (sc .set-before3 .ensures) (c .set-over .ensures)
+    let k = c .before .before .before .before in
+    let st = k .before .before in
+    by-number (now (st .args .pool)) (st .args .n .0) (k .kind-of .ensures) (rw (c .before .if3 .taken) (c .const-ok .ensures))
+
+returns-3 : tie.Need-returns-3
+unfolding kindAt kinds
+returns-3 c =
+    let k = c .before .before .before in
+    let st = k .before .before in
+    let none : k .kind-of .result ≡ 0 = omega arith in
+    by-number (now (st .args .pool)) (st .args .n .0) (k .kind-of .ensures) (rw none)
+
+extract-ok-requires : tie.Need-extract-ok-requires
+extract-ok-requires c κs = search needs
+
+returns-4 : tie.Need-returns-4
+unfolding kindAt kinds
+returns-4 c =
+    let k = c .before .before .before in
+    let st = k .before .before in
+    by-number (now (st .args .pool)) (st .args .n .0) (k .kind-of .ensures) (rw (c .before .if4 .taken) (c .extract-ok .ensures))
+
+ite-ok-requires : tie.Need-ite-ok-requires
+ite-ok-requires c κs = search needs
+
+returns-5 : tie.Need-returns-5
+unfolding kindAt kinds
+returns-5 c =
+    let k = c .before .before .before .before in
+    let st = k .before .before in
+    by-number (now (st .args .pool)) (st .args .n .0) (k .kind-of .ensures) (rw (c .before .if5 .taken) (c .ite-ok .ensures))
+
+pair-ok-requires : tie.Need-pair-ok-requires
+pair-ok-requires c κs = search needs
+
+returns-6 : tie.Need-returns-6
+returns-6 c =
+    let k = c .before .before .before .before .before in
+    let st = k .before .before in
+    by-number (now (st .args .pool)) (st .args .n .0) (k .kind-of .ensures) (c .pair-ok .ensures)
+
+extend-ok-requires : tie.Need-extend-ok-requires
+extend-ok-requires c κs = search needs
+
+returns-7 : tie.Need-returns-7
+returns-7 c =
+    let k = c .before .before .before .before .before .before in
+    let st = k .before .before in
+    by-number (now (st .args .pool)) (st .args .n .0) (k .kind-of .ensures)
+    (c .extend-ok .ensures ∙ extension (now (st .args .pool)) (st .args .n .0) (k .kind-of .result) (c .before .before .if6 .left) (omega (arith, c .before .if7 .taken)))
+
+returns-8 : tie.Need-returns-8
+returns-8 c =
+    let k = c .before .before .before .before .before in
+    let st = k .before .before in
+    by-number (now (st .args .pool)) (st .args .n .0) (k .kind-of .ensures) (no-kind (now (st .args .pool)) (st .args .n .0) (k .kind-of .result) (c .if7 .left))
 
 pub node-ok-spec : {M : Type 1} → statement M
 node-ok-spec =
     tie.close
     (tie.spec
-    fields-at-requires
-    width-before-requires
-    width-before-requires-2
-    width-before-requires-3
-    kind-ok-requires
+    kind-of-requires
+    var-ok-requires
     returns
-    set-before-requires
-    set-before-requires-2
-    set-before-requires-3
-    set-of-requires
-    set-over-requires
-    returns-2)
+    const-ok-requires
+    returns-2
+    returns-3
+    extract-ok-requires
+    returns-4
+    ite-ok-requires
+    returns-5
+    pair-ok-requires
+    returns-6
+    extend-ok-requires
+    returns-7
+    returns-8)

@@ -1,3 +1,4 @@
+-- pool_check is poolOk: the loop has passed the nodes below n
 use native.Mathlib.Omega.{arith}
 use borrow.Author.Tests.{le-leb, lt-leb, not-true, not-false}
 use Prim.Native.Nat.{_≤_, _-_}
