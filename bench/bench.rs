@@ -13,7 +13,7 @@ use std::io::Write;
 use std::process::{Command, Stdio};
 use std::time::Instant;
 
-use native::{bytes, canonical, join, lower_block, lower_instruction, pool_check, read_words, run_in_place, script_length, text_length, value_to, words, write_script, write_text, write_words};
+use native::{bytes, canonical, join, lower_block, lower_block_saturation, lower_instruction, pool_check, read_words, run_in_place, script_length, text_length, value_to, words, write_script, write_text, write_words};
 use pools::{Node, Rng, grow, pool_words};
 
 type Record = [u64; 6];
@@ -21,6 +21,8 @@ type Record = [u64; 6];
 const NONE: usize = 65535;
 const RESERVE: usize = 768;
 const MOST_RECORDS: usize = 85;
+const SATURATION_RESERVE: usize = 2048;
+const SATURATION_RECORDS: usize = 31;
 
 /// Nanoseconds of the best of `rounds` runs.
 fn best(rounds: u64, mut run: impl FnMut()) -> f64 {
@@ -199,6 +201,20 @@ fn blocks(rounds: u64, all: &[Record]) {
         });
         println!("block-{k} {:.0}", time / (blocks.len() * k) as f64);
     }
+    saturation(rounds, &mixed);
+}
+
+/// The longest blocks with a saturation bit: the mean time of a record.
+fn saturation(rounds: u64, mixed: &[Record]) {
+    let mut pool = words(&vec![0; 4 * (33 + SATURATION_RESERVE * SATURATION_RECORDS)]);
+    let mut results = words(&[0; 35]);
+    let blocks: Vec<Vec<u64>> = mixed.chunks_exact(SATURATION_RECORDS).map(<[Record]>::concat).collect();
+    let time = best(rounds.div_ceil(4), || {
+        for block in &blocks {
+            assert_eq!(black_box(lower_block_saturation(&mut pool, block, &mut results)), 0);
+        }
+    });
+    println!("saturation {:.0}", time / (blocks.len() * SATURATION_RECORDS) as f64);
 }
 
 /// The operations of a family, by its first and last.

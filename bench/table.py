@@ -120,6 +120,7 @@ Blocks are cut from one mixed list of all forms.
 |---|---|""")
 for count, time in block.items():
     print(f"| {count} | {time:.0f} |")
+print(f"| 31, with the saturation bit | {float(ours['saturation']):.0f} |")
 print("""
 ## Nested cuts
 

@@ -33,6 +33,7 @@ mod lines_part;
 mod native;
 mod pools;
 mod run_part;
+mod saturation_part;
 mod script_part;
 mod solver_part;
 mod table;
@@ -78,6 +79,8 @@ const PARTS: &[Part] = &[
     part("evaluate", 10, 10, evaluate_part::main),
     part("run", 10, 10, run_part::main),
     part("run-values", 1, 0, run_part::values),
+    part("saturation", 10, 10, saturation_part::main),
+    part("saturation-values", 1, 0, saturation_part::values),
     part("words", 1, 0, words_part::main),
     part("join", 10, 10, join_part::main),
     part("canonical", 10, 10, canonical_part::main),
@@ -93,7 +96,16 @@ struct Sample {
 }
 
 /// The samples in tests/stored that a judge makes, by name and number of cases; tests/stored/NAME.c reads NAME.in and writes NAME.out.
-const STORED: &[(&str, u64, fn(u64) -> Sample)] = &[("pools", 300, damage_part::stored), ("evaluate", 200, evaluate_part::stored), ("words", 300, words_part::stored), ("join", 60, join_part::stored), ("canonical", 120, canonical_part::stored), ("scripts", 200, script_part::stored), ("lane_scripts", 120, script_part::stored_lanes)];
+const STORED: &[(&str, u64, fn(u64) -> Sample)] = &[
+    ("pools", 300, damage_part::stored),
+    ("evaluate", 200, evaluate_part::stored),
+    ("words", 300, words_part::stored),
+    ("join", 60, join_part::stored),
+    ("canonical", 120, canonical_part::stored),
+    ("scripts", 200, script_part::stored),
+    ("lane_scripts", 120, script_part::stored_lanes),
+    ("saturation", 200, saturation_part::stored),
+];
 
 impl Part {
     /// The library has to make do with 8 MB of stack, whatever this machine gives the first thread.

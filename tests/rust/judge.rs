@@ -130,10 +130,15 @@ pub fn record_number(r: &Record) -> u64 {
 
 /// Number and position.
 pub fn block_number(words: usize, records: &[Record]) -> (u64, usize) {
-    if records.len() > MOST_RECORDS {
+    number_within(MOST_RECORDS, 32 + RESERVE * records.len(), words, records)
+}
+
+/// Those of a block that may have so many records and needs so many places.
+pub fn number_within(most: usize, needed: usize, words: usize, records: &[Record]) -> (u64, usize) {
+    if records.len() > most {
         return (8, 0);
     }
-    if places(words) < 32 + RESERVE * records.len() {
+    if places(words) < needed {
         return (6, 0);
     }
     let bad = records.iter().enumerate().find(|(_, r)| record_number(r) != 0);

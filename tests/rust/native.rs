@@ -8,6 +8,7 @@ unsafe extern "C" {
         node: *mut usize, after: *mut usize,
     ) -> u64;
     fn neon_lower_block(pool: *mut u64, words: usize, records: *const u64, numbers: usize, results: *mut u64) -> u64;
+    fn neon_lower_block_saturation(pool: *mut u64, words: usize, records: *const u64, numbers: usize, results: *mut u64) -> u64;
     fn neon_write_text(pool: *const u64, words: usize, count: usize, node: usize, buffer: *mut u8, bytes: usize, length: *mut usize) -> u64;
     fn neon_value(
         pool: *const u64, words: usize, count: usize, node: usize, start: *const u64, allowance: u64, value: *mut u64, visits: *mut u64,
@@ -112,6 +113,17 @@ pub fn lower_block(pool: &mut Words, records: &[u64], results: &mut Words) -> u6
     number
 }
 
+/// As `lower_block`, with 35 results.
+pub fn lower_block_saturation(pool: &mut Words, records: &[u64], results: &mut Words) -> u64 {
+    let (at, length) = pool.lend();
+    let (to, entries) = results.lend();
+    assert!(entries == 35, "the results are 35 words");
+    let number = unsafe { neon_lower_block_saturation(at, length, records.as_ptr(), records.len(), to) };
+    pool.look();
+    results.look();
+    number
+}
+
 pub fn write_text(pool: &[u64], count: usize, node: usize, buffer: &mut Lent<u8>) -> (u64, usize) {
     let (at, size) = buffer.lend();
     let mut length = 77;
@@ -208,11 +220,18 @@ pub fn run_in_place(registers: &mut Words, records: &[u64], results: &mut Words)
 
 /// Number, position and the registers after the block.
 pub fn run_block(start: &[u128; 32], records: &[u64]) -> (u64, u64, [u128; 32]) {
+    let (number, [position, _], after) = run_with_bit(start, records);
+    (number, position, after)
+}
+
+/// Number, position with the saturation bit, and the registers after the block.
+pub fn run_with_bit(start: &[u128; 32], records: &[u64]) -> (u64, [u64; 2], [u128; 32]) {
     let mut registers = words(&register_words(start));
     let mut results = words(&[77, 77]);
     let number = run_in_place(&mut registers, records, &mut results);
     let after = registers.items();
-    (number, results.items()[0], std::array::from_fn(|r| u128::from(after[2 * r + 1]) << 64 | u128::from(after[2 * r])))
+    let results = results.items().try_into().expect("two words");
+    (number, results, std::array::from_fn(|r| u128::from(after[2 * r + 1]) << 64 | u128::from(after[2 * r])))
 }
 
 /// Number and length of S-1's script, or of the bits `lane`.

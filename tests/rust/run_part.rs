@@ -13,7 +13,7 @@ use crate::table;
 const ROOM: usize = 4 * 65535;
 
 /// Registers of lanes with corner values, at one lane width each.
-fn corners(r: &mut Rng) -> [u128; 32] {
+pub fn corners(r: &mut Rng) -> [u128; 32] {
     std::array::from_fn(|_| {
         let n = r.one_of(&[8u32, 16, 32, 64]);
         let lane = |r: &mut Rng| {

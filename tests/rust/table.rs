@@ -2,7 +2,7 @@
 use crate::judge::{Record, view};
 
 /// The n low bits, read unsigned or signed.
-fn read(signed: bool, n: u32, x: u64) -> i128 {
+pub fn read(signed: bool, n: u32, x: u64) -> i128 {
     let x = x & mask(n);
     if signed && x >> (n - 1) == 1 { i128::from(x) - (1 << n) } else { i128::from(x) }
 }
@@ -11,13 +11,13 @@ fn mask(n: u32) -> u64 {
     if n == 64 { u64::MAX } else { (1 << n) - 1 }
 }
 
-fn clamp(signed: bool, n: u32, z: i128) -> u64 {
+pub fn clamp(signed: bool, n: u32, z: i128) -> u64 {
     let (low, high) = if signed { (-(1 << (n - 1)), (1 << (n - 1)) - 1) } else { (0, (1 << n) - 1) };
     z.clamp(low, high) as u64 & mask(n)
 }
 
 /// z × 2^k. Where that has more than 127 bits: a number of the same sign and low 64 bits that is out of every range.
-fn left(z: i128, k: u32) -> i128 {
+pub fn left(z: i128, k: u32) -> i128 {
     if k < 100 {
         if let Some(v) = z.checked_mul(1 << k) {
             return v;
@@ -27,7 +27,7 @@ fn left(z: i128, k: u32) -> i128 {
 }
 
 /// z / 2^k, floored; rounding adds half of 2^k first.
-fn right(rounding: bool, z: i128, k: u32) -> i128 {
+pub fn right(rounding: bool, z: i128, k: u32) -> i128 {
     match (rounding, k) {
         (_, 0) => z,
         (true, 101..) => 0,
@@ -118,23 +118,39 @@ fn at(register: u128, bits: u32, lane: u32) -> u64 {
     (register >> (bits * lane)) as u64 & mask(bits)
 }
 
-/// One record on the registers.
-fn step(&[operation, arrangement, i, d, n, m]: &Record, registers: &mut [u128; 32]) {
+/// What a lane of a result is made of: lanes of the old destination and of the two sources.
+pub struct Sources {
+    pub old: u64,
+    pub first: u64,
+    pub second: u64,
+}
+
+/// The bits of a lane of the result, and the sources of each lane.
+pub fn lanes(&[operation, arrangement, i, d, n, m]: &Record, registers: &[u128; 32]) -> (u32, Vec<Sources>) {
     let [old, first, second] = [d, n, m].map(|r| registers[r as usize]);
     let bits = [8, 8, 16, 16, 32, 32, 64][arrangement as usize];
-    let whole = view(arrangement) == 128;
-    let narrow = matches!(operation, 27..=37 | 64..=67);
     let long = (42..=53).contains(&operation);
-    let source = if narrow { 2 * bits } else if long { bits / 2 } else { bits };
-    let lanes = if narrow || !whole { 64 / bits } else { 128 / bits };
+    let source = if narrows(operation) { 2 * bits } else if long { bits / 2 } else { bits };
+    let many = if narrows(operation) || view(arrangement) == 64 { 64 / bits } else { 128 / bits };
     let skip = if matches!(operation, 45..=47 | 51..=53) { 64 / source } else { 0 };
-    let mut new = 0u128;
-    for j in 0..lanes {
-        let of_second = if operation >= 48 && long { i as u32 } else { j + skip };
-        let value = lane(operation, bits, i as u32, at(old, bits, j), at(first, source, j + skip), at(second, source, of_second));
-        new |= u128::from(value) << (bits * j);
-    }
-    registers[d as usize] = if narrow && whole { new << 64 | old & u128::from(u64::MAX) } else { new };
+    let of_second = |j: u32| if operation >= 48 && long { i as u32 } else { j + skip };
+    let one = |j: u32| Sources { old: at(old, bits, j), first: at(first, source, j + skip), second: at(second, source, of_second(j)) };
+    (bits, (0..many).map(one).collect())
+}
+
+fn narrows(operation: u64) -> bool {
+    matches!(operation, 27..=37 | 64..=67)
+}
+
+/// One record on the registers.
+pub fn step(record: &Record, registers: &mut [u128; 32]) {
+    let [operation, arrangement, i, d, ..] = *record;
+    let (bits, sources) = lanes(record, registers);
+    let made = sources.iter().map(|s| u128::from(lane(operation, bits, i as u32, s.old, s.first, s.second)));
+    let new = made.enumerate().fold(0, |all, (j, value)| all | value << (bits * j as u32));
+    let upper = narrows(operation) && view(arrangement) == 128;
+    let to = &mut registers[d as usize];
+    *to = if upper { new << 64 | *to & u128::from(u64::MAX) } else { new };
 }
 
 pub fn run(records: &[Record], registers: &mut [u128; 32]) {
