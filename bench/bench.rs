@@ -335,13 +335,15 @@ fn scripts(rounds: u64, all: &[Record]) {
     for (name, pool) in [("script", lowered(all)), ("script-random", random())] {
         let count = pool.len() / 4;
         let wide: Vec<usize> = (0..count).filter(|&n| Node::at(&pool, n).width == 128).collect();
-        let (a, b) = (wide[0], wide[wide.len() - 1]);
-        let length = script_length(&pool, count, a, b).1;
-        let mut buffer = bytes(length);
-        let time = best(rounds, || assert_eq!(black_box(write_script(&pool, count, a, b, &mut buffer)), (0, length)));
-        println!("{name} {:.2}", time / length as f64);
-        let time = best(rounds, || assert_eq!(black_box(script_length(&pool, count, a, b)), (0, length)));
-        println!("{name}-length {:.2}", time / count as f64);
+        let nodes = [wide[0], wide[wide.len() - 1]];
+        for (form, lane) in [("", None), ("-lane", Some([7, 0]))] {
+            let length = script_length(&pool, count, nodes, lane).1;
+            let mut buffer = bytes(length);
+            let time = best(rounds, || assert_eq!(black_box(write_script(&pool, count, nodes, lane, &mut buffer)), (0, length)));
+            println!("{name}{form} {:.2}", time / length as f64);
+            let time = best(rounds, || assert_eq!(black_box(script_length(&pool, count, nodes, lane)), (0, length)));
+            println!("{name}{form}-length {:.2}", time / count as f64);
+        }
     }
 }
 

@@ -137,4 +137,6 @@ print(f"""
 ## Scripts
 
 `neon_write_script`, the pool check and the length with it, takes {script:.2f} ns a byte on the terms of instructions, {random_script:.2f} where the kinds come in
-random order; the goal is 1, {"met" if script <= 1 else "missed"} on the terms of instructions. `neon_script_length` takes {ours["script-length"]} and {ours["script-random-length"]} ns a node.""")
+random order; the goal is 1, {"met" if script <= 1 else "missed"} on the terms of instructions. `neon_script_length` takes {ours["script-length"]} and {ours["script-random-length"]} ns a node.
+By lanes `neon_write_lane_script` takes {ours["script-lane"]} and {ours["script-random-lane"]} ns a byte, `neon_lane_script_length` {ours["script-lane-length"]} and
+{ours["script-random-lane-length"]} ns a node.""")
