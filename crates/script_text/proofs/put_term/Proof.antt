@@ -1,20 +1,43 @@
--- `put_term` writes the term of a node, by its kind.
-use Rattle.digits.proofs.Laws.{room-front, room-step, room-as, wrote-then, wrote-as}
+-- `put_term` writes the term of a node, by its kind. For each kind the text is said once, over what was read of the node.
+use Rattle.digits.proofs.Laws.{room-as, wrote-as}
 use mathlib.Core.List.{List, _++_}
 use mathlib.Core.Path.{_≡_, sym, ap, _∙_}
-use Prim.Native.Nat.{ℕ, _-_, _≤_, _<_}
+use Prim.Native.Nat.{ℕ, _-_, _≤_}
 use native.Mathlib.Omega.{arith}
 use Rattle.terms.specs.Display.{bytes}
-use Rattle.pool.specs.Node.{kindAt, widthAt, wide}
+use Rattle.pool.specs.Node.{kindAt, widthAt, wordAt, wide}
 use Rattle.script_meaning.specs.Sexp.{show}
-use Rattle.script_meaning.specs.Script.{binary, nameOf, functionOf, apply1, apply2, apply3, index1, index2}
-use Rattle.script_text.proofs.Nodes.{constant, three-of, cut-of, two-of, extension-of, extension-term, kind-below}
+use Rattle.script_meaning.specs.Script.{binary, nameOf, termOf, functionOf, apply1, apply2, apply3, index1, index2}
+use Rattle.node_fields.specs.Fields.{opA, opB}
+use Rattle.script_text.proofs.Nodes.{Two, Extends, constant, three-of, cut-of, two-of, extension-of, extension-term, kind-below}
 use borrow.Author.Needs.{needs}
 use Rattle.script_text.proofs.put_term.Statement.{statement}
 use Rattle.script_text.proofs.put_term.Tie as tie
 
 from-three : (k : ℕ) → 2 ≤ k → (k ≡ 2 → ⊥) → 3 ≤ k
 from-three k h f = omega arith
+
+abbrev pool : tie.Start → List ℕ
+pool s = s .args .p .now
+
+abbrev node : tie.Start → ℕ
+node s = s .args .n .0
+
+-- the text that is due
+abbrev due : tie.Start → List ℕ
+due s = show (termOf (pool s) (node s))
+
+-- ---- a Const: words and width are read
+
+abbrev entry-2 : tie.After-width-of → tie.Start
+entry-2 c = c .before .before .before .before .before .before
+
+is-2 : (c : tie.After-width-of) → let s = entry-2 c in
+    (widthAt (pool s) (node s) ≤ 129) × (due s ≡ bytes "#b" ++ binary (widthAt (pool s) (node s)) (wide (wordAt (pool s) (node s) 2) (wordAt (pool s) (node s) 3)))
+is-2 c = let s = entry-2 c in constant (pool s) (node s) (s .pre .0 .0) (s .args .k) (s .pre .0 .1) (c .before .before .before .if1 .taken)
+
+text-2 : (c : tie.After-width-of) → due (entry-2 c) ≡ bytes "#b" ++ binary (c .width-of .result) (wide (c .before .before .low .result) (c .before .high .result))
+text-2 c = is-2 c .1 ∙ (λ j. bytes "#b" ++ binary (sym (c .width-of .ensures .0) j) (wide (sym (c .before .before .low .ensures) j) (sym (c .before .high .ensures) j)))
 
 low-requires : tie.Need-low-requires
 low-requires c κs = search needs
@@ -27,41 +50,27 @@ width-of-requires c κs = search needs
 
 put-constant-requires : tie.Need-put-constant-requires
 put-constant-requires c κs =
-    let at-width-of = c .before in
-    let at-high = at-width-of .before in
-    let at-low = at-high .before in
-    let at-if1 = at-low .before in
-    let st = at-if1 .before .before .before in
-    let ws = st .args .p .now in
-    let n = st .args .n .0 in
-    let r = st .pre .0 .0 in
-    let k = st .args .k in
-    let is-k = st .pre .0 .1 in
-    let h = constant ws n r k is-k (at-if1 .if1 .taken) in (
-      omega (arith, at-width-of .width-of .ensures .0, h .0),
-      room-as (h .1 ∙ (λ j. bytes "#b" ++ binary (sym (at-width-of .width-of .ensures .0) j) (wide (sym
-          (at-low .low .ensures) j) (sym (at-high .high .ensures) j)))) (st .pre .1),
-    )
+    let w = c .before in
+    (omega (arith, w .width-of .ensures .0, is-2 w .0), room-as (text-2 w) (entry-2 w .pre .1))
 
 same-length : tie.Need-same-length
 same-length c = search needs
 
 returns : tie.Need-returns
-returns c =
-    let at-put-constant = c .before .before in
-    let at-width-of = at-put-constant .before .before in
-    let at-high = at-width-of .before in
-    let at-low = at-high .before in
-    let at-if1 = at-low .before in
-    let st = at-if1 .before .before .before in
-    let ws = st .args .p .now in
-    let n = st .args .n .0 in
-    let r = st .pre .0 .0 in
-    let k = st .args .k in
-    let is-k = st .pre .0 .1 in
-    let h = constant ws n r k is-k (at-if1 .if1 .taken) in
-    wrote-as (h .1 ∙ (λ j. bytes "#b" ++ binary (sym (at-width-of .width-of .ensures .0) j) (wide (sym (at-low .low .ensures) j) (sym (at-high .high .ensures) j))))
-    (at-put-constant .put-constant .ensures)
+returns c = let q = c .before .before in wrote-as (text-2 (q .before .before)) (q .put-constant .ensures)
+
+-- ---- an Ite: the operands are read
+
+abbrev entry-15 : tie.After-third → tie.Start
+entry-15 c = c .before .before .before .before .before .before .before
+
+text-15 : (c : tie.After-third) → let s = entry-15 c in
+    due s ≡ show (apply3 (bytes "ite") (nameOf (pool s) (c .before .before .first .result .0)) (nameOf (pool s) (c .before .second .result .0)) (nameOf (pool s) (c .third .result .0)))
+text-15 c =
+    let s = entry-15 c in
+    let h = three-of (pool s) (node s) (s .pre .0 .0) (s .args .k) (s .pre .0 .1) (c .before .before .before .if2 .taken) in
+    ap show (h .3 ∙ (λ j. apply3 (bytes "ite") (nameOf (pool s) (sym (c .before .before .first .ensures) j)) (nameOf (pool s) (sym (c .before .second .ensures) j))
+    (nameOf (pool s) (sym (c .third .ensures) j))))
 
 first-requires : tie.Need-first-requires
 first-requires c κs = search needs
@@ -74,46 +83,35 @@ third-requires c κs = search needs
 
 put-three-requires : tie.Need-put-three-requires
 put-three-requires c κs =
-    let at-third = c .before in
-    let at-second = at-third .before in
-    let at-first = at-second .before in
-    let at-if2 = at-first .before in
-    let st = at-if2 .before .before .before .before in
-    let ws = st .args .p .now in
-    let n = st .args .n .0 in
-    let r = st .pre .0 .0 in
-    let k = st .args .k in
-    let is-k = st .pre .0 .1 in
-    let h = three-of ws n r k is-k (at-if2 .if2 .taken) in (
+    let t = c .before in
+    let s = entry-15 t in
+    let r = s .pre .0 .0 in
+    let h = three-of (pool s) (node s) r (s .args .k) (s .pre .0 .1) (t .before .before .before .if2 .taken) in (
       (
-        omega (arith, at-first .first .ensures, h .0, r .inside),
-        omega (arith, at-second .second .ensures, h .1, r .inside),
-        omega
-            (arith, at-third .third .ensures, h .2, r .inside),
+        omega (arith, t .before .before .first .ensures, h .0, r .inside),
+        omega (arith, t .before .second .ensures, h .1, r .inside),
+        omega (arith, t .third .ensures, h .2, r .inside),
       ),
-      room-as (ap show (h .3 ∙ (λ j. apply3 (bytes "ite") (nameOf ws (sym (at-first .first .ensures) j)) (nameOf ws
-          (sym (at-second .second .ensures) j)) (nameOf ws (sym (at-third .third .ensures) j))))) (st .pre .1),
+      room-as (text-15 t) (s .pre .1),
     )
 
 same-length-2 : tie.Need-same-length-2
 same-length-2 c = search needs
 
 returns-2 : tie.Need-returns-2
-returns-2 c =
-    let at-put-three = c .before .before in
-    let at-third = at-put-three .before .before in
-    let at-second = at-third .before in
-    let at-first = at-second .before in
-    let at-if2 = at-first .before in
-    let st = at-if2 .before .before .before .before in
-    let ws = st .args .p .now in
-    let n = st .args .n .0 in
-    let r = st .pre .0 .0 in
-    let k = st .args .k in
-    let is-k = st .pre .0 .1 in
-    let h = three-of ws n r k is-k (at-if2 .if2 .taken) in
-    wrote-as (ap show (h .3 ∙ (λ j. apply3 (bytes "ite") (nameOf ws (sym (at-first .first .ensures) j)) (nameOf ws (sym (at-second .second .ensures) j)) (nameOf ws (sym
-    (at-third .third .ensures) j))))) (at-put-three .put-three .ensures)
+returns-2 c = let q = c .before .before in wrote-as (text-15 (q .before .before)) (q .put-three .ensures)
+
+-- ---- an Extract: the operand and both bits are read
+
+abbrev entry-16 : tie.After-high2 → tie.Start
+entry-16 c = c .before .before .before .before .before .before .before .before
+
+text-16 : (c : tie.After-high2) → let s = entry-16 c in
+    due s ≡ show (apply1 (index2 (bytes "extract") (c .before .low2 .result) (c .high2 .result)) (nameOf (pool s) (c .before .before .first2 .result .0)))
+text-16 c =
+    let s = entry-16 c in
+    let h = cut-of (pool s) (node s) (s .pre .0 .0) (s .args .k) (s .pre .0 .1) (c .before .before .before .if3 .taken) in
+    ap show (h .1 ∙ (λ j. apply1 (index2 (bytes "extract") (sym (c .before .low2 .ensures) j) (sym (c .high2 .ensures) j)) (nameOf (pool s) (sym (c .before .before .first2 .ensures) j))))
 
 first-requires-2 : tie.Need-first-requires-2
 first-requires-2 c κs = search needs
@@ -126,41 +124,41 @@ high-requires-2 c κs = search needs
 
 put-cut-requires : tie.Need-put-cut-requires
 put-cut-requires c κs =
-    let at-high2 = c .before in
-    let at-low2 = at-high2 .before in
-    let at-first2 = at-low2 .before in
-    let at-if3 = at-first2 .before in
-    let st = at-if3 .before .before .before .before .before in
-    let ws = st .args .p .now in
-    let n = st .args .n .0 in
-    let r = st .pre .0 .0 in
-    let k = st .args .k in
-    let is-k = st .pre .0 .1 in
-    let h = cut-of ws n r k is-k (at-if3 .if3 .taken) in (
-      omega (arith, at-first2 .first2 .ensures, h .0, r .inside),
-      room-as (ap show (h .1 ∙ (λ j. apply1 (index2 (bytes "extract") (sym (at-low2 .low2 .ensures) j) (sym
-          (at-high2 .high2 .ensures) j)) (nameOf ws (sym (at-first2 .first2 .ensures) j))))) (st .pre .1),
-    )
+    let t = c .before in
+    let s = entry-16 t in
+    let r = s .pre .0 .0 in
+    let h = cut-of (pool s) (node s) r (s .args .k) (s .pre .0 .1) (t .before .before .before .if3 .taken) in
+    (omega (arith, t .before .before .first2 .ensures, h .0, r .inside), room-as (text-16 t) (s .pre .1))
 
 same-length-3 : tie.Need-same-length-3
 same-length-3 c = search needs
 
 returns-3 : tie.Need-returns-3
-returns-3 c =
-    let at-put-cut = c .before .before in
-    let at-high2 = at-put-cut .before .before in
-    let at-low2 = at-high2 .before in
-    let at-first2 = at-low2 .before in
-    let at-if3 = at-first2 .before in
-    let st = at-if3 .before .before .before .before .before in
-    let ws = st .args .p .now in
-    let n = st .args .n .0 in
-    let r = st .pre .0 .0 in
-    let k = st .args .k in
-    let is-k = st .pre .0 .1 in
-    let h = cut-of ws n r k is-k (at-if3 .if3 .taken) in
-    wrote-as (ap show (h .1 ∙ (λ j. apply1 (index2 (bytes "extract") (sym (at-low2 .low2 .ensures) j) (sym (at-high2 .high2 .ensures) j)) (nameOf ws (sym
-    (at-first2 .first2 .ensures) j))))) (at-put-cut .put-cut .ensures)
+returns-3 c = let q = c .before .before in wrote-as (text-16 (q .before .before)) (q .put-cut .ensures)
+
+-- ---- two operands, which are read
+
+module _ (c : tie.After-second2) where
+  abbrev two-if : tie.Then4
+  two-if = c .before .before
+
+  abbrev two-entry : tie.Start
+  two-entry = two-if .before .before .before .before .before .before
+
+  two-from : 3 ≤ two-entry .args .k
+  two-from = from-three (two-entry .args .k) (two-entry .pre .0 .2) (two-if .before .before .before .if1 .left)
+
+  two-is : let s = two-entry in let ws = pool s in
+      Two (node s) (opA ws (node s)) (opB ws (node s)) (termOf ws (node s)) (apply2 (functionOf (kindAt (s .args .k))) (nameOf ws (opA ws (node s))) (nameOf ws (opB ws (node s))))
+  two-is =
+      let s = two-entry in
+      two-of (pool s) (node s) (s .pre .0 .0) (s .args .k) (s .pre .0 .1) two-from (two-if .if4 .taken) (two-if .before .before .if2 .left) (two-if .before .if3 .left)
+
+  two-text : let s = two-entry in
+      due s ≡ show (apply2 (functionOf (kindAt (s .args .k))) (nameOf (pool s) (c .before .first3 .result .0)) (nameOf (pool s) (c .second2 .result .0)))
+  two-text =
+      let s = two-entry in
+      ap show (two-is .term-is ∙ (λ j. apply2 (functionOf (kindAt (s .args .k))) (nameOf (pool s) (sym (c .before .first3 .ensures) j)) (nameOf (pool s) (sym (c .second2 .ensures) j))))
 
 first-requires-3 : tie.Need-first-requires-3
 first-requires-3 c κs = search needs
@@ -170,51 +168,42 @@ second-requires-2 c κs = search needs
 
 put-two-requires : tie.Need-put-two-requires
 put-two-requires c κs =
-    let at-second2 = c .before in
-    let at-first3 = at-second2 .before in
-    let at-if4 = at-first3 .before in
-    let at-if3 = at-if4 .before in
-    let at-if2 = at-if3 .before in
-    let at-if1 = at-if2 .before in
-    let st = at-if1 .before .before .before in
-    let ws = st .args .p .now in
-    let n = st .args .n .0 in
-    let r = st .pre .0 .0 in
-    let k = st .args .k in
-    let is-k = st .pre .0 .1 in
-    let h = two-of ws n r k is-k (from-three k (st .pre .0 .2) (at-if1 .if1 .left)) (at-if4 .if4 .taken) (at-if2 .if2 .left) (at-if3 .if3 .left) in (
+    let t = c .before in
+    let s = two-entry t in
+    let r = s .pre .0 .0 in (
       (
-        from-three k (st .pre .0 .2) (at-if1 .if1 .left),
-        kind-below ws n r k is-k,
-        omega (arith, at-first3 .first3 .ensures, h .less-a, r .inside),
-        omega
-            (arith, at-second2 .second2 .ensures, h .less-b, r .inside),
+        two-from t,
+        kind-below (pool s) (node s) r (s .args .k) (s .pre .0 .1),
+        omega (arith, t .before .first3 .ensures, two-is t .less-a, r .inside),
+        omega (arith, t .second2 .ensures, two-is t .less-b, r .inside),
       ),
-      room-as (ap show (h .term-is ∙ (λ j. apply2 (functionOf (kindAt k)) (nameOf ws (sym
-          (at-first3 .first3 .ensures) j)) (nameOf ws (sym (at-second2 .second2 .ensures) j))))) (st .pre .1),
+      room-as (two-text t) (s .pre .1),
     )
 
 same-length-4 : tie.Need-same-length-4
 same-length-4 c = search needs
 
 returns-4 : tie.Need-returns-4
-returns-4 c =
-    let at-put-two = c .before .before in
-    let at-second2 = at-put-two .before .before in
-    let at-first3 = at-second2 .before in
-    let at-if4 = at-first3 .before in
-    let at-if3 = at-if4 .before in
-    let at-if2 = at-if3 .before in
-    let at-if1 = at-if2 .before in
-    let st = at-if1 .before .before .before in
-    let ws = st .args .p .now in
-    let n = st .args .n .0 in
-    let r = st .pre .0 .0 in
-    let k = st .args .k in
-    let is-k = st .pre .0 .1 in
-    let h = two-of ws n r k is-k (from-three k (st .pre .0 .2) (at-if1 .if1 .left)) (at-if4 .if4 .taken) (at-if2 .if2 .left) (at-if3 .if3 .left) in
-    wrote-as (ap show (h .term-is ∙ (λ j. apply2 (functionOf (kindAt k)) (nameOf ws (sym (at-first3 .first3 .ensures) j)) (nameOf ws (sym
-    (at-second2 .second2 .ensures) j))))) (at-put-two .put-two .ensures)
+returns-4 c = let q = c .before .before in wrote-as (two-text (q .before .before)) (q .put-two .ensures)
+
+-- ---- an extension
+
+abbrev entry-18 : tie.Else4 → tie.Start
+entry-18 c = c .before .before .before .before .before .before
+
+extends : (c : tie.Else4) → let s = entry-18 c in Extends (pool s) (node s) (s .pre .0 .0) (s .args .k) (s .pre .0 .1) (kindAt (s .args .k))
+extends c = let s = entry-18 c in extension-of (pool s) (node s) (s .pre .0 .0) (s .args .k) (s .pre .0 .1) (c .if4 .left)
+
+-- the operand, both widths and the operand again are read
+text-18 : (c : tie.After-first5) → let w = c .before in let o = w .before .before in let s = entry-18 (o .before) in
+    due s ≡ show (apply1 (index1 (functionOf (kindAt (s .args .k))) (o .width-of2 .result - w .width-of3 .result)) (nameOf (pool s) (c .first5 .result .0)))
+text-18 c =
+    let w = c .before in
+    let o = w .before .before in
+    let s = entry-18 (o .before) in
+    let m = w .width-of3 .ensures .0 ∙ ap (widthAt (pool s)) (w .before .first4 .ensures) in
+    ap show (extension-term (pool s) (node s) (s .pre .0 .0) (s .args .k) (s .pre .0 .1) (o .before .if4 .left)
+    ∙ (λ j. apply1 (index1 (functionOf (kindAt (s .args .k))) (sym (o .width-of2 .ensures .0) j - sym m j)) (nameOf (pool s) (sym (c .first5 .ensures) j))))
 
 width-of-requires-2 : tie.Need-width-of-requires-2
 width-of-requires-2 c κs = search needs
@@ -224,75 +213,33 @@ first-requires-4 c κs = search needs
 
 width-of-requires-3 : tie.Need-width-of-requires-3
 width-of-requires-3 c κs =
-    let at-if4 = c .before .before in
-    let st = at-if4 .before .before .before .before .before .before in
-    let ws = st .args .p .now in
-    let n = st .args .n .0 in
-    let r = st .pre .0 .0 in
-    let k = st .args .k in
-    let is-k = st .pre .0 .1 in
-    let h = extension-of ws n r k is-k (at-if4 .if4 .left) in
-    omega (arith, c .first4 .ensures, h .less-a, r .inside)
+    let e = c .before .before in
+    omega (arith, c .first4 .ensures, extends e .less-a, entry-18 e .pre .0 .0 .inside)
 
 sub-by : tie.Need-sub-by
 sub-by c =
-    let at-first4 = c .before in
-    let at-width-of2 = at-first4 .before in
-    let at-if4 = at-width-of2 .before in
-    let st = at-if4 .before .before .before .before .before .before in
-    let ws = st .args .p .now in
-    let n = st .args .n .0 in
-    let r = st .pre .0 .0 in
-    let k = st .args .k in
-    let is-k = st .pre .0 .1 in
-    let h = extension-of ws n r k is-k (at-if4 .if4 .left) in
-    let e = c .width-of3 .ensures .0 ∙ ap (widthAt ws) (at-first4 .first4 .ensures) in
-    omega (arith, e, at-width-of2 .width-of2 .ensures .0, h .longer)
+    let o = c .before .before in
+    let m = c .width-of3 .ensures .0 ∙ ap (widthAt (pool (entry-18 (o .before)))) (c .before .first4 .ensures) in
+    omega (arith, m, o .width-of2 .ensures .0, extends (o .before) .longer)
 
 first-requires-5 : tie.Need-first-requires-5
 first-requires-5 c κs = search needs
 
 put-extension-requires : tie.Need-put-extension-requires
 put-extension-requires c κs =
-    let at-first5 = c .before in
-    let at-width-of3 = at-first5 .before in
-    let at-first4 = at-width-of3 .before in
-    let at-width-of2 = at-first4 .before in
-    let at-if4 = at-width-of2 .before in
-    let st = at-if4 .before .before .before .before .before .before in
-    let ws = st .args .p .now in
-    let n = st .args .n .0 in
-    let r = st .pre .0 .0 in
-    let k = st .args .k in
-    let is-k = st .pre .0 .1 in
-    let l = at-if4 .if4 .left in
-    let h = extension-of ws n r k is-k l in (
-      (omega (arith, l), kind-below ws n r k is-k, omega (arith, at-first5 .first5 .ensures, h .less-a, r .inside)),
-      room-as (ap show (extension-term ws n r k is-k l ∙
-          (λ j. apply1 (index1 (functionOf (kindAt k)) (sym (at-width-of2 .width-of2 .ensures .0) j - sym (at-width-of3 .width-of3 .ensures .0 ∙ ap (widthAt ws)
-          (at-first4 .first4 .ensures)) j)) (nameOf ws (sym (at-first5 .first5 .ensures) j))))) (st .pre .1),
+    let t = c .before in
+    let e = t .before .before .before .before in
+    let s = entry-18 e in
+    let r = s .pre .0 .0 in (
+      (omega (arith, e .if4 .left), kind-below (pool s) (node s) r (s .args .k) (s .pre .0 .1), omega (arith, t .first5 .ensures, extends e .less-a, r .inside)),
+      room-as (text-18 t) (s .pre .1),
     )
 
 same-length-5 : tie.Need-same-length-5
 same-length-5 c = search needs
 
 returns-5 : tie.Need-returns-5
-returns-5 c =
-    let at-put-extension = c .before .before in
-    let at-first5 = at-put-extension .before .before in
-    let at-width-of3 = at-first5 .before in
-    let at-first4 = at-width-of3 .before in
-    let at-width-of2 = at-first4 .before in
-    let at-if4 = at-width-of2 .before in
-    let st = at-if4 .before .before .before .before .before .before in
-    let ws = st .args .p .now in
-    let n = st .args .n .0 in
-    let r = st .pre .0 .0 in
-    let k = st .args .k in
-    let is-k = st .pre .0 .1 in
-    let l = at-if4 .if4 .left in
-    wrote-as (ap show (extension-term ws n r k is-k l ∙ (λ j. apply1 (index1 (functionOf (kindAt k)) (sym (at-width-of2 .width-of2 .ensures .0) j - sym
-    (at-width-of3 .width-of3 .ensures .0 ∙ ap (widthAt ws) (at-first4 .first4 .ensures)) j)) (nameOf ws (sym (at-first5 .first5 .ensures) j))))) (at-put-extension .put-extension .ensures)
+returns-5 c = let q = c .before .before in wrote-as (text-18 (q .before .before)) (q .put-extension .ensures)
 
 pub put-term-spec : {M : Type 1} → statement M
 put-term-spec =
