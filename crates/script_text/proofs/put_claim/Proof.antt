@@ -5,6 +5,22 @@ use borrow.Author.Needs.{needs}
 use Rattle.script_text.proofs.put_claim.Statement.{statement}
 use Rattle.script_text.proofs.put_claim.Tie as tie
 
+-- ---- places
+
+abbrev entry : tie.After-put → tie.Start
+entry c = c .before .before .before .before .before
+
+abbrev put-done : tie.After-put-name → tie.After-put
+put-done c = c .before .before .before .before
+
+abbrev put-name-done : tie.After-put2 → tie.After-put-name
+put-name-done c = c .before .before .before .before .before
+
+abbrev put2-done : tie.After-put-name2 → tie.After-put2
+put2-done c = c .before .before .before .before
+
+-- ---- needs
+
 slice-aggregate-put : tie.Need-slice-aggregate-put
 slice-aggregate-put c = search needs
 
@@ -16,7 +32,7 @@ put-requires c κs =
 put-name-requires : tie.Need-put-name-requires
 put-name-requires c κs =
     let at-put = c .before .before .before in
-    let st = at-put .before .before .before .before .before in (
+    let st = entry at-put in (
       st .pre .0 .0,
       (room-front _ (room-step (at-put .put .ensures)
           (room-as (claim-is (st .args .p .now) (st .args .x .0) (st .args .y .0)) (st .pre .1)))),
@@ -28,17 +44,17 @@ slice-aggregate-put-2 c = search needs
 put-requires-2 : tie.Need-put-requires-2
 put-requires-2 c κs =
     let at-put-name = c .before .before .before .before in
-    let at-put = at-put-name .before .before .before .before in
-    let st = at-put .before .before .before .before .before in
+    let at-put = put-done at-put-name in
+    let st = entry at-put in
     (room-front _ (room-step (at-put-name .put-name .ensures) (room-step (at-put .put .ensures)
     (room-as (claim-is (st .args .p .now) (st .args .x .0) (st .args .y .0)) (st .pre .1)))))
 
 put-name-requires-2 : tie.Need-put-name-requires-2
 put-name-requires-2 c κs =
     let at-put2 = c .before .before .before in
-    let at-put-name = at-put2 .before .before .before .before .before in
-    let at-put = at-put-name .before .before .before .before in
-    let st = at-put .before .before .before .before .before in (
+    let at-put-name = put-name-done at-put2 in
+    let at-put = put-done at-put-name in
+    let st = entry at-put in (
       st .pre .0 .1,
       (room-front _ (room-step (at-put2 .put2 .ensures) (room-step (at-put-name .put-name .ensures)
           (room-step (at-put .put .ensures) (room-as (claim-is (st .args .p .now) (st .args .x .0) (st .args .y .0)) (st .pre .1)))))),
@@ -50,10 +66,10 @@ slice-aggregate-put-3 c = search needs
 put-requires-3 : tie.Need-put-requires-3
 put-requires-3 c κs =
     let at-put-name2 = c .before .before .before .before in
-    let at-put2 = at-put-name2 .before .before .before .before in
-    let at-put-name = at-put2 .before .before .before .before .before in
-    let at-put = at-put-name .before .before .before .before in
-    let st = at-put .before .before .before .before .before in
+    let at-put2 = put2-done at-put-name2 in
+    let at-put-name = put-name-done at-put2 in
+    let at-put = put-done at-put-name in
+    let st = entry at-put in
     (room-step (at-put-name2 .put-name2 .ensures) (room-step (at-put2 .put2 .ensures) (room-step (at-put-name .put-name .ensures)
     (room-step (at-put .put .ensures) (room-as (claim-is (st .args .p .now) (st .args .x .0) (st .args .y .0)) (st .pre .1))))))
 
@@ -64,10 +80,10 @@ returns : tie.Need-returns
 returns c =
     let at-put3 = c .before .before in
     let at-put-name2 = at-put3 .before .before .before .before .before in
-    let at-put2 = at-put-name2 .before .before .before .before in
-    let at-put-name = at-put2 .before .before .before .before .before in
-    let at-put = at-put-name .before .before .before .before in
-    let st = at-put .before .before .before .before .before in
+    let at-put2 = put2-done at-put-name2 in
+    let at-put-name = put-name-done at-put2 in
+    let at-put = put-done at-put-name in
+    let st = entry at-put in
     wrote-as (claim-is (st .args .p .now) (st .args .x .0) (st .args .y .0)) (wrote-then (at-put .put .ensures)
     (wrote-then (at-put-name .put-name .ensures) (wrote-then (at-put2 .put2 .ensures)
     (wrote-then (at-put-name2 .put-name2 .ensures) (at-put3 .put3 .ensures)))))

@@ -5,6 +5,16 @@ use borrow.Author.Needs.{needs}
 use Rattle.script_text.proofs.put_sort.Statement.{statement}
 use Rattle.script_text.proofs.put_sort.Tie as tie
 
+-- ---- places
+
+abbrev if1-done : tie.After-put2 → tie.Else1
+if1-done c = c .before .before .before
+
+abbrev put2-done : tie.After-put-number → tie.After-put2
+put2-done c = c .before .before .before .before
+
+-- ---- needs
+
 slice-aggregate-put : tie.Need-slice-aggregate-put
 slice-aggregate-put c = search needs
 
@@ -35,7 +45,7 @@ put-requires-2 c κs =
 put-number-requires : tie.Need-put-number-requires
 put-number-requires c κs =
     let at-put2 = c .before .before .before in
-    let at-if1 = at-put2 .before .before .before in
+    let at-if1 = if1-done at-put2 in
     let st = at-if1 .before .before in
     (room-front _ (room-step (at-put2 .put2 .ensures) (room-as (long-sort _ (at-if1 .if1 .left)) (st .pre))))
 
@@ -45,8 +55,8 @@ slice-aggregate-put-3 c = search needs
 put-requires-3 : tie.Need-put-requires-3
 put-requires-3 c κs =
     let at-put-number = c .before .before .before .before in
-    let at-put2 = at-put-number .before .before .before .before in
-    let at-if1 = at-put2 .before .before .before in
+    let at-put2 = put2-done at-put-number in
+    let at-if1 = if1-done at-put2 in
     let st = at-if1 .before .before in
     (room-step (at-put-number .put-number .ensures) (room-step (at-put2 .put2 .ensures) (room-as (long-sort _ (at-if1 .if1 .left)) (st .pre))))
 
@@ -57,8 +67,8 @@ returns-2 : tie.Need-returns-2
 returns-2 c =
     let at-put3 = c .before .before in
     let at-put-number = at-put3 .before .before .before .before .before in
-    let at-put2 = at-put-number .before .before .before .before in
-    let at-if1 = at-put2 .before .before .before in
+    let at-put2 = put2-done at-put-number in
+    let at-if1 = if1-done at-put2 in
     wrote-as (long-sort _ (at-if1 .if1 .left)) (wrote-then (at-put2 .put2 .ensures)
     (wrote-then (at-put-number .put-number .ensures) (at-put3 .put3 .ensures)))
 

@@ -7,6 +7,28 @@ use borrow.Author.Needs.{needs}
 use Rattle.script_text.proofs.put_two.Statement.{statement}
 use Rattle.script_text.proofs.put_two.Tie as tie
 
+-- ---- places
+
+abbrev entry : tie.After-put → tie.Start
+entry c = c .before .before .before .before .before
+
+abbrev put-done : tie.After-put-function → tie.After-put
+put-done c = c .before .before .before .before
+
+abbrev put-function-done : tie.After-put2 → tie.After-put-function
+put-function-done c = c .before .before .before .before .before
+
+abbrev put2-done : tie.After-put-name → tie.After-put2
+put2-done c = c .before .before .before .before
+
+abbrev put-name-done : tie.After-put3 → tie.After-put-name
+put-name-done c = c .before .before .before .before .before
+
+abbrev put3-done : tie.After-put-name2 → tie.After-put3
+put3-done c = c .before .before .before .before
+
+-- ---- needs
+
 slice-aggregate-put : tie.Need-slice-aggregate-put
 slice-aggregate-put c = search needs
 
@@ -19,7 +41,7 @@ put-requires c κs =
 put-function-requires : tie.Need-put-function-requires
 put-function-requires c κs =
     let at-put = c .before .before .before in
-    let st = at-put .before .before .before .before .before in (
+    let st = entry at-put in (
       (st .pre .0 .0, st .pre .0 .1),
       (room-front _ (room-step (at-put .put .ensures)
           (room-as (applied-2 (functionOf (kindAt (st .args .k))) (nameOf (st .args .p .now) (st .args .a .0)) (nameOf (st .args .p .now) (st .args .b .0))) (st .pre .1)))),
@@ -31,17 +53,17 @@ slice-aggregate-put-2 c = search needs
 put-requires-2 : tie.Need-put-requires-2
 put-requires-2 c κs =
     let at-put-function = c .before .before .before .before in
-    let at-put = at-put-function .before .before .before .before in
-    let st = at-put .before .before .before .before .before in
+    let at-put = put-done at-put-function in
+    let st = entry at-put in
     (room-front _ (room-step (at-put-function .put-function .ensures) (room-step (at-put .put .ensures)
     (room-as (applied-2 (functionOf (kindAt (st .args .k))) (nameOf (st .args .p .now) (st .args .a .0)) (nameOf (st .args .p .now) (st .args .b .0))) (st .pre .1)))))
 
 put-name-requires : tie.Need-put-name-requires
 put-name-requires c κs =
     let at-put2 = c .before .before .before in
-    let at-put-function = at-put2 .before .before .before .before .before in
-    let at-put = at-put-function .before .before .before .before in
-    let st = at-put .before .before .before .before .before in (
+    let at-put-function = put-function-done at-put2 in
+    let at-put = put-done at-put-function in
+    let st = entry at-put in (
       st .pre .0 .2,
       (room-front _ (room-step (at-put2 .put2 .ensures) (room-step (at-put-function .put-function .ensures)
           (room-step (at-put .put .ensures)
@@ -54,10 +76,10 @@ slice-aggregate-put-3 c = search needs
 put-requires-3 : tie.Need-put-requires-3
 put-requires-3 c κs =
     let at-put-name = c .before .before .before .before in
-    let at-put2 = at-put-name .before .before .before .before in
-    let at-put-function = at-put2 .before .before .before .before .before in
-    let at-put = at-put-function .before .before .before .before in
-    let st = at-put .before .before .before .before .before in
+    let at-put2 = put2-done at-put-name in
+    let at-put-function = put-function-done at-put2 in
+    let at-put = put-done at-put-function in
+    let st = entry at-put in
     (room-front _ (room-step (at-put-name .put-name .ensures) (room-step (at-put2 .put2 .ensures)
     (room-step (at-put-function .put-function .ensures) (room-step (at-put .put .ensures)
     (room-as (applied-2 (functionOf (kindAt (st .args .k))) (nameOf (st .args .p .now) (st .args .a .0)) (nameOf (st .args .p .now) (st .args .b .0))) (st .pre .1)))))))
@@ -65,11 +87,11 @@ put-requires-3 c κs =
 put-name-requires-2 : tie.Need-put-name-requires-2
 put-name-requires-2 c κs =
     let at-put3 = c .before .before .before in
-    let at-put-name = at-put3 .before .before .before .before .before in
-    let at-put2 = at-put-name .before .before .before .before in
-    let at-put-function = at-put2 .before .before .before .before .before in
-    let at-put = at-put-function .before .before .before .before in
-    let st = at-put .before .before .before .before .before in (
+    let at-put-name = put-name-done at-put3 in
+    let at-put2 = put2-done at-put-name in
+    let at-put-function = put-function-done at-put2 in
+    let at-put = put-done at-put-function in
+    let st = entry at-put in (
       st .pre .0 .3,
       (room-front _ (room-step (at-put3 .put3 .ensures) (room-step (at-put-name .put-name .ensures)
           (room-step (at-put2 .put2 .ensures) (room-step (at-put-function .put-function .ensures) (room-step (at-put .put .ensures)
@@ -82,12 +104,12 @@ slice-aggregate-put-4 c = search needs
 put-requires-4 : tie.Need-put-requires-4
 put-requires-4 c κs =
     let at-put-name2 = c .before .before .before .before in
-    let at-put3 = at-put-name2 .before .before .before .before in
-    let at-put-name = at-put3 .before .before .before .before .before in
-    let at-put2 = at-put-name .before .before .before .before in
-    let at-put-function = at-put2 .before .before .before .before .before in
-    let at-put = at-put-function .before .before .before .before in
-    let st = at-put .before .before .before .before .before in
+    let at-put3 = put3-done at-put-name2 in
+    let at-put-name = put-name-done at-put3 in
+    let at-put2 = put2-done at-put-name in
+    let at-put-function = put-function-done at-put2 in
+    let at-put = put-done at-put-function in
+    let st = entry at-put in
     (room-step (at-put-name2 .put-name2 .ensures) (room-step (at-put3 .put3 .ensures) (room-step (at-put-name .put-name .ensures)
     (room-step (at-put2 .put2 .ensures) (room-step (at-put-function .put-function .ensures) (room-step (at-put .put .ensures)
     (room-as (applied-2 (functionOf (kindAt (st .args .k))) (nameOf (st .args .p .now) (st .args .a .0)) (nameOf (st .args .p .now) (st .args .b .0))) (st .pre .1))))))))
@@ -99,12 +121,12 @@ returns : tie.Need-returns
 returns c =
     let at-put4 = c .before .before in
     let at-put-name2 = at-put4 .before .before .before .before .before in
-    let at-put3 = at-put-name2 .before .before .before .before in
-    let at-put-name = at-put3 .before .before .before .before .before in
-    let at-put2 = at-put-name .before .before .before .before in
-    let at-put-function = at-put2 .before .before .before .before .before in
-    let at-put = at-put-function .before .before .before .before in
-    let st = at-put .before .before .before .before .before in
+    let at-put3 = put3-done at-put-name2 in
+    let at-put-name = put-name-done at-put3 in
+    let at-put2 = put2-done at-put-name in
+    let at-put-function = put-function-done at-put2 in
+    let at-put = put-done at-put-function in
+    let st = entry at-put in
     wrote-as (applied-2 (functionOf (kindAt (st .args .k))) (nameOf (st .args .p .now) (st .args .a .0)) (nameOf (st .args .p .now) (st .args .b .0)))
     (wrote-then (at-put .put .ensures) (wrote-then (at-put-function .put-function .ensures) (wrote-then (at-put2 .put2 .ensures)
     (wrote-then (at-put-name .put-name .ensures) (wrote-then (at-put3 .put3 .ensures)
