@@ -66,7 +66,7 @@ fn example() {
 }
 
 // Chains of cuts of five characters each, the deepest that a buffer of 140,000 bytes takes, on a thread of 2 MB; and how
-// long it takes to refuse a term of 2^65,534 characters and more.
+// long it takes to refuse a term of 2^65,534 characters and more, and to ask for its length.
 fn two_megabytes() {
     let mut cuts: Vec<u64> = vec![1 | 128 << 16 | 1 << 32, 0, 0, 0];
     let mut sums = cuts.clone();
@@ -81,6 +81,23 @@ fn two_megabytes() {
     let milliseconds = start.elapsed().as_secs_f64() * 1000.0;
     assert!(milliseconds < 100.0, "{milliseconds} ms");
     println!("texts: one of 2^65,534 characters and more is refused in {milliseconds:.2} ms");
+    doubled(&sums);
+}
+
+// Lengths of sums of the node before with itself: node n has 7 × 2^n - 5 characters, past the highest ceiling from node 30 on.
+fn doubled(sums: &[u64]) {
+    for n in [0, 1, 5, 17, 18, 19, 28, 29, 30, 31, 1000, 65534] {
+        let length = if n < 60 { (7u64 << n) - 5 } else { u64::MAX };
+        let near = length.min(u32::MAX as u64) as u32;
+        for ceiling in [0, near - 1, near, u32::MAX] {
+            assert_eq!(text_length(sums, 65535, n, ceiling), (0, length.min(ceiling as u64 + 1)), "node {n}, ceiling {ceiling}");
+        }
+    }
+    let start = std::time::Instant::now();
+    assert_eq!(text_length(sums, 65535, 65534, u32::MAX), (0, 1 << 32));
+    let milliseconds = start.elapsed().as_secs_f64() * 1000.0;
+    assert!(milliseconds < 100.0, "{milliseconds} ms");
+    println!("texts: the length of 2^65,534 characters and more, up to 2^32 - 1, takes {milliseconds:.2} ms");
 }
 
 pub fn main(pools: u64) {
