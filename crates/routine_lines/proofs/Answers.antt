@@ -41,7 +41,7 @@ line-fits bs j h =
     omega (arith, long (lineAt bs j) (both (inColumns (lineAt bs j)) _ h), length-take 24 (drop (25 * j) bs), length-drop (25 * j) bs)
 
 -- a byte that is there, whatever stands for one that is not
-getD-any : (l : List ℕ) (i d e : ℕ) → i < length l → getD l i d ≡ getD l i e
+pub getD-any : (l : List ℕ) (i d e : ℕ) → i < length l → getD l i d ≡ getD l i e
 getD-any [] i d e h = absurd (not-suc-le-zero h)
 getD-any (x ∷ l) zero d e h = refl
 getD-any (x ∷ l) (suc i) d e h = getD-any l i d e (le-of-suc-le-suc h)
