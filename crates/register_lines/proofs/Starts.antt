@@ -14,6 +14,7 @@ use borrow.Author.Tests.{leb-true, leb-false, ne-eqb}
 use Rattle.digits.specs.Writing.{Wrote}
 use Rattle.digits.proofs.Laws.{wrote-none, wrote-as}
 use Rattle.series.specs.Series.{upTo}
+use Rattle.series.proofs.Places.{rows-length}
 use Rattle.series.proofs.Texts.{wrote-next}
 use Rattle.routine_lines.proofs.First.{all-pass, first-fails}
 use Rattle.routine_lines.proofs.Answers.{getD-any}
@@ -72,6 +73,10 @@ pub record Reading (bs old words : List ℕ) (next r : ℕ) : Type 0 where
   pub next-in : next ≤ length bs
   pub good : (i : ℕ) → i < r → isRegister bs (placeOf bs i) ≡ true
   pub most : r ≤ 32
+
+pub start-length : (bs : List ℕ) (r : ℕ) → length (startWords bs r) ≡ 2 * r
+unfolding startWords
+start-length bs r = rows-length 2 (λ r. pairAt bs (placeOf bs r)) r (λ j l. refl)
 
 line-reads-all : (bs : List ℕ) (end : ℕ) → readBy (lineRefusal bs end) ≡ 32
 line-reads-all bs end = go (eqb (getD bs end 10) 10) refl

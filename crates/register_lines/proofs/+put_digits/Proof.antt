@@ -11,6 +11,7 @@ use borrow.Fn.PlainCycle.{Measures, is, falls, and}
 use Rattle.register_lines.proofs.put_digits.Reads as put-digits
 use Rattle.register_lines.proofs.put_digits.Kinds as put-digits-kinds
 use Rattle.register_lines.proofs.+put_digits.Lts-put_digits as put-digits-lts
+use Rattle.register_lines.proofs.character.Reads as character-reads
 use Rattle.register_lines.proofs.+put_digits.{statement}
 use Rattle.register_lines.proofs.+put_digits.Tie.{close}
 

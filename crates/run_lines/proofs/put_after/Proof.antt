@@ -1,0 +1,38 @@
+-- `run_lines::put_after` meets its contract.
+use mathlib.Core.Path.{_≡_, sym, refl, ap, _∙_}
+use native.Mathlib.Omega.{arith}
+use Rattle.digits.proofs.Laws.{wrote-then, wrote-as, wrote-none}
+use mathlib.Core.Bool.{Bool}
+use mathlib.Core.List.{append-nil}
+use Rattle.wide.specs.Registers.{registersOf}
+use Rattle.run_lines.specs.Output.{afterText, registersText}
+use borrow.Author.Needs.{needs}
+use Rattle.run_lines.proofs.put_after.Statement.{statement}
+use Rattle.run_lines.proofs.put_after.Tie as tie
+
+put-registers-requires : tie.Need-put-registers-requires
+put-registers-requires c κs = search needs
+
+slice-aggregate-put : tie.Need-slice-aggregate-put
+slice-aggregate-put c = search needs
+
+put-requires : tie.Need-put-requires
+put-requires c κs = search needs
+
+returns : tie.Need-returns
+returns c =
+    let t = c .before .before .before in
+    let p = t .before in
+    let a = p .before .before .args in
+    wrote-as (ap (afterText (registersOf (a .start .words)) (registersOf (a .after .words))) (t .if1 .taken)) (wrote-then (p .put-registers .ensures .0) (c .put .ensures))
+
+returns-2 : tie.Need-returns-2
+returns-2 c =
+    let p = c .before in
+    let a = p .before .before .args in
+    let text = registersText (registersOf (a .start .words)) (registersOf (a .after .words)) in
+    wrote-as (ap (afterText (registersOf (a .start .words)) (registersOf (a .after .words))) (c .if1 .left) ∙ append-nil text) (p .put-registers .ensures .0)
+
+pub put-after-spec : {M : Type 1} → statement M
+put-after-spec =
+    tie.close (tie.spec put-registers-requires slice-aggregate-put put-requires returns returns-2)
