@@ -96,6 +96,7 @@ module _ (rest : List ℕ) where
             position-is = q .1 ∙ position-by ∙ sym (ap (λ (x : Refusal). x .position) e);
             in-start-is = q .2;
             wrote = nothing (restRefusal rest) _ out (w .length) (omega (arith, number-by, ap (λ (x : Refusal). x .number) e)) (q .3);
+            length-in = omega (arith, q .3);
           }
 
       module _ (passed : r .number ≤ 0) {number position : ℕ} {new : List ℕ}
@@ -120,6 +121,7 @@ module _ (rest : List ℕ) where
               position-is = q .1 ∙ by-position;
               in-start-is = q .2;
               wrote = nothing (restRefusal rest) _ out (w .length) (omega (arith, by-number)) (q .3);
+              length-in = omega (arith, q .3);
             }
 
         text : (saturated : Bool) → number ≤ 0 → FlagAnswered start (recordsOf (take (6 * r .count) records)) number saturated
@@ -135,14 +137,15 @@ module _ (rest : List ℕ) where
             rw (rows, ← f)
 
         pub block-ran : {out′ : List ℕ} {len : ℕ} (saturated : Bool) → number ≤ 0 → FlagAnswered start (recordsOf (take (6 * r .count) records)) number saturated
-            → Wrote out 0 (afterText (registersOf start) (registersOf new) saturated) len out′
+            → Wrote out 0 (afterText (registersOf start) (registersOf new) saturated) len out′ → len ≤ 1536
             → RanRest start rest out (record { number = number; position = position; in_start = false; length = len }) out′
-        block-ran saturated z flag w =
+        block-ran saturated z flag w n =
             record {
               number-is = by-number;
               position-is = by-position;
               in-start-is = refl;
               wrote = something (restRefusal rest) (omega (arith, by-number)) (wrote-as (text saturated z flag) w);
+              length-in = n;
             }
 
 -- ---- the whole input
@@ -162,6 +165,7 @@ module _ (input out : List ℕ) where
         position-is = rw f (q .1);
         in-start-is = rw f (q .2);
         wrote = rw f (nothing (refusal 8 0) (restText (startOf input) (restOf input)) out (w .length) (omega arith) (q .3));
+        length-in = omega (arith, q .3);
       }
 
   module _ (fits : length input ≤ 65536) {old words : List ℕ} (s : Start) (read : StartRead input old s words) where
@@ -178,6 +182,7 @@ module _ (input out : List ℕ) where
           position-is = rw (here, f) (q .1 ∙ read .position-is);
           in-start-is = rw (here, f) (q .2);
           wrote = rw (here, f) (nothing (startRefusal input) (restText (startOf input) (restOf input)) out (w .length) (omega (arith, read .number-is)) (q .3));
+          length-in = omega (arith, q .3);
         }
 
     words-are : length old ≡ 64 → startRefusal input .number ≡ 0 → words ≡ startWords input 32
@@ -195,4 +200,4 @@ module _ (input out : List ℕ) where
         let f : eqb (startRefusal input .number) 0 ≡ true = eq-eqb (startRefusal input .number) 0 e in
         let rest = read .next-is zero-is in
         let u = rw (words-are size e, part-is input (s .next), rest) at r in
-        record { number-is = rw (here, f) (u .number-is); position-is = rw (here, f) (u .position-is); in-start-is = rw (here, f) (u .in-start-is); wrote = rw (here, f) (u .wrote) }
+        record { number-is = rw (here, f) (u .number-is); position-is = rw (here, f) (u .position-is); in-start-is = rw (here, f) (u .in-start-is); wrote = rw (here, f) (u .wrote); length-in = u .length-in }

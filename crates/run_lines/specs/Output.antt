@@ -2,7 +2,7 @@
 use mathlib.Core.Bool.{Bool, true, false, cond, not}
 use mathlib.Core.List.{List, [], _∷_, _++_}
 use mathlib.Core.Path.{_≡_}
-use Prim.Native.Nat.{ℕ}
+use Prim.Native.Nat.{ℕ, _≤_}
 use lib.Dec.{leb, eqb}
 use lib.ListN.{length}
 use Rattle.terms.specs.Display.{bytes, decimal}
@@ -77,6 +77,7 @@ pub record RunWritten (input old : List ℕ) (r : Written) (new : List ℕ) : Ty
   pub position-is : r .position ≡ runNumber input .position
   pub in-start-is : r .in_start ≡ inStart input
   pub wrote : Wrote old 0 (runOutput input) (r .length) new
+  pub length-in : r .length ≤ 1536
 
 -- its part after the start, whose registers are 64 words
 pub record RanRest (start rest old : List ℕ) (r : Written) (new : List ℕ) : Type 0 where
@@ -84,3 +85,4 @@ pub record RanRest (start rest old : List ℕ) (r : Written) (new : List ℕ) : 
   pub position-is : r .position ≡ restRefusal rest .position
   pub in-start-is : r .in_start ≡ false
   pub wrote : Wrote old 0 (textBy (restRefusal rest) (restText (registersOf start) rest)) (r .length) new
+  pub length-in : r .length ≤ 1536

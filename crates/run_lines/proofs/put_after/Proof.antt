@@ -24,14 +24,16 @@ returns c =
     let t = c .before .before .before in
     let p = t .before in
     let a = p .before .before .args in
-    wrote-as (ap (afterText (registersOf (a .start .words)) (registersOf (a .after .words))) (t .if1 .taken)) (wrote-then (p .put-registers .ensures .0) (c .put .ensures))
+    let same = ap (afterText (registersOf (a .start .words)) (registersOf (a .after .words))) (t .if1 .taken) in
+    (wrote-as same (wrote-then (p .put-registers .ensures .0) (c .put .ensures)), omega (arith, p .put-registers .ensures .1, c .put .ensures .next-is))
 
 returns-2 : tie.Need-returns-2
 returns-2 c =
     let p = c .before in
     let a = p .before .before .args in
     let text = registersText (registersOf (a .start .words)) (registersOf (a .after .words)) in
-    wrote-as (ap (afterText (registersOf (a .start .words)) (registersOf (a .after .words))) (c .if1 .left) ∙ append-nil text) (p .put-registers .ensures .0)
+    let same = ap (afterText (registersOf (a .start .words)) (registersOf (a .after .words))) (c .if1 .left) ∙ append-nil text in
+    (wrote-as same (p .put-registers .ensures .0), omega (arith, p .put-registers .ensures .1))
 
 pub put-after-spec : {M : Type 1} → statement M
 put-after-spec =

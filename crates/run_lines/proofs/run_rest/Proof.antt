@@ -70,7 +70,7 @@ returns-3 c =
     let u = n .before .before .before in
     let l = u .before .before .before in
     let a = l .before .before .before .args in
-    block-ran (a .rest .now) (l .read-lines .result) refl (l .read-lines .ensures) (a .start .words) (a .out .now) (u .if1 .left) (n .run .ensures .0) (n .run .result .saturated) (t .if2 .left) (n .run .ensures .1) (c .put-after .ensures)
+    block-ran (a .rest .now) (l .read-lines .result) refl (l .read-lines .ensures) (a .start .words) (a .out .now) (u .if1 .left) (n .run .ensures .0) (n .run .result .saturated) (t .if2 .left) (n .run .ensures .1) (c .put-after .ensures .0) (c .put-after .ensures .1)
 
 pub run-rest-spec : {M : Type 1} → statement M
 run-rest-spec =
