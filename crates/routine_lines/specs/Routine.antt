@@ -42,6 +42,10 @@ numbersIn bs = upTo (lineCount bs) λ j. fields (lineAt bs j)
 abbrev pub routineOf : List ℕ → List Instruction
 routineOf bs = recordsOf (numbersIn bs)
 
+-- the first line that is not in columns; then what refuses the block of the records
+unfoldable pub routineRefusal : List ℕ → (block : Refusal) → Refusal
+routineRefusal bs block = let r = linesRefusal bs in cond (eqb (r .number) 0) block r
+
 abbrev pub countBy : (number count : ℕ) → ℕ
 countBy zero n = n
 countBy (suc k) n = 0

@@ -10,7 +10,6 @@ use lib.Seq.{sets, take-at, take-all}
 use borrow.Author.Tests.{eqb-true, eqb-false, eq-eqb, ne-eqb, le-leb, lt-leb, leb-true, leb-false}
 use Rattle.neon.specs.Refusal.{Refusal, refusal}
 use Rattle.block_check.specs.Records.{recordsOf}
-use Rattle.block_check.proofs.Refusals.{from-length}
 use Rattle.digits.specs.Writing.{Wrote}
 use Rattle.digits.proofs.Laws.{wrote-none, wrote-as}
 use Rattle.series.proofs.Places.{rows-eq}
@@ -20,8 +19,9 @@ use Rattle.saturation.specs.Saturates.{saturatesRun}
 use Rattle.neon.specs.Run.{armRun}
 use Rattle.runner.specs.Run.{runRefusal, RunAnswered, FlagAnswered}
 use Rattle.routine_lines.specs.declared.Answer.{Answer}
-use Rattle.routine_lines.specs.Routine.{lineCount, linesRefusal, readRefusal, numbersIn, routineOf, LinesRead}
-use Rattle.routine_lines.proofs.Answers.{numbers-length}
+use Rattle.routine_lines.specs.Routine.{routineOf, LinesRead}
+use Rattle.routine_lines.proofs.Blocks as blocks
+use Rattle.routine_lines.proofs.Blocks.{count-fits, block-is, records-are}
 use Rattle.register_lines.specs.declared.Start.{Start}
 use Rattle.register_lines.specs.Start.{startRefusal, startWords, restOf, StartRead}
 use Rattle.register_lines.proofs.Starts.{start-length}
@@ -38,74 +38,39 @@ nothing x text out len h e =
 pub something : (x : Refusal) {text out out′ : List ℕ} {len : ℕ} → x .number ≡ 0 → Wrote out 0 text len out′ → Wrote out 0 (textBy x text) len out′
 something x e w = rw (eq-eqb (x .number) 0 e) w
 
--- ---- the lines
+-- ---- the routine
 
 module _ (rest : List ℕ) where
-  routine-length : length (routineOf rest) ≡ lineCount rest
-  routine-length = from-length (numbersIn rest) 0 (length (numbersIn rest) / 6) ∙ omega (arith, numbers-length rest)
-
-  long-block : 85 < lineCount rest → runRefusal (routineOf rest) ≡ refusal 8 0
-  long-block h = rw (lt-leb (length (routineOf rest)) 85 (omega (arith, routine-length)))
-
-  -- where reading refuses, so is the routine; else the block says
-  by-lines : (b : Bool) → eqb (linesRefusal rest .number) 0 ≡ b → (d : Bool) → leb (6 * lineCount rest) 510 ≡ d
-      → (0 < readRefusal rest 510 .number → restRefusal rest ≡ readRefusal rest 510)
-      × (readRefusal rest 510 .number ≡ 0 → (restRefusal rest ≡ runRefusal (routineOf rest)) × (6 * lineCount rest ≤ 510))
-  unfolding readRefusal restRefusal
-  by-lines true q true l = rw (q, l) (λ h. absurd (omega arith), λ e. (refl, leb-true (6 * lineCount rest) 510 l))
-  by-lines true q false l =
-      let n = leb-false (6 * lineCount rest) 510 l in
-      rw (q, l) (λ h. long-block (omega arith), λ e. absurd (omega (arith, e)))
-  by-lines false q d l = rw q (λ h. refl, λ e. absurd (eqb-false (linesRefusal rest .number) 0 q e))
-
-  pub refused-reading : 0 < readRefusal rest 510 .number → restRefusal rest ≡ readRefusal rest 510
-  refused-reading = by-lines (eqb (linesRefusal rest .number) 0) refl (leb (6 * lineCount rest) 510) refl .0
-
-  pub passed-reading : readRefusal rest 510 .number ≡ 0 → (restRefusal rest ≡ runRefusal (routineOf rest)) × (6 * lineCount rest ≤ 510)
-  passed-reading = by-lines (eqb (linesRefusal rest .number) 0) refl (leb (6 * lineCount rest) 510) refl .1
+  long : 85 < length (routineOf rest) → runRefusal (routineOf rest) ≡ refusal 8 0
+  long h = rw (lt-leb (length (routineOf rest)) 85 h)
 
   module _ {old records : List ℕ} (r : Answer) (size : length old ≡ 510) (h : LinesRead rest old r records) where
-    number-by : r .number ≡ readRefusal rest 510 .number
-    number-by = h .number-is ∙ ap (λ (k : ℕ). readRefusal rest k .number) size
-
-    position-by : r .position ≡ readRefusal rest 510 .position
-    position-by = h .position-is ∙ ap (λ (k : ℕ). readRefusal rest k .position) size
-
-    count-by : r .number ≤ 0 → r .count ≡ lineCount rest
-    count-by e = let z : readRefusal rest (length old) .number ≡ 0 = omega (arith, h .number-is) in rw z at (h .count-is)
-
-    pub count-fits : r .number ≤ 0 → 6 * r .count ≤ 510
-    count-fits e = omega (arith, count-by e, passed-reading (omega (arith, number-by)) .1)
-
-    -- the numbers that are handed to the runner
-    pub numbers-are : r .number ≤ 0 → take (6 * r .count) records ≡ numbersIn rest
-    numbers-are e =
-        let z : readRefusal rest (length old) .number ≡ 0 = omega (arith, h .number-is) in
-        let l = rw z at (h .list-is) in
-        ap (take (6 * r .count)) l ∙ take-at (numbersIn rest) (drop (length (numbersIn rest)) old) (6 * r .count) (omega (arith, count-by e, numbers-length rest))
-
-    -- ---- the answers
+    pub lines-fit : r .number ≤ 0 → 6 * r .count ≤ 510
+    lines-fit = count-fits rest (runRefusal (routineOf rest)) long r size h
 
     module _ (start out : List ℕ) where
-      pub lines-refused : 0 < r .number → (w : Written) → (w .number ≡ r .number) × (w .position ≡ r .position) × (w .in_start ≡ false) × (w .length ≡ 0)
-          → RanRest start rest out w out
-      lines-refused z w q =
-          let e = refused-reading (omega (arith, number-by)) in
+      refused : (n p : ℕ) → 0 < n → (n ≡ restRefusal rest .number) × (p ≡ restRefusal rest .position) → (w : Written)
+          → (w .number ≡ n) × (w .position ≡ p) × (w .in_start ≡ false) × (w .length ≡ 0) → RanRest start rest out w out
+      refused n p z e w q =
           record {
-            number-is = q .0 ∙ number-by ∙ sym (ap (λ (x : Refusal). x .number) e);
-            position-is = q .1 ∙ position-by ∙ sym (ap (λ (x : Refusal). x .position) e);
+            number-is = q .0 ∙ e .0;
+            position-is = q .1 ∙ e .1;
             in-start-is = q .2;
-            wrote = nothing (restRefusal rest) _ out (w .length) (omega (arith, number-by, ap (λ (x : Refusal). x .number) e)) (q .3);
+            wrote = nothing (restRefusal rest) _ out (w .length) (omega (arith, e)) (q .3);
             length-in = omega (arith, q .3);
           }
+
+      pub lines-refused : 0 < r .number → (w : Written) → (w .number ≡ r .number) × (w .position ≡ r .position) × (w .in_start ≡ false) × (w .length ≡ 0)
+          → RanRest start rest out w out
+      lines-refused z = refused (r .number) (r .position) z (blocks.lines-refused rest (runRefusal (routineOf rest)) long r size h z)
 
       module _ (passed : r .number ≤ 0) {number position : ℕ} {new : List ℕ}
           (ran : RunAnswered start (recordsOf (take (6 * r .count) records)) number position new) where
         same : recordsOf (take (6 * r .count) records) ≡ routineOf rest
-        same = ap recordsOf (numbers-are passed)
+        same = records-are rest (runRefusal (routineOf rest)) long r size h passed
 
         block : restRefusal rest ≡ runRefusal (recordsOf (take (6 * r .count) records))
-        block = passed-reading (omega (arith, number-by)) .0 ∙ sym (ap runRefusal same)
+        block = block-is rest (runRefusal (routineOf rest)) long r size h passed ∙ sym (ap runRefusal same)
 
         by-number : number ≡ restRefusal rest .number
         by-number = ran .number-is ∙ sym (ap (λ (x : Refusal). x .number) block)
@@ -115,14 +80,7 @@ module _ (rest : List ℕ) where
 
         pub block-refused : 0 < number → (w : Written) → (w .number ≡ number) × (w .position ≡ position) × (w .in_start ≡ false) × (w .length ≡ 0)
             → RanRest start rest out w out
-        block-refused z w q =
-            record {
-              number-is = q .0 ∙ by-number;
-              position-is = q .1 ∙ by-position;
-              in-start-is = q .2;
-              wrote = nothing (restRefusal rest) _ out (w .length) (omega (arith, by-number)) (q .3);
-              length-in = omega (arith, q .3);
-            }
+        block-refused z = refused number position z (by-number, by-position)
 
         text : (saturated : Bool) → number ≤ 0 → FlagAnswered start (recordsOf (take (6 * r .count) records)) number saturated
             → restText (registersOf start) rest ≡ afterText (registersOf start) (registersOf new) saturated

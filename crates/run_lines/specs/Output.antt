@@ -12,7 +12,7 @@ use Rattle.saturation.specs.Saturates.{saturatesRun}
 use Rattle.digits.specs.Writing.{Wrote}
 use Rattle.series.specs.Series.{upTo}
 use Rattle.wide.specs.Registers.{registersOf}
-use Rattle.routine_lines.specs.Routine.{linesRefusal, routineOf}
+use Rattle.routine_lines.specs.Routine.{routineOf, routineRefusal}
 use Rattle.runner.specs.Run.{runRefusal}
 use Rattle.register_lines.specs.Digits.{hexDigits}
 use Rattle.register_lines.specs.Start.{startRefusal, startWords, restOf}
@@ -38,8 +38,8 @@ afterText start after saturated = registersText start after ++ cond saturated (b
 -- ---- a routine on a start
 
 -- the first line that is not in columns; then what refuses the block
-unfoldable pub restRefusal : List ℕ → Refusal
-restRefusal rest = let r = linesRefusal rest in cond (eqb (r .number) 0) (runRefusal (routineOf rest)) r
+abbrev pub restRefusal : List ℕ → Refusal
+restRefusal rest = routineRefusal rest (runRefusal (routineOf rest))
 
 -- the registers after the Arm run, and whether it saturates
 unfoldable pub restText : (start : ℕ → ℕ) → (rest : List ℕ) → List ℕ

@@ -1,7 +1,7 @@
 -- `run_lines::run_rest` meets its contract.
 use mathlib.Core.Path.{_≡_, sym, refl, ap, _∙_}
 use native.Mathlib.Omega.{arith}
-use Rattle.run_lines.proofs.Runs.{count-fits, lines-refused, block-refused, block-ran}
+use Rattle.run_lines.proofs.Runs.{lines-fit, lines-refused, block-refused, block-ran}
 use Prim.Native.Nat.{_*_}
 use lib.ListN.{length-take}
 use borrow.Author.Needs.{needs}
@@ -29,21 +29,21 @@ mul-end c =
     let t = c .before in
     let l = t .before .before .before in
     let a = l .before .before .before .args in
-    omega (arith, count-fits (a .rest .now) (l .read-lines .result) refl (l .read-lines .ensures) (t .if1 .left))
+    omega (arith, lines-fit (a .rest .now) (l .read-lines .result) refl (l .read-lines .ensures) (t .if1 .left))
 
 array-share-prefix-records : tie.Need-array-share-prefix-records
 array-share-prefix-records c =
     let t = c .before in
     let l = t .before .before .before in
     let a = l .before .before .before .args in
-    omega (arith, count-fits (a .rest .now) (l .read-lines .result) refl (l .read-lines .ensures) (t .if1 .left))
+    omega (arith, lines-fit (a .rest .now) (l .read-lines .result) refl (l .read-lines .ensures) (t .if1 .left))
 
 slice-aggregate-run : tie.Need-slice-aggregate-run
 slice-aggregate-run c =
     let t = c .before .before in
     let l = t .before .before .before in
     let a = l .before .before .before .args in
-    omega (arith, count-fits (a .rest .now) (l .read-lines .result) refl (l .read-lines .ensures) (t .if1 .left), length-take (6 * l .read-lines .result .count) (l .read-lines .last .1 .0))
+    omega (arith, lines-fit (a .rest .now) (l .read-lines .result) refl (l .read-lines .ensures) (t .if1 .left), length-take (6 * l .read-lines .result .count) (l .read-lines .last .1 .0))
 
 run-requires : tie.Need-run-requires
 run-requires c κs = search needs
