@@ -11,7 +11,7 @@ ghost use Prim.Native.Nat.{_+_, _≤_, _<_};
 ghost use lib.Dec.{eqb};
 ghost use lib.ListN.{length};
 ghost use Rattle.digits.specs.Writing.{Wrote};
-ghost use Rattle.runner.specs.Lanes.{number};
+ghost use Rattle.wide.specs.Number.{words};
 ghost use Rattle.wide.specs.Registers.{registersOf};
 ghost use Rattle.run_lines.specs.Output.{mark, registerLine, registersText, afterText, RanRest, RunWritten};
 
@@ -30,7 +30,7 @@ pub struct Written {
 }
 
 fn is_same(old: Register, new: Register) -> bool
-    ensures { λ r. ⌜ r ≡ eqb (number old) (number new) ⌝ }
+    ensures { λ r. ⌜ r ≡ eqb (words (old .low) (old .high) 0) (words (new .low) (new .high) 0) ⌝ }
 {
     (old.low == new.low) & (old.high == new.high)
 }
@@ -49,7 +49,7 @@ fn put_mark(same: bool, buf: &mut [u8], at: usize) -> usize
 // A register after the run: its digits, its name, and the mark.
 fn put_line(r: u64, old: Register, new: Register, buf: &mut [u8], at: usize) -> usize
     requires { ⌜ (r < 32) × (at + 39 ≤ length (now buf)) ⌝ }
-    ensures { λ next. ⌜ Wrote (now (buf .entry)) at (registerLine r (number old) (number new)) next (now (buf .exit)) ⌝ }
+    ensures { λ next. ⌜ Wrote (now (buf .entry)) at (registerLine r (words (old .low) (old .high) 0) (words (new .low) (new .high) 0)) next (now (buf .exit)) ⌝ }
     ensures { λ next. ⌜ next ≤ at + 39 ⌝ }
 {
     let a = put_register(new.low, new.high, buf, at);

@@ -104,7 +104,7 @@ fn write(out: &[u8], end: usize)
 }
 
 // Answers the first bytes of the buffer.
-fn answer(input: &[u8], end: usize, a: u64, b: u64, pool: &mut [u64], out: &mut [u8])
+fn answer(input: &[u8], end: usize, a: u64, b: u64, pool: &mut [u64], out: &mut [u8; SCRIPT_BYTES])
     requires { ⌜ end ≤ length (now input) ⌝ }
 {
     let w = script_lines::script_text(&input[..end], a, b, pool, out);
