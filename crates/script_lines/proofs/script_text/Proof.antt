@@ -1,3 +1,4 @@
+-- `script_lines::script_text` meets its contract.
 use mathlib.Core.Path.{_≡_, sym, refl, ap, _∙_}
 use Prim.Native.Nat.{_*_}
 use native.Mathlib.Omega.{arith}
@@ -6,30 +7,19 @@ use Rattle.script_lines.proofs.Asks.{within, given-refused, no-register
 use borrow.Author.Needs.{needs}
 use Rattle.script_lines.proofs.script_text.Statement.{statement}
 use Rattle.script_lines.proofs.script_text.Tie as tie
-use Rattle.script_lines.proofs.script_text.Reads as reads
-use Rattle.script_lines.proofs.script_text.Lts as lts
-use Rattle.block.proofs.lower_block.Reads as lower-block-reads
-use Rattle.register_map.proofs.RegisterMap.get.Reads as get-reads
-use Rattle.routine_lines.proofs.read_lines.Reads as read-lines-reads
-use Rattle.script_lines.proofs.refused.Reads as refused-reads
-use Rattle.scripts.proofs.write_script.Reads as write-script-reads
 
--- src/lib.rt:34:9
 refused-requires : tie.Need-refused-requires
 refused-requires c κs = search needs
 
--- src/lib.rt:34:9
 returns : tie.Need-returns
 returns c =
     let i = c .before in
     let a = i .before .before .before .before .args in
     given-refused (a .input .now) (a .a) (a .b) (a .pool .now) (a .out .now) 7 0 (omega arith) (no-registers (a .input .now) (a .a) (a .b) (a .pool .now) (a .out .now) (i .if1 .taken)) (c .refused .result) (c .refused .ensures) refl
 
--- src/lib.rt:37:9
 refused-requires-2 : tie.Need-refused-requires-2
 refused-requires-2 c κs = search needs
 
--- src/lib.rt:37:9
 returns-2 : tie.Need-returns-2
 returns-2 c =
     let f = c .before in
@@ -38,19 +28,15 @@ returns-2 c =
     let w = within (a .a) (a .b) (i .if1 .left) in
     given-refused (a .input .now) (a .a) (a .b) (a .pool .now) (a .out .now) 8 0 (omega arith) (long-input (a .input .now) (a .a) (a .b) (a .pool .now) (a .out .now) (w .0) (w .1) (f .if2 .taken)) (c .refused2 .result) (c .refused2 .ensures) refl
 
--- src/lib.rt:40:34
 slice-aggregate-read-lines : tie.Need-slice-aggregate-read-lines
 slice-aggregate-read-lines c = search needs
 
--- src/lib.rt:40:9
 read-lines-requires : tie.Need-read-lines-requires
 read-lines-requires c κs = search needs
 
--- src/lib.rt:42:9
 refused-requires-3 : tie.Need-refused-requires-3
 refused-requires-3 c κs = search needs
 
--- src/lib.rt:42:9
 returns-3 : tie.Need-returns-3
 returns-3 c =
     let t = c .before in
@@ -62,7 +48,6 @@ returns-3 c =
     given-refused (a .input .now) (a .a) (a .b) (a .pool .now) (a .out .now) _ _ (t .if3 .taken)
     (lines-refused (a .input .now) (a .a) (a .b) (a .pool .now) (a .out .now) (w .0) (w .1) (f .if2 .left) (l .read-lines .result) refl (l .read-lines .ensures) (t .if3 .taken)) (c .refused3 .result) (c .refused3 .ensures) refl
 
--- src/lib.rt:44:15
 mul-end : tie.Need-mul-end
 mul-end c =
     let t = c .before in
@@ -73,7 +58,6 @@ mul-end c =
     let w = within (a .a) (a .b) (i .if1 .left) in
     omega (arith, lines-fit (a .input .now) (a .a) (a .b) (a .pool .now) (a .out .now) (w .0) (w .1) (f .if2 .left) (l .read-lines .result) refl (l .read-lines .ensures) (t .if3 .left))
 
--- src/lib.rt:45:36
 array-share-prefix-records : tie.Need-array-share-prefix-records
 array-share-prefix-records c =
     let t = c .before .before in
@@ -84,7 +68,6 @@ array-share-prefix-records c =
     let w = within (a .a) (a .b) (i .if1 .left) in
     omega (arith, lines-fit (a .input .now) (a .a) (a .b) (a .pool .now) (a .out .now) (w .0) (w .1) (f .if2 .left) (l .read-lines .result) refl (l .read-lines .ensures) (t .if3 .left))
 
--- src/lib.rt:45:36
 slice-aggregate-lower-block : tie.Need-slice-aggregate-lower-block
 slice-aggregate-lower-block c =
     let t = c .before .before .before in
@@ -96,19 +79,15 @@ slice-aggregate-lower-block c =
     omega
     (arith, lines-fit (a .input .now) (a .a) (a .b) (a .pool .now) (a .out .now) (w .0) (w .1) (f .if2 .left) (l .read-lines .result) refl (l .read-lines .ensures) (t .if3 .left), length-take (6 * l .read-lines .result .count) (l .read-lines .last .1 .0))
 
--- src/lib.rt:45:9
 lower-block-requires : tie.Need-lower-block-requires
 lower-block-requires c κs = search needs
 
--- src/lib.rt:47:9
 refused-requires-4 : tie.Need-refused-requires-4
 refused-requires-4 c κs = search needs
 
--- src/lib.rt:47:9
 same-length : tie.Need-same-length
 same-length c = search needs
 
--- src/lib.rt:47:9
 returns-4 : tie.Need-returns-4
 returns-4 c =
     let u = c .before in
@@ -125,33 +104,27 @@ returns-4 c =
     (c .refused4 .result) (c .refused4 .ensures)
     (pool-kept (a .input .now) (a .a) (a .b) (a .pool .now) (a .out .now) (w .0) (w .1) (f .if2 .left) (l .read-lines .result) refl (l .read-lines .ensures) (t .if3 .left) (k .lower-block .result) lowered (u .if4 .taken))
 
--- src/lib.rt:50:9
 get-requires : tie.Need-get-requires
 get-requires c κs =
     let i = c .before .before .before .before .before .before .before .before .before .before .before .before .before .before .before in
     let a = i .before .before .before .before .args in
     omega (arith, within (a .a) (a .b) (i .if1 .left))
 
--- src/lib.rt:51:9
 get-requires-2 : tie.Need-get-requires-2
 get-requires-2 c κs =
     let i = c .before .before .before .before .before .before .before .before .before .before .before .before .before .before .before .before in
     let a = i .before .before .before .before .args in
     omega (arith, within (a .a) (a .b) (i .if1 .left))
 
--- src/lib.rt:52:9
 write-script-requires : tie.Need-write-script-requires
 write-script-requires c κs = search needs
 
--- src/lib.rt:30:1
 same-length-2 : tie.Need-same-length-2
 same-length-2 c = search needs
 
--- src/lib.rt:30:1
 same-length-3 : tie.Need-same-length-3
 same-length-3 c = search needs
 
--- src/lib.rt:30:1
 returns-5 : tie.Need-returns-5
 returns-5 c =
     let s = c .before .before in
