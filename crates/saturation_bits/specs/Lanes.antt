@@ -29,7 +29,7 @@ familyBit (AbsoluteDifference signed accumulate) n k i d a b j = no
 familyBit (HighNarrow subtract rounding upper) n k i d a b j = no
 
 abbrev pub laneAt : NeonShape → (d a b : Expr) (j : ℕ) → Expr
-laneAt s d a b j = familyBit (s .op) (s .«lane_bits») (s .lanes) (s .«source_index») d a b j
+laneAt s d a b j = familyBit (s .op) (s .«lane_bits») (s .lanes) (s .«source_index» .0) d a b j
 
 -- a bound on the nodes of an instruction's bit: 16 lanes, with their concatenations, and four more
 abbrev pub bitsMost : ℕ

@@ -68,11 +68,11 @@ fn saturating_some(
 }
 
 // The lane of the second factor: an element's, or the first's.
-fn second_factor(by_element: bool, element: u64, from: Lane) -> Lane
-    ensures { λ r. ⌜ r .0 ≡ cond «by_element» element (from .0) ⌝ }
+fn second_factor(by_element: bool, element: Lane, from: Lane) -> Lane
+    ensures { λ r. ⌜ r .0 ≡ cond «by_element» (element .0) (from .0) ⌝ }
 {
     if by_element {
-        return Lane(element);
+        return element;
     }
     from
 }
@@ -90,7 +90,7 @@ fn bit_at(
     requires { ⌜ Room (now pool) count 37 ⌝ }
     requires { ⌜ (first .0 < count) × Below (readIf (readsSecond (shape .op)) second 0) count × Below (readIf (readsOld (shape .op)) d 0) count ⌝ }
     requires { ⌜ (8 ≤ shape .«lane_bits») × (shape .«lane_bits» ≤ 64) × (index .0 < shape .lanes) × (shape .«lane_bits» * shape .lanes ≤ 128)
-        × FamilyIn (shape .op) (shape .«lane_bits») (shape .lanes) (shape .«source_index») × (saturableOp (shape .op) ≡ true) ⌝ }
+        × FamilyIn (shape .op) (shape .«lane_bits») (shape .lanes) (shape .«source_index» .0) × (saturableOp (shape .op) ≡ true) ⌝ }
     ensures { λ r. ⌜ Lowers (now (pool .entry)) count (now (pool .exit)) r 37 1 (readIf (readsOld (shape .op)) d 128) (read first 128)
         (readIf (readsSecond (shape .op)) second 128) (λ d a b. laneAt shape d a b (index .0)) [] ⌝ }
 {
@@ -143,7 +143,7 @@ fn lane_bits_of(
     requires { ⌜ Room (now pool) count (38 * shape .lanes) ⌝ }
     requires { ⌜ (first .0 < count) × Below (readIf (readsSecond (shape .op)) second 0) count × Below (readIf (readsOld (shape .op)) d 0) count ⌝ }
     requires { ⌜ (8 ≤ shape .«lane_bits») × (shape .«lane_bits» ≤ 64) × (1 ≤ shape .lanes) × (shape .«lane_bits» * shape .lanes ≤ 128)
-        × FamilyIn (shape .op) (shape .«lane_bits») (shape .lanes) (shape .«source_index») × (saturableOp (shape .op) ≡ true) ⌝ }
+        × FamilyIn (shape .op) (shape .«lane_bits») (shape .lanes) (shape .«source_index» .0) × (saturableOp (shape .op) ≡ true) ⌝ }
     ensures { λ r. ⌜ Lowers (now (pool .entry)) count (now (pool .exit)) r (38 * shape .lanes) (1 * shape .lanes) (readIf (readsOld (shape .op)) d 128) (read first 128)
         (readIf (readsSecond (shape .op)) second 128) (λ d a b. concatLanes (shape .lanes - 1) (laneAt shape d a b)) [] ⌝ }
 {
@@ -171,7 +171,7 @@ pub fn instruction_bit(
     requires { ⌜ Room (now pool) count bitsMost ⌝ }
     requires { ⌜ (first .0 < count) × Below (readIf (readsSecond (shape .op)) second 0) count × Below (readIf (readsOld (shape .op)) d 0) count × (before .0 < count) ⌝ }
     requires { ⌜ (8 ≤ shape .«lane_bits») × (shape .«lane_bits» ≤ 64) × (1 ≤ shape .lanes) × (shape .«lane_bits» * shape .lanes ≤ 128)
-        × FamilyIn (shape .op) (shape .«lane_bits») (shape .lanes) (shape .«source_index») × (saturableOp (shape .op) ≡ true) ⌝ }
+        × FamilyIn (shape .op) (shape .«lane_bits») (shape .lanes) (shape .«source_index» .0) × (saturableOp (shape .op) ≡ true) ⌝ }
     ensures { λ r. ⌜ BitMade (now (pool .entry)) count (now (pool .exit)) r shape first second d before ⌝ }
 {
     let lanes = shape.lanes;

@@ -15,10 +15,10 @@ use Rattle.saturation_bits.proofs.bit_at.Tie as tie
 
 -- the sources that it reads and what it asks of its lanes, once the operation is known to be op
 asked : (s : tie.Start) {op : NeonOp} → s .args .shape .op ≡ op → let a = s .args in
-    Ready (a .count) (a .second) (a .d) (a .shape .«lane_bits») (a .shape .lanes) (a .shape .«source_index») op
+    Ready (a .count) (a .second) (a .d) (a .shape .«lane_bits») (a .shape .lanes) (a .shape .«source_index» .0) op
 asked s e =
     let a = s .args in
-    ready (a .count) (a .second) (a .d) (a .shape .«lane_bits») (a .shape .lanes) (a .shape .«source_index») e
+    ready (a .count) (a .second) (a .d) (a .shape .«lane_bits») (a .shape .lanes) (a .shape .«source_index» .0) e
     (s .pre .1 .0 .1, s .pre .1 .0 .2, s .pre .1 .1 .4)
 
 can : (s : tie.Start) {op : NeonOp} → s .args .shape .op ≡ op → saturable op ≡ true
@@ -85,7 +85,7 @@ doubling-at-requires c κs =
           omega (arith, st .pre .1 .1 .0),
           st .pre .1 .1 .1,
           f,
-          with-fits (l-op3 .op3 .given .1) (st .args .shape .«lane_bits») (st .args .shape .«source_index») (l-source-lane .source-lane .result .0)
+          with-fits (l-op3 .op3 .given .1) (st .args .shape .«lane_bits») (st .args .shape .«source_index» .0) (l-source-lane .source-lane .result .0)
               (l-second-factor .second-factor .ensures) (q .2) f,
           fits st,
         ),
@@ -167,7 +167,7 @@ returns-4 c =
     let l-op3 = l-known-told3 .before in
     let l-match = l-op3 .before in
     let st = l-match .before .before in
-    doubled (st .args .shape .«lane_bits») (st .args .shape .lanes) (st .args .shape .«source_index») (st .args .index .0) (l-op3 .op3 .given .1)
+    doubled (st .args .shape .«lane_bits») (st .args .shape .lanes) (st .args .shape .«source_index» .0) (st .args .index .0) (l-op3 .op3 .given .1)
     (l-source-lane .source-lane .ensures) (l-second-factor .second-factor .ensures) (l-doubling-at .doubling-at .ensures)
 
 same-length-4 : tie.Need-same-length-4
