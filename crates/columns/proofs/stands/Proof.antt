@@ -1,5 +1,6 @@
 -- `columns::stands` meets its contract: a blank, or the character of the digit that it shows.
 use mathlib.Core.Path.{_∙_}
+use native.Mathlib.Omega.{arith}
 use borrow.Author.Tests.{eq-eqb, ne-eqb}
 use Rattle.columns.proofs.Fields.{digit-test}
 use borrow.Author.Needs.{needs}
@@ -10,7 +11,7 @@ is-digit-requires : tie.Need-is-digit-requires
 is-digit-requires c κs = search needs
 
 returns : tie.Need-returns
-returns c = rw (eq-eqb (c .before .args .above) 0 (c .if1 .taken))
+returns c = rw (eq-eqb (c .before .args .above) 0 (omega (arith, c .if1 .taken)))
 
 returns-2 : tie.Need-returns-2
 returns-2 c =
