@@ -40,7 +40,8 @@ returns-3 c =
     let lo = st .args .lo in
     let ws = st .args .pool .now in
     let z : scriptNumber ws (st .args .count) (st .args .a) (st .args .b) 0 ≡ 0 = omega (arith, at-script-number .script-number .ensures, at-if1 .if1 .left) in
-    sym (bad-cut ws (st .args .count) (st .args .a) (st .args .b) hi lo 0 z (no-cut-above hi lo (c .if3 .taken)))
+    let above : 127 < hi = omega (arith, c .if3 .taken) in
+    sym (bad-cut ws (st .args .count) (st .args .a) (st .args .b) hi lo 0 z (no-cut-above hi lo above))
 
 returns-4 : tie.Need-returns-4
 returns-4 c =
