@@ -221,8 +221,8 @@ uint64_t neon_script_length(const uint64_t *pool, size_t words, size_t count, si
  *   (assert (= n40 (bvlshr n38 n39)))
  * and in the place of S-1's assertion
  *   (assert (distinct ((_ extract 7 0) n90) ((_ extract 7 0) n91)))
- * The assertions can be met exactly where the two lanes differ: where each of the 16 scripts of a byte is `unsat`, the nodes are equal. Both solvers
- * keep what terms share, and a lane is often decided where all 128 bits are not. At most 192 bytes a node and 1,218 more. Numbers as for scripts; 5
+ * The assertions can be met exactly where the two lanes differ: where each of the 16 scripts of a byte is `unsat`, the nodes are equal. No term has to
+ * be written out as a tree, and a lane is often decided where all 128 bits are not. At most 192 bytes a node and 1,218 more. Numbers as for scripts; 5
  * too where hi and lo are no cut of 128 bits, that is, lo <= hi < 128. */
 
 /* Writes the script to the front of `buffer`, with no zero byte after it; later bytes stay. */
