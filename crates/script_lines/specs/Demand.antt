@@ -6,8 +6,7 @@ use Prim.Native.Nat.{ℕ}
 use lib.ListN.{take}
 use Rattle.neon.specs.Run.{armRun}
 use Rattle.pool.specs.Node.{places}
-use Rattle.script_meaning.specs.Demand.{ModelOf}
-use Rattle.script_blocks.specs.Demand.{Holds}
+use Rattle.script_meaning.specs.Demand.{ModelOf, Holds}
 use Rattle.routine_lines.specs.Routine.{routineOf}
 use Rattle.script_lines.specs.declared.Given.{Given}
 use Rattle.script_lines.specs.Output.{askedRefusal, ScriptGiven}
