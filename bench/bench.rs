@@ -282,7 +282,7 @@ fn canonicals(rounds: u64) {
     }
 }
 
-/// The bucket that crates/same_trees has for a constant of 128 bits.
+/// The bucket that crates/canonical_classes has for a constant of 128 bits.
 fn bucket(low: u64, high: u64) -> u64 {
     let mix = |x: u64| (x % (1 << 32)) * 227832187 + (x >> 32) * 251658257;
     let start = mix(mix(2 + (128 << 16)));

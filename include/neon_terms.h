@@ -1,4 +1,4 @@
-/* NEON instructions as SMT-LIB bit-vector terms: the functions of target/staticlib/libexports.a, which `rt staticlib exports`
+/* NEON instructions as SMT-LIB bit-vector terms: the functions of target/staticlib/libneon_terms.a, which `rt staticlib neon_terms`
  * writes, for x86-64.
  *
  * Memory. Nothing is allocated and nothing is kept: a function reads and writes what is lent to it, during the call alone. A

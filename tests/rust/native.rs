@@ -1,4 +1,4 @@
-//! The calls of the archive that `rt staticlib exports` writes. A lent slice stands between guards.
+//! The calls of the archive that `rt staticlib neon_terms` writes. A lent slice stands between guards.
 
 unsafe extern "C" {
     fn neon_form_code(operation: u64, arrangement: u64) -> u64;

@@ -1,4 +1,4 @@
-//! The calls of libexports.a: include/neon_terms.h tells what they promise. Each is safe to call on any slices and numbers: a
+//! The calls of libneon_terms.a: include/neon_terms.h tells what they promise. Each is safe to call on any slices and numbers: a
 //! slice of Rust is aligned and not null, one that is lent to be written overlaps no other, and a text that may be deep gets a
 //! stack that is deep enough.
 

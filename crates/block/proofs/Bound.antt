@@ -9,8 +9,8 @@ use Rattle.neon.specs.declared.Instruction.{Instruction}
 use Rattle.neon.specs.Refusal.{reserve}
 use Rattle.trees.specs.Block.{treeStep}
 use Rattle.pool.specs.Node.{places}
-use Rattle.register_map.specs.declared.RegisterMap.{RegisterMap}
-use Rattle.register_map.specs.Map.{firstMap, written}
+use Rattle.block_map.specs.declared.RegisterMap.{RegisterMap}
+use Rattle.block_map.specs.Map.{firstMap, written}
 use Rattle.block_check.proofs.Refusals.{block-legal}
 use Rattle.block.specs.Block.{Lowered}
 use Rattle.block.specs.Bound.{BlockAdds}

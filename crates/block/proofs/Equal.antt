@@ -7,8 +7,8 @@ use Rattle.terms.specs.Value.{value}
 use Rattle.pool.specs.Node.{places}
 use Rattle.neon.specs.declared.Instruction.{Instruction}
 use Rattle.neon.specs.Refusal.{Legal, AllLegal}
-use Rattle.value.proofs.Block.{block-is}
-use Rattle.value.proofs.Range.{block-lt}
+use Rattle.trees_value.proofs.Block.{block-is}
+use Rattle.trees_value.proofs.Range.{block-lt}
 use Rattle.block_check.proofs.Refusals.{block-legal}
 use Rattle.block.specs.Demand.{RegistersHold, EqualWhenTermsAre, RefusedWhole, RegistersFit}
 use Rattle.block.specs.declared.BlockAnswer.{BlockAnswer}

@@ -17,16 +17,16 @@ use Rattle.pool.specs.declared.Built.{Built}
 use Rattle.pool.specs.Node.{Cell, decode, kindAt, kinds, none, places}
 use Rattle.pool.specs.Rules.{Valid, okPool}
 use Rattle.pool.specs.Growth.{Room, Grown}
-use Rattle.nodes.specs.Builders.{MadeVar}
-use Rattle.register_reads.proofs.Reading.{half-kept}
+use Rattle.pool_nodes.specs.Builders.{MadeVar}
+use Rattle.block_reads.proofs.Reading.{half-kept}
 use Rattle.pool.proofs.Laws.{grown-refl, grown-trans, cell-kept, is-kept, reach-kept, packed, appended, unfold-step}
-use Rattle.register_map.specs.declared.RegisterMap.{RegisterMap}
-use Rattle.register_map.specs.Map.{nodesFrom, firstMap, written}
-use Rattle.register_map.proofs.Nodes.{first-is}
-use Rattle.record_check.specs.Record.{recordAt}
+use Rattle.block_map.specs.declared.RegisterMap.{RegisterMap}
+use Rattle.block_map.specs.Map.{nodesFrom, firstMap, written}
+use Rattle.block_map.proofs.Nodes.{first-is}
+use Rattle.block_record_check.specs.Record.{recordAt}
 use Rattle.block_check.specs.Records.{recordsFrom, recordsOf}
 use Rattle.block_check.proofs.Refusals.{from-length, block-legal, from-more}
-use Rattle.lower_record.specs.Step.{MapOk, MapIs, RegisterRead, Added, Steps}
+use Rattle.block_record.specs.Step.{MapOk, MapIs, RegisterRead, Added, Steps}
 use Rattle.block.specs.Block.{VarAt, Lowered, Accepted, Started, Runs}
 
 -- ---- one record more

@@ -11,9 +11,9 @@ use Rattle.trees.specs.Block.{treeStep, treeRun}
 use Rattle.pool.specs.Node.{var, Cell, cellAt, kindNumber, places}
 use Rattle.pool.specs.Rules.{Valid, poolOk}
 use Rattle.pool.specs.Growth.{Grown}
-use Rattle.register_map.specs.declared.RegisterMap.{RegisterMap}
-use Rattle.register_map.specs.Map.{firstMap, noMap, written}
-use Rattle.lower_record.specs.Step.{MapOk, MapIs, Added}
+use Rattle.block_map.specs.declared.RegisterMap.{RegisterMap}
+use Rattle.block_map.specs.Map.{firstMap, noMap, written}
+use Rattle.block_record.specs.Step.{MapOk, MapIs, Added}
 use Rattle.block.specs.declared.BlockAnswer.{BlockAnswer}
 
 -- node r is Var r

@@ -1,15 +1,15 @@
 // A block of records, lowered into a new pool (document 01, "Pool"). The Rust has no counterpart: it lowers one instruction at a time.
-use lower_record::lower_record;
-use record_check::record_at;
-use register_map::RegisterMap;
+use block_map::RegisterMap;
+use block_record::lower_record;
+use block_record_check::record_at;
 ghost use mathlib.Core.Path.{_≡_};
 ghost use Prim.Native.Nat.{_*_, _/_};
 ghost use lib.ListN.{length};
 ghost use Rattle.neon.specs.Refusal.{reserve, AllLegal};
 ghost use Rattle.pool.specs.Growth.{Room};
-ghost use Rattle.register_map.specs.Map.{firstMap};
+ghost use Rattle.block_map.specs.Map.{firstMap};
 ghost use Rattle.block_check.specs.Records.{recordsOf};
-ghost use Rattle.lower_record.specs.Step.{MapOk};
+ghost use Rattle.block_record.specs.Step.{MapOk};
 ghost use Rattle.block.specs.Block.{Started, Runs, Answered};
 
 // The number and the position of document 01, and the map of the registers.
@@ -26,7 +26,7 @@ pub fn start_pool(pool: &mut [u64]) -> RegisterMap
 {
     let mut r: usize = 0;
     while r < 32 {
-        nodes::var(pool, r, r as u64);
+        pool_nodes::var(pool, r, r as u64);
         r += 1;
     }
     RegisterMap::initial()

@@ -13,7 +13,7 @@ use Rattle.facts.specs.Refuse.{unless}
 use Rattle.neon.specs.declared.Instruction.{Instruction}
 use Rattle.neon.specs.Refusal.{reserve, mostRecords, recordNumber, Legal, AllLegal, refusal, recordsRefusal, sizeNumber, refusalBy, blockRefusal}
 use Rattle.pool.specs.Node.{none, placesIn}
-use Rattle.record_check.specs.Record.{recordAt}
+use Rattle.block_record_check.specs.Record.{recordAt}
 use Rattle.block_check.specs.Records.{recordsFrom, recordsOf}
 
 -- ---- records in order

@@ -5,7 +5,7 @@ use Prim.Native.Nat.{ℕ, zero, suc, _/_}
 use lib.ListN.{length}
 use Rattle.neon.specs.declared.Instruction.{Instruction}
 use Rattle.neon.specs.Refusal.{Refusal}
-use Rattle.record_check.specs.Record.{recordAt}
+use Rattle.block_record_check.specs.Record.{recordAt}
 use Rattle.block_check.specs.declared.Refused.{Refused}
 
 -- k records, from record j on

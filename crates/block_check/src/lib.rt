@@ -1,7 +1,7 @@
 // The refusals of a block (document 01, "The numbers"), whose records come as flat numbers, six each; numbers after the last whole
 // record are not read.
-use record_check::record_at;
-use record_check::record_number;
+use block_record_check::record_at;
+use block_record_check::record_number;
 ghost use mathlib.Core.Path.{_≡_};
 ghost use Rattle.neon.specs.Refusal.{recordsRefusal, sizeNumber, refusalBy, blockRefusal};
 ghost use Rattle.pool.specs.Node.{places, placesIn};

@@ -6,9 +6,9 @@ use native.Mathlib.Nat.{add-zero, zero-add, add-suc, suc-add, le-of-suc-le-suc, 
 use native.Mathlib.Omega.{arith}
 use lib.ListN.{length, getD, set, take, drop, replicate, length-append, List·getD-append}
 use lib.Seq.{sets, sets-eq, take-suc, getD-append-add, length-take-le, take-all}
-use Rattle.register_map.specs.declared.RegisterMap.{RegisterMap}
-use Rattle.register_map.specs.Map.{nodeOf}
-use Rattle.digits.proofs.Laws.{sets-append}
+use Rattle.block_map.specs.declared.RegisterMap.{RegisterMap}
+use Rattle.block_map.specs.Map.{nodeOf}
+use Rattle.text_digits.proofs.Laws.{sets-append}
 use Rattle.block_results.specs.Words.{nodesOf, answerWords, flaggedWords}
 
 nodes-length : (m : RegisterMap) (r k : ℕ) → length (nodesOf m r k) ≡ k

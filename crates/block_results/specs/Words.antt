@@ -2,8 +2,8 @@
 -- bit as entry 34 where it has one.
 use mathlib.Core.List.{List, [], _∷_, _++_}
 use Prim.Native.Nat.{ℕ, zero, suc}
-use Rattle.register_map.specs.declared.RegisterMap.{RegisterMap}
-use Rattle.register_map.specs.Map.{nodeOf}
+use Rattle.block_map.specs.declared.RegisterMap.{RegisterMap}
+use Rattle.block_map.specs.Map.{nodeOf}
 
 -- the nodes of k registers, from register r on
 unfoldable pub nodesOf : RegisterMap → ℕ → ℕ → List ℕ

@@ -1,6 +1,6 @@
 // The words in which a block's answer is given to C and Rust.
+use block_map::RegisterMap;
 use pool::Node;
-use register_map::RegisterMap;
 ghost use mathlib.Core.Path.{_≡_};
 ghost use Rattle.block_results.specs.Words.{answerWords, flaggedWords};
 

@@ -6,8 +6,8 @@ use Rattle.terms.specs.Expr.{Expr}
 use Rattle.terms.specs.Registers.{registers, InSet, Agree}
 use Rattle.neon.specs.declared.Instruction.{Instruction}
 use Rattle.pool.specs.Unfold.{unfoldAt}
-use Rattle.register_map.specs.Map.{nodeOf}
-use Rattle.register_set.proofs.Matter.{set-is-the-walk, agreeing-starts}
+use Rattle.block_map.specs.Map.{nodeOf}
+use Rattle.pool_registers.proofs.Matter.{set-is-the-walk, agreeing-starts}
 use Rattle.block.specs.declared.BlockAnswer.{BlockAnswer}
 use Rattle.block.specs.Block.{Answered}
 use Rattle.block.proofs.Equal.{registers-hold}

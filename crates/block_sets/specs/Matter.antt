@@ -8,7 +8,7 @@ use Rattle.neon.specs.declared.Instruction.{Instruction}
 use Rattle.neon.specs.Run.{armRun}
 use Rattle.trees.specs.Block.{treeRun}
 use Rattle.pool.specs.Node.{setAt}
-use Rattle.register_map.specs.Map.{nodeOf}
+use Rattle.block_map.specs.Map.{nodeOf}
 use Rattle.block.specs.declared.BlockAnswer.{BlockAnswer}
 use Rattle.block.specs.Block.{Answered}
 

@@ -7,12 +7,12 @@ use Rattle.terms.specs.Expr.{Expr, Var}
 use Rattle.neon.specs.declared.Instruction.{Instruction}
 use Rattle.pool.specs.Node.{places}
 use Rattle.pool.specs.Unfold.{unfoldAt}
-use Rattle.register_map.specs.Map.{nodeOf}
+use Rattle.block_map.specs.Map.{nodeOf}
 use Rattle.block.specs.declared.BlockAnswer.{BlockAnswer}
 use Rattle.block.specs.Block.{Answered}
-use Rattle.canonise.specs.Canonise.{treesAt, roomNumber, canoniseNumber}
-use Rattle.canonise.proofs.Meaning.{same-words}
-use Rattle.block_order.proofs.Swap.{runs-swap}
+use Rattle.canonical_write.specs.Canonise.{treesAt, roomNumber, canoniseNumber}
+use Rattle.canonical_write.proofs.Meaning.{same-words}
+use Rattle.canonical_exchange.proofs.Swap.{runs-swap}
 use Rattle.canonical_blocks.specs.Swapped.{RefusedForRoomAlone, SamePool, CanonicalWhenSwapped}
 use Rattle.canonical_blocks.proofs.Accepted.{accepted-swapped}
 

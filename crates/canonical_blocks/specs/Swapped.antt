@@ -7,13 +7,13 @@ use mathlib.Core.Path.{_≡_}
 use Prim.Native.Nat.{ℕ, _≤_, _<_}
 use Rattle.neon.specs.declared.Instruction.{Instruction}
 use Rattle.pool.specs.Node.{places}
-use Rattle.register_map.specs.Map.{nodeOf}
+use Rattle.block_map.specs.Map.{nodeOf}
 use Rattle.block.specs.declared.BlockAnswer.{BlockAnswer}
 use Rattle.block.specs.Block as block
-use Rattle.canonise.specs.declared.Canonised.{Canonised}
-use Rattle.canonise.specs.Canonise as canonise
-use Rattle.canonise.specs.Meaning.{SameWords}
-use Rattle.block_order.specs.Apart.{apart}
+use Rattle.canonical_write.specs.declared.Canonised.{Canonised}
+use Rattle.canonical_write.specs.Canonise as canonise
+use Rattle.canonical_write.specs.Meaning.{SameWords}
+use Rattle.canonical_exchange.specs.Apart.{apart}
 
 -- what canonise answers for register r, in the pool that a block left
 abbrev pub RegisterAnswered : (new : List ℕ) (a : BlockAnswer) (r : ℕ) (buffer out : List ℕ) (k : Canonised) → Type 0

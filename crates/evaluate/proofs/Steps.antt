@@ -15,8 +15,8 @@ use Rattle.terms.specs.Value.{value, ite, bit, holds}
 use Rattle.pool.specs.Node.{Kind, kinds, kindAt, decode, cellAt, widthAt, kindNumber}
 use Rattle.pool.specs.Unfold.{shapeOf, earlier, unfoldAt}
 use Rattle.pool.proofs.Laws.{unfold-step}
-use Rattle.node_rules.proofs.Numbers.{within}
-use Rattle.node_fields.specs.Fields.{opA, opB, opC}
+use Rattle.pool_rules.proofs.Numbers.{within}
+use Rattle.pool_fields.specs.Fields.{opA, opB, opC}
 use Rattle.text_parts.specs.Text.{Ready, single}
 use Rattle.text_parts.proofs.Operands.{condition-kind, Pair, Single, pair-kinds, single-kinds, is-single, is-pair, to-nineteen, ite-a, ite-b, ite-c, pair-a, pair-b, single-a, first-term}
 use Rattle.wide.specs.Number.{base, words}

@@ -16,11 +16,11 @@ use Rattle.pool.specs.Node.{Kind, bad, var, const, bv, compare, ite, extract, c
 use Rattle.pool.specs.Unfold.{shapeOf, earlier, unfoldAt}
 use Rattle.pool.proofs.Laws.{unfold-step}
 use Rattle.pool_check.proofs.Sound.{sound}
-use Rattle.node_rules.proofs.Numbers.{within}
-use Rattle.node_fields.specs.Fields.{opA, opB, opC}
+use Rattle.pool_rules.proofs.Numbers.{within}
+use Rattle.pool_fields.specs.Fields.{opA, opB, opC}
 use Rattle.text_parts.specs.Text.{Ready, single}
 use Rattle.text_parts.proofs.Operands.{Pair, Single, pair-kinds, single-kinds, is-single, is-pair, to-nineteen, pair-a, pair-b, single-a}
-use Rattle.value.proofs.Range.{value-lt}
+use Rattle.trees_value.proofs.Range.{value-lt}
 use Rattle.wide.specs.Number.{base, words}
 use Rattle.wide.specs.Registers.{registersOf}
 use Rattle.evaluate.specs.Visits.{valueAt}

@@ -6,7 +6,7 @@ use Prim.Native.Nat.{ℕ, suc, _+_, _-_, _*_, _/_, _%_, _^_, _<_, _≤_}
 use lib.ListN.{getD}
 use Rattle.terms.specs.Value.{apply, holds, bit, bvsext}
 use Rattle.pool.specs.Node.{Kind, bad, var, const, bv, compare, ite, extract, concat, zext, sext, kindAt, kindNumber, widthAt, wordAt}
-use Rattle.node_fields.specs.Fields.{opA, opB}
+use Rattle.pool_fields.specs.Fields.{opA, opB}
 use Rattle.text_parts.specs.Text.{single}
 use Rattle.wide.specs.Number.{words}
 use Rattle.evaluate.specs.Visits.{valueAt, visitsAt}

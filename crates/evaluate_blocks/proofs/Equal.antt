@@ -1,7 +1,7 @@
 -- The theorem of specs/Demand.antt. Assumes nothing.
 use mathlib.Core.Path.{_≡_, sym, _∙_}
 use borrow.Author.Tests.{lt-ltb, le-leb}
-use Rattle.register_map.specs.Map.{nodeOf}
+use Rattle.block_map.specs.Map.{nodeOf}
 use Rattle.wide.specs.Registers.{registersOf}
 use Rattle.block.proofs.Equal.{registers-hold}
 use Rattle.evaluate.specs.Visits.{valueAt, visitsAt}

@@ -4,7 +4,7 @@ use mathlib.Core.Path.{_≡_}
 use Prim.Native.Nat.{ℕ, _≤_, _<_}
 use Rattle.neon.specs.declared.Instruction.{Instruction}
 use Rattle.neon.specs.Run.{armRun}
-use Rattle.register_map.specs.Map.{nodeOf}
+use Rattle.block_map.specs.Map.{nodeOf}
 use Rattle.wide.specs.Registers.{registersOf}
 use Rattle.block.specs.declared.BlockAnswer.{BlockAnswer}
 use Rattle.block.specs.Block as block

@@ -16,9 +16,9 @@ use Rattle.pool.specs.Node.{places}
 use Rattle.pool.specs.Rules.{okPool}
 use Rattle.pool.specs.Unfold.{unfoldAt}
 use Rattle.pool_check.proofs.Sound.{sound}
-use Rattle.value.proofs.Whole.{result-is}
-use Rattle.value.proofs.Range.{value-lt}
-use Rattle.value.proofs.Lanewise.{result-lane, result-kept}
+use Rattle.trees_value.proofs.Whole.{result-is}
+use Rattle.trees_value.proofs.Range.{value-lt}
+use Rattle.trees_value.proofs.Lanewise.{result-lane, result-kept}
 use Rattle.instruction.specs.declared.Lowering.{Lowering}
 use Rattle.instruction.specs.Lowering.{Answers}
 use Rattle.instruction.specs.Demand.{TreeIs, ValueIs, LanesAre, LowerKept, ValueFits, MeansArm}

@@ -5,7 +5,7 @@ ghost use mathlib.Core.Path.{_≡_};
 ghost use mathlib.Core.Bool.{true};
 ghost use Rattle.neon.specs.Op.{bitsIf, full as fullOf};
 ghost use Rattle.pool.specs.Rules.{poolOk};
-ghost use Rattle.form.specs.Code.{OfCode};
+ghost use Rattle.neon_form.specs.Code.{OfCode};
 ghost use Rattle.instruction_check.specs.Number.{sourceOk, sourcesOk, instructionNumber};
 
 // A wanted source is a node of its width, and one that is not wanted is none.
@@ -36,13 +36,13 @@ fn sources_ok(
     requires { ⌜ poolOk (now pool) count ≡ true ⌝ }
     ensures { λ r. ⌜ OfCode code (λ o v. full ≡ fullOf v → r ≡ sourcesOk (now (pool .entry)) count o v d n m) ⌝ }
 {
-    source_ok(pool, count, form::reads_d(code), full, d)
-        & source_ok(pool, count, true, form::first_full(code), n)
+    source_ok(pool, count, neon_form::reads_d(code), full, d)
+        & source_ok(pool, count, true, neon_form::first_full(code), n)
         & source_ok(
             pool,
             count,
-            form::has_second(code),
-            form::second_full(code),
+            neon_form::has_second(code),
+            neon_form::second_full(code),
             m,
         )
 }
@@ -63,12 +63,12 @@ pub fn instruction_number(
     if !pool_check::pool_check(pool, count) {
         return 1;
     }
-    let number = form::form_number(operation, arrangement, i);
+    let number = neon_form::form_number(operation, arrangement, i);
     if number != 0 {
         return number;
     }
     let code = neon::form_code(operation, arrangement);
-    let full = form::is_full(arrangement);
+    let full = neon_form::is_full(arrangement);
     if !sources_ok(pool, count, code, full, d, n, m) {
         return 5;
     }

@@ -6,8 +6,8 @@ use lib.Bits.{bitOr}
 use lib.Dec.{ltb, leb, eqb}
 use Rattle.pool.specs.Node.{Kind, bad, var, const, bv, compare, ite, extract, concat, zext, sext, codeOf, Cell, wide}
 use Rattle.pool.specs.Rules.{wideOk, okKind, setOver}
-use Rattle.operands.specs.Operands.{hasA, hasB, hasC}
-use Rattle.operands.proofs.ByKind.{bv-a, bv-b, bv-c, cmp-a, cmp-b, cmp-c}
+use Rattle.pool_operands.specs.Operands.{hasA, hasB, hasC}
+use Rattle.pool_operands.proofs.ByKind.{bv-a, bv-b, bv-c, cmp-a, cmp-b, cmp-c}
 
 -- a copy of a node keeps the rules where the node does: its operands are earlier and have the widths that they had
 pub ok-copy : (κ : Kind) (m n : ℕ) (l k : Cell) (A′ B′ C′ A B C : ℕ) → l .width ≡ k .width → l .x ≡ k .x → l .y ≡ k .y

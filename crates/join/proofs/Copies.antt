@@ -11,8 +11,8 @@ use Rattle.facts.proofs.Tests.{and-both}
 use Rattle.pool.specs.Node.{Kind, bad, var, const, bv, compare, ite, extract, concat, zext, sext, Cell, cellAt, decode, wordAt, writeNode, wide}
 use Rattle.pool.specs.Rules.{wideOk, okKind, widthBefore, Valid}
 use Rattle.pool.proofs.Facts.{valid-node}
-use Rattle.node_rules.proofs.Kept.{ite-tests}
-use Rattle.operands.proofs.Written.{other, f0, f1, f2, f3, four}
+use Rattle.pool_rules.proofs.Kept.{ite-tests}
+use Rattle.pool_operands.proofs.Written.{other, f0, f1, f2, f3, four}
 use Rattle.join.specs.Join.{joinCount, joinWord, joinNumber, Half, SecondAt, Answered, writeMoved, writeEq}
 
 module _ (first : List ℕ) (c : ℕ) (second : List ℕ) (d x y : ℕ) (hc : 32 ≤ c) (hd : 32 ≤ d) (old : List ℕ) where

@@ -11,8 +11,8 @@ use Rattle.pool.specs.Rules.{okKind, okCell, okNode, widthBefore, setBefore, se
 use Rattle.pool.specs.Unfold.{shapeOf, earlier, unfoldAt}
 use Rattle.pool.proofs.Facts.{valid-node, valid-set}
 use Rattle.pool.proofs.Laws.{unfold-step}
-use Rattle.operands.specs.Operands.{hasA, hasB, hasC}
-use Rattle.operands.proofs.ByKind.{earlier-by, shape-by}
+use Rattle.pool_operands.specs.Operands.{hasA, hasB, hasC}
+use Rattle.pool_operands.proofs.ByKind.{earlier-by, shape-by}
 use Rattle.join.proofs.ByKind.{ok-copy, set-copy}
 
 -- the copy l of a cell k: the same kind, width and data, and the operands that the kind has under their new numbers

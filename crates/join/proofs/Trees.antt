@@ -17,8 +17,8 @@ use Rattle.pool.specs.Unfold.{unfoldAt}
 use Rattle.pool.proofs.Facts.{valid-node}
 use Rattle.pool.proofs.Laws.{unfold-step, packed, packed-set}
 use Rattle.join.specs.Join.{moved, movedIf, movedWord, joinCount, joinWord, eqSet}
-use Rattle.operands.specs.Operands.{hasA, hasB, hasC}
-use Rattle.operands.proofs.ByKind.{earlier-by}
+use Rattle.pool_operands.specs.Operands.{hasA, hasB, hasC}
+use Rattle.pool_operands.proofs.ByKind.{earlier-by}
 use Rattle.join.proofs.Registers.{Starts, varCell, var-at, register-set, code-at}
 use Rattle.join.proofs.Renamed.{CopyOf, renamed, copy-ok}
 

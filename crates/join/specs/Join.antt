@@ -9,7 +9,7 @@ use lib.ListN.{length, getD}
 use Rattle.facts.specs.Refuse.{unless}
 use Rattle.pool.specs.Node.{aOf, bOf, cOf, wordAt, kindNumber, widthAt, setAt, kindWord, operandWord, writeNode, places, none}
 use Rattle.pool.specs.Rules.{poolOk}
-use Rattle.operands.specs.Operands.{hasA, hasB, hasC}
+use Rattle.pool_operands.specs.Operands.{hasA, hasB, hasC}
 use Rattle.join.specs.Starts.{startsWithRegisters}
 use Rattle.join.specs.declared.Joined.{Joined}
 

@@ -1,7 +1,4 @@
 // Two pools as one, with an Eq of a term of each (document 02, S-11). The Rust has no counterpart.
-use operands::has_a;
-use operands::has_b;
-use operands::has_c;
 use pool::Node;
 use pool::places;
 use pool::push;
@@ -10,6 +7,9 @@ use pool::words::kind_word;
 use pool::words::set_of;
 use pool::words::width_of;
 use pool_check::pool_check;
+use pool_operands::has_a;
+use pool_operands::has_b;
+use pool_operands::has_c;
 ghost use mathlib.Core.Bool.{_&&_};
 ghost use mathlib.Core.Path.{_≡_};
 ghost use Prim.Native.Nat.{_+_, _-_, _*_, _≤_, _<_};

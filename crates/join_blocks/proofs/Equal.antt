@@ -13,8 +13,8 @@ use Rattle.pool.specs.Node.{bad, var, codeOf, Cell, decode, kindNumber, wordAt,
 use Rattle.pool.specs.Rules.{poolOk}
 use Rattle.pool.proofs.Facts.{kind-code}
 use Rattle.terms.specs.Expr.{Var}
-use Rattle.register_map.specs.declared.RegisterMap.{RegisterMap}
-use Rattle.register_map.specs.Map.{firstMap, nodeOf}
+use Rattle.block_map.specs.declared.RegisterMap.{RegisterMap}
+use Rattle.block_map.specs.Map.{firstMap, nodeOf}
 use Rattle.block.specs.Block.{Accepted, VarAt}
 use Rattle.block.proofs.Running.{lowered-more}
 use Rattle.block.proofs.Equal.{equal-when-terms-are}

@@ -11,7 +11,7 @@ use Rattle.neon.specs.declared.Instruction.{Instruction}
 use Rattle.neon.specs.Run.{armRun}
 use Rattle.pool.specs.Node.{places}
 use Rattle.pool.specs.Unfold.{unfoldAt}
-use Rattle.register_map.specs.Map.{nodeOf}
+use Rattle.block_map.specs.Map.{nodeOf}
 use Rattle.block.specs.declared.BlockAnswer.{BlockAnswer}
 use Rattle.block.specs.Block as block
 use Rattle.join.specs.declared.Joined.{Joined}

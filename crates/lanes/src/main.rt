@@ -3,7 +3,7 @@
 // fails it says so on standard error and stops.
 ghost use Prim.Native.Nat.{_≤_};
 ghost use lib.ListN.{length};
-ghost use Rattle.lines.specs.Output.{Rooms};
+ghost use Rattle.line.specs.Output.{Rooms};
 
 // Standard input and output.
 const INPUT: i32 = 0;
@@ -89,8 +89,8 @@ fn run(pool: &mut [u64], held: &mut [u8], input: &mut [u8], out: &mut [u8])
 }
 
 fn main() {
-    let mut pool = [0u64; lines::POOL_WORDS];
-    let mut held = [0u8; lines::LINE_ROOM];
+    let mut pool = [0u64; line::POOL_WORDS];
+    let mut held = [0u8; line::LINE_ROOM];
     let mut input = [0u8; 65536];
     let mut out = [0u8; 262144];
     run(&mut pool, &mut held, &mut input, &mut out);

@@ -9,10 +9,10 @@ use lib.ListN.{length, getD, take, drop, take-append-drop, drop-of-length-le}
 use lib.Seq.{drop-drop}
 use borrow.Author.Tests.{le-leb, eq-eqb, eqb-true}
 use Rattle.facts.proofs.Tests.{and-both}
-use Rattle.columns.specs.Columns.{columns, characterOf, shown, fieldAt, same, isField}
+use Rattle.line_columns.specs.Columns.{columns, characterOf, shown, fieldAt, same, isField}
 use Rattle.line_fields.specs.Fields.{inColumns, fields}
-use Rattle.columns.proofs.Characters.{characters, columns-are}
-use Rattle.columns.proofs.Fields.{chars}
+use Rattle.line_columns.proofs.Characters.{characters, columns-are}
+use Rattle.line_columns.proofs.Fields.{chars}
 
 abbrev pub lineOf : (a b c d e f : ℕ) → List ℕ
 lineOf a b c d e f = columns a ++ (columns b ++ (columns c ++ (columns d ++ (columns e ++ columns f))))

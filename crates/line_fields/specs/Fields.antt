@@ -6,7 +6,7 @@ use lib.Dec.{eqb}
 use lib.ListN.{length}
 use Rattle.facts.specs.Refuse.{unless}
 use Rattle.neon.specs.declared.Instruction.{Instruction}
-use Rattle.columns.specs.Columns.{fieldAt, isField}
+use Rattle.line_columns.specs.Columns.{fieldAt, isField}
 
 -- 24 characters, six fields
 unfoldable pub inColumns : List ℕ → Bool

@@ -1,6 +1,6 @@
 // A line of six numbers in columns, as the line program reads it. The Rust has no counterpart.
-use columns::field;
-use columns::is_field;
+use line_columns::field;
+use line_columns::is_field;
 ghost use mathlib.Core.Path.{_≡_};
 ghost use Prim.Native.Nat.{_≤_};
 ghost use lib.ListN.{length};

@@ -3,8 +3,8 @@ use mathlib.Core.List.{List, [], _++_}
 use mathlib.Core.Path.{_≡_}
 use Prim.Native.Nat.{ℕ, _+_, _≤_, _<_}
 use lib.ListN.{length, take, drop}
-use Rattle.line_answers.specs.Answer.{answerRoom}
-use Rattle.lines.specs.Output.{outputFrom}
+use Rattle.line_output.specs.Answer.{answerRoom}
+use Rattle.line.specs.Output.{outputFrom}
 use Rattle.line_run.specs.declared.Progress.{Progress}
 
 -- the answers to what is still to come, where len bytes are held of its first line

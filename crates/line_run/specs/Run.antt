@@ -3,7 +3,7 @@ use mathlib.Core.List.{List, [], _++_}
 use mathlib.Core.Path.{_≡_}
 use Prim.Native.Nat.{ℕ}
 use lib.ListN.{take, drop}
-use Rattle.lines.specs.Output.{output}
+use Rattle.line.specs.Output.{output}
 use Rattle.line_run.specs.declared.Progress.{Progress}
 use Rattle.line_run.specs.Going.{Goes, Ends}
 

@@ -1,10 +1,10 @@
 // The lines of an input that comes in pieces, and the answers to them in a buffer: everything between the program's reads and writes.
 // The Rust has no counterpart.
-use line_answers::ANSWER_ROOM;
+use line_output::ANSWER_ROOM;
 ghost use Prim.Native.Nat.{_≤_};
 ghost use lib.ListN.{length};
 ghost use Rattle.pool.specs.Node.{places};
-ghost use Rattle.lines.specs.Output.{Rooms};
+ghost use Rattle.line.specs.Output.{Rooms};
 ghost use Rattle.line_run.specs.Going.{Goes, Ends};
 
 // How far it came: the bytes taken of the piece, the bytes held of a line whose end is still to come, the bytes put into the output.
@@ -43,7 +43,7 @@ pub fn answer_lines(
         next = g.taken;
         len = g.len;
         if g.ended {
-            output = lines::answer_line(pool, &held[..len], out, output);
+            output = line::answer_line(pool, &held[..len], out, output);
             len = 0;
         }
     }
@@ -63,5 +63,5 @@ pub fn answer_last(pool: &mut [u64], held: &[u8], line: usize, out: &mut [u8]) -
     if line == 0 {
         return 0;
     }
-    lines::answer_line(pool, &held[..line], out, 0)
+    line::answer_line(pool, &held[..line], out, 0)
 }

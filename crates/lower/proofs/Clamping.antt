@@ -12,7 +12,7 @@ use Rattle.terms.specs.Expr.{Const}
 use Rattle.pool.specs.declared.Node.{Node}
 use Rattle.pool.specs.declared.Built.{Built}
 use Rattle.pool.specs.Node.{wide as words}
-use Rattle.nodes.specs.Builders.{MadeConst, MadeBv, MadeCompare, MadeIte, MadeExtract, MadeZeroExtend, MadeSignExtend}
+use Rattle.pool_nodes.specs.Builders.{MadeConst, MadeBv, MadeCompare, MadeIte, MadeExtract, MadeZeroExtend, MadeSignExtend}
 use Rattle.pool.proofs.Steps.{start, step, finish, stay, given}
 use Rattle.trees.specs.declared.SaturateTo.{SaturateTo}
 use Rattle.trees.specs.declared.SaturateTo.the-variants.{Signed, Unsigned, SignedToUnsigned}

@@ -9,8 +9,8 @@ use Rattle.terms.specs.Expr.{Expr, Concat}
 use Rattle.pool.specs.declared.Node.{Node}
 use Rattle.pool.specs.declared.Built.{Built}
 use Rattle.pool.specs.Growth.{Room, Grown, Reach, AllReached, Sized, Made}
-use Rattle.nodes.specs.Builders.{MadeConcat}
-use Rattle.simd.specs.Cut.{MadeCut}
+use Rattle.pool_nodes.specs.Builders.{MadeConcat}
+use Rattle.lower_simd.specs.Cut.{MadeCut}
 use Rattle.pool.proofs.Laws.{is-kept, reach-kept, reach-trans, grown-trans}
 use Rattle.pool.proofs.Steps.{start, step, finish, forget, stay, given, spare}
 use Rattle.trees.specs.Simd.{concatLanes}

@@ -33,13 +33,13 @@ fn clamp_between(
         (λ v. extractCollapsing (clampBetween v (Const (wideWords (low .lo) (low .hi)) wide) (Const (wideWords (high .lo) (high .hi)) wide)) (narrow - 1) 0)
         (value .0 ∷ []) ⌝ }
 {
-    let most = nodes::konst(pool, count, high.lo, high.hi, wide);
-    let above = nodes::compare(pool, most.count, CmpOp::Slt, most.node, value);
-    let at_most = nodes::ite(pool, above.count, above.node, most.node, value);
-    let least = nodes::konst(pool, at_most.count, low.lo, low.hi, wide);
-    let below = nodes::compare(pool, least.count, CmpOp::Slt, value, least.node);
-    let clamped = nodes::ite(pool, below.count, below.node, least.node, at_most.node);
-    nodes::extract(pool, clamped.count, clamped.node, Bit(narrow - 1), Bit(0))
+    let most = pool_nodes::konst(pool, count, high.lo, high.hi, wide);
+    let above = pool_nodes::compare(pool, most.count, CmpOp::Slt, most.node, value);
+    let at_most = pool_nodes::ite(pool, above.count, above.node, most.node, value);
+    let least = pool_nodes::konst(pool, at_most.count, low.lo, low.hi, wide);
+    let below = pool_nodes::compare(pool, least.count, CmpOp::Slt, value, least.node);
+    let clamped = pool_nodes::ite(pool, below.count, below.node, least.node, at_most.node);
+    pool_nodes::extract(pool, clamped.count, clamped.node, Bit(narrow - 1), Bit(0))
 }
 
 // `high` where `value` is more than it, else `value`; of these the low bits.
@@ -56,10 +56,10 @@ fn clamp_below(
     ensures { λ r. ⌜ Builds1 (now (pool .entry)) count (now (pool .exit)) r 4 value wide narrow
         (λ v. extractCollapsing (clampBelow v (Const high wide)) (narrow - 1) 0) (value .0 ∷ []) ⌝ }
 {
-    let most = nodes::konst(pool, count, high, 0, wide);
-    let above = nodes::compare(pool, most.count, CmpOp::Ult, most.node, value);
-    let at_most = nodes::ite(pool, above.count, above.node, most.node, value);
-    nodes::extract(pool, at_most.count, at_most.node, Bit(narrow - 1), Bit(0))
+    let most = pool_nodes::konst(pool, count, high, 0, wide);
+    let above = pool_nodes::compare(pool, most.count, CmpOp::Ult, most.node, value);
+    let at_most = pool_nodes::ite(pool, above.count, above.node, most.node, value);
+    pool_nodes::extract(pool, at_most.count, at_most.node, Bit(narrow - 1), Bit(0))
 }
 
 // Brings `value`, computed at wide bits, into the range of narrow bits that `to` names. The comparison goes by the sign of the value, not by
@@ -128,8 +128,8 @@ pub fn plus_if(
     ensures { λ r. ⌜ Builds1 (now (pool .entry)) count (now (pool .exit)) r 2 value wide wide (λ v. plusIf rounding v (Const constant wide)) (value .0 ∷ []) ⌝ }
 {
     if rounding {
-        let half = nodes::konst(pool, count, constant, 0, wide);
-        return nodes::bv(pool, half.count, BinOp::Add, value, half.node);
+        let half = pool_nodes::konst(pool, count, constant, 0, wide);
+        return pool_nodes::bv(pool, half.count, BinOp::Add, value, half.node);
     }
     Built { node: value, count }
 }
@@ -150,8 +150,14 @@ pub fn keep_lower(
         (withLower upper («lane_bits» * lanes)) (λ v x. keepLower upper v x «lane_bits» lanes) ⌝ }
 {
     if upper {
-        let lower = simd::extract_collapsing(pool, count, d, Bit(lane_bits * lanes - 1), Bit(0));
-        return nodes::concat(pool, lower.count, new, lower.node);
+        let lower = lower_simd::extract_collapsing(
+            pool,
+            count,
+            d,
+            Bit(lane_bits * lanes - 1),
+            Bit(0),
+        );
+        return pool_nodes::concat(pool, lower.count, new, lower.node);
     }
     Built { node: new, count }
 }

@@ -59,8 +59,8 @@ pub fn extend(pool: &mut [u64], count: usize, value: Node, to: u64, signed: bool
     ensures { λ r. ⌜ MadeExtend (now (pool .entry)) count (now (pool .exit)) r value to signed ⌝ }
 {
     if signed {
-        nodes::sign_ext(pool, count, value, to)
+        pool_nodes::sign_ext(pool, count, value, to)
     } else {
-        nodes::zero_ext(pool, count, value, to)
+        pool_nodes::zero_ext(pool, count, value, to)
     }
 }

@@ -9,10 +9,10 @@ use Rattle.terms.specs.declared.CmpOp.{CmpOp}
 use Rattle.terms.specs.declared.CmpOp.the-variants.{Slt, Ult}
 use Rattle.pool.specs.declared.Node.{Node}
 use Rattle.pool.specs.declared.Built.{Built}
-use Rattle.nodes.specs.Builders.{MadeBv, MadeCompare, MadeIte}
+use Rattle.pool_nodes.specs.Builders.{MadeBv, MadeCompare, MadeIte}
 use Rattle.pool.proofs.Steps.{start, step, finish, given, spare}
 use Rattle.trees.specs.Arith.{absoluteDifferenceLane, differenceAt}
-use Rattle.simd.specs.Cut.{MadeLane}
+use Rattle.lower_simd.specs.Cut.{MadeLane}
 use Rattle.lower.specs.Builds.{Builds2, Lowers, read, readIf}
 use Rattle.lower.proofs.Lanes.{lane-fits}
 

@@ -1,5 +1,5 @@
 // The Rust's neon/lower/arith.rs: absolute_difference_lane and absolute_difference_lanes, alone or added to the old destination.
-use kinds::operators::less_op;
+use lower_kinds::operators::less_op;
 use neon::Lane;
 use pool::Built;
 use pool::Node;
@@ -25,10 +25,10 @@ fn absolute_difference_lane(
         (λ a b. absoluteDifferenceLane signed a b) (a .0 ∷ b .0 ∷ []) ⌝ }
 {
     let op = less_op(signed);
-    let less = nodes::compare(pool, count, op, a, b);
-    let up = nodes::bv(pool, less.count, BinOp::Sub, b, a);
-    let down = nodes::bv(pool, up.count, BinOp::Sub, a, b);
-    nodes::ite(pool, down.count, less.node, up.node, down.node)
+    let less = pool_nodes::compare(pool, count, op, a, b);
+    let up = pool_nodes::bv(pool, less.count, BinOp::Sub, b, a);
+    let down = pool_nodes::bv(pool, up.count, BinOp::Sub, a, b);
+    pool_nodes::ite(pool, down.count, less.node, up.node, down.node)
 }
 
 // Lane `index` of the difference, added to the old destination's where `accumulate` asks it.
@@ -50,12 +50,12 @@ fn difference_at(
     ensures { λ r. ⌜ Lowers (now (pool .entry)) count (now (pool .exit)) r 8 «lane_bits» (readIf accumulate d («lane_bits» * lanes))
         (read first («lane_bits» * lanes)) (read second («lane_bits» * lanes)) (λ d a b. differenceAt signed accumulate «lane_bits» d a b (index .0)) [] ⌝ }
 {
-    let a = simd::extract_lane(pool, count, first, lane_bits, index);
-    let b = simd::extract_lane(pool, a.count, second, lane_bits, index);
+    let a = lower_simd::extract_lane(pool, count, first, lane_bits, index);
+    let b = lower_simd::extract_lane(pool, a.count, second, lane_bits, index);
     let difference = absolute_difference_lane(pool, b.count, signed, a.node, b.node, lane_bits);
     if accumulate {
-        let previous = simd::extract_lane(pool, difference.count, d, lane_bits, index);
-        return nodes::bv(
+        let previous = lower_simd::extract_lane(pool, difference.count, d, lane_bits, index);
+        return pool_nodes::bv(
             pool,
             previous.count,
             BinOp::Add,
@@ -110,7 +110,7 @@ pub fn absolute_difference_lanes(
             lanes,
             Lane(i),
         );
-        acc = simd::concat_lanes(pool, lane.count, lane.node, acc.node);
+        acc = lower_simd::concat_lanes(pool, lane.count, lane.node, acc.node);
         i += 1;
     }
     acc

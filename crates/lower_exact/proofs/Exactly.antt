@@ -12,7 +12,7 @@ use Rattle.terms.specs.declared.CmpOp.the-variants.{Slt}
 use Rattle.terms.specs.Expr.{Expr, Const}
 use Rattle.pool.specs.declared.Node.{Node}
 use Rattle.pool.specs.declared.Built.{Built}
-use Rattle.nodes.specs.Builders.{MadeConst, MadeBv, MadeCompare, MadeIte}
+use Rattle.pool_nodes.specs.Builders.{MadeConst, MadeBv, MadeCompare, MadeIte}
 use Rattle.pool.proofs.Steps.{start, step, finish, stay, given}
 use Rattle.trees.specs.declared.SaturateTo.{SaturateTo}
 use Rattle.trees.specs.declared.Saturate.{Saturate}
@@ -20,7 +20,7 @@ use Rattle.trees.specs.declared.SaturatingKind.{SaturatingKind}
 use Rattle.trees.specs.declared.SaturatingKind.the-variants.{AddSub, Halving, Narrow, ShiftNarrow, DoublingMultiplyHigh, Unary}
 use Rattle.trees.specs.Arith.{plusIf, negated, kindBits}
 use Rattle.lower.specs.Builds.{Builds1, Builds2, BuildsIf, MadeExtend}
-use Rattle.kinds.specs.Sources.{usesSecond}
+use Rattle.lower_kinds.specs.Sources.{usesSecond}
 use Rattle.lower_exact.specs.Exact.{joined, twice, shifted, exactLane, exactBits}
 
 -- ---- one builder on another's answer

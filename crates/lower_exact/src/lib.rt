@@ -1,6 +1,6 @@
 // The exact value of a lane of the saturating, halving and narrowing operations, at a width where it cannot overflow: what
 // saturating_lane of the Rust's neon/lower/arith.rs clamps.
-use kinds::operators::shift_op;
+use lower_kinds::operators::shift_op;
 use pool::Built;
 use pool::Node;
 use terms::BinOp;
@@ -14,7 +14,7 @@ ghost use Prim.Native.Nat.{_+_, _*_, _≤_, _<_, _^_};
 ghost use Rattle.pool.specs.Growth.{Room};
 ghost use Rattle.trees.specs.Arith.{kindBits};
 ghost use Rattle.lower.specs.Builds.{Builds1, Builds2, BuildsIf};
-ghost use Rattle.kinds.specs.Sources.{usesSecond, KindIn};
+ghost use Rattle.lower_kinds.specs.Sources.{usesSecond, KindIn};
 ghost use Rattle.lower_exact.specs.Exact.{joined, twice, shifted, exactLane, exactBits, kindTo};
 
 pub mod opposite;
@@ -38,7 +38,7 @@ pub fn join(
 {
     let wide_a = lower::extend(pool, count, a, wide, signed_a);
     let wide_b = lower::extend(pool, wide_a.count, b, wide, signed_b);
-    nodes::bv(pool, wide_b.count, op, wide_a.node, wide_b.node)
+    pool_nodes::bv(pool, wide_b.count, op, wide_a.node, wide_b.node)
 }
 
 // The doubled product of two signed lanes.
@@ -49,8 +49,8 @@ pub fn double(pool: &mut [u64], count: usize, a: Node, b: Node, lane_bits: u64, 
         (λ a b. twice a b wide) (a .0 ∷ b .0 ∷ []) ⌝ }
 {
     let product = join(pool, count, BinOp::Mul, a, true, b, true, lane_bits, wide);
-    let one = nodes::konst(pool, product.count, 1, 0, wide);
-    nodes::bv(pool, one.count, BinOp::Shl, product.node, one.node)
+    let one = pool_nodes::konst(pool, product.count, 1, 0, wide);
+    pool_nodes::bv(pool, one.count, BinOp::Shl, product.node, one.node)
 }
 
 // A value with a constant added where rounding asks it, shifted to the right.
@@ -71,8 +71,8 @@ pub fn shift_down(
 {
     let op = shift_op(signed);
     let rounded = lower::arith::plus_if(pool, count, rounding, value, half, wide);
-    let by = nodes::konst(pool, rounded.count, shift, 0, wide);
-    nodes::bv(pool, by.count, op, rounded.node, by.node)
+    let by = pool_nodes::konst(pool, rounded.count, shift, 0, wide);
+    pool_nodes::bv(pool, by.count, op, rounded.node, by.node)
 }
 
 // The range that a kind clamps its exact value into.

@@ -7,12 +7,12 @@ use native.Mathlib.Omega.{arith}
 use Rattle.terms.specs.declared.BinOp.the-variants.{Add}
 use Rattle.pool.specs.declared.Node.{Node}
 use Rattle.pool.specs.declared.Built.{Built}
-use Rattle.nodes.specs.Builders.{MadeBv}
+use Rattle.pool_nodes.specs.Builders.{MadeBv}
 use Rattle.pool.proofs.Steps.{start, step, finish, spare}
 use Rattle.trees.specs.declared.SaturateTo.{SaturateTo}
 use Rattle.trees.specs.declared.SaturateTo.the-variants.{Signed, SignedToUnsigned}
 use Rattle.trees.specs.Arith.{clamp, mixedSignAddLane, mixedAt}
-use Rattle.simd.specs.Cut.{MadeLane}
+use Rattle.lower_simd.specs.Cut.{MadeLane}
 use Rattle.lower.specs.Builds.{Builds1, Lowers, read, unread, MadeExtend}
 use Rattle.lower.proofs.Lanes.{lane-fits}
 

@@ -1,5 +1,5 @@
 // The Rust's neon/lower/arith.rs: mixed_sign_add_lanes, the sums of a signed and an unsigned number.
-use kinds::operators::mixed_to;
+use lower_kinds::operators::mixed_to;
 use neon::Lane;
 use pool::Built;
 use pool::Node;
@@ -29,8 +29,8 @@ fn mixed_at(
         unread (λ d a b. mixedAt «destination_signed» «lane_bits» d a (index .0)) [] ⌝ }
 {
     let wide = lane_bits + 2;
-    let previous = simd::extract_lane(pool, count, d, lane_bits, index);
-    let addend = simd::extract_lane(pool, previous.count, first, lane_bits, index);
+    let previous = lower_simd::extract_lane(pool, count, d, lane_bits, index);
+    let addend = lower_simd::extract_lane(pool, previous.count, first, lane_bits, index);
     let wide_previous = lower::extend(pool, addend.count, previous.node, wide, destination_signed);
     let wide_addend = lower::extend(
         pool,
@@ -39,7 +39,7 @@ fn mixed_at(
         wide,
         !destination_signed,
     );
-    let sum = nodes::bv(
+    let sum = pool_nodes::bv(
         pool,
         wide_addend.count,
         BinOp::Add,
@@ -94,7 +94,7 @@ pub fn mixed_sign_add_lanes(
             lanes,
             Lane(i),
         );
-        acc = simd::concat_lanes(pool, lane.count, lane.node, acc.node);
+        acc = lower_simd::concat_lanes(pool, lane.count, lane.node, acc.node);
         i += 1;
     }
     acc

@@ -9,7 +9,7 @@ use Rattle.terms.specs.declared.BinOp.the-variants.{Mul, Shl, AShr}
 use Rattle.terms.specs.Expr.{Const}
 use Rattle.pool.specs.declared.Node.{Node}
 use Rattle.pool.specs.declared.Built.{Built}
-use Rattle.nodes.specs.Builders.{MadeConst, MadeBv}
+use Rattle.pool_nodes.specs.Builders.{MadeConst, MadeBv}
 use Rattle.pool.proofs.Steps.{start, step, finish, given}
 use Rattle.trees.specs.declared.SaturateTo.the-variants.{Signed}
 use Rattle.trees.specs.declared.SaturatingKind.the-variants.{DoublingMultiplyHigh}

@@ -29,12 +29,12 @@ pub fn multiply_high_lane(
     let half = lower::power(lane_bits - 1);
     let wide_a = lower::extend(pool, count, a, wide, true);
     let wide_b = lower::extend(pool, wide_a.count, b, wide, true);
-    let product = nodes::bv(pool, wide_b.count, BinOp::Mul, wide_a.node, wide_b.node);
-    let one = nodes::konst(pool, product.count, 1, 0, wide);
-    let doubled = nodes::bv(pool, one.count, BinOp::Shl, product.node, one.node);
+    let product = pool_nodes::bv(pool, wide_b.count, BinOp::Mul, wide_a.node, wide_b.node);
+    let one = pool_nodes::konst(pool, product.count, 1, 0, wide);
+    let doubled = pool_nodes::bv(pool, one.count, BinOp::Shl, product.node, one.node);
     let rounded = lower::arith::plus_if(pool, doubled.count, rounding, doubled.node, half, wide);
-    let by = nodes::konst(pool, rounded.count, lane_bits, 0, wide);
-    let high = nodes::bv(pool, by.count, BinOp::AShr, rounded.node, by.node);
+    let by = pool_nodes::konst(pool, rounded.count, lane_bits, 0, wide);
+    let high = pool_nodes::bv(pool, by.count, BinOp::AShr, rounded.node, by.node);
     let to = SaturateTo::Signed;
     lower::arith::clamp(pool, high.count, high.node, wide, lane_bits, to)
 }

@@ -11,7 +11,7 @@ use Rattle.neon.specs.Form.{Same, Long, Element, hasForm, least, most, hasSecon
 use Rattle.neon.proofs.Geometry.{sized, filled, by-half, second-in}
 use Rattle.trees.specs.Neon.{neonOp}
 use Rattle.lower.specs.Builds.{withLower}
-use Rattle.lower_doubling.specs.Elements.{factorBits}
+use Rattle.lower_doubling_long.specs.Elements.{factorBits}
 use Rattle.lower_neon.specs.Family.{readsSecond, readsOld, keepsLower, oldWidth, firstWidth, secondWidth, FamilyIn}
 
 pub record Row (o : Op) (v : Arrangement) (i : ℕ) : Type 0 where

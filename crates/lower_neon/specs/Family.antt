@@ -5,8 +5,8 @@ use Prim.Native.Nat.{ℕ, _+_, _*_, _/_, _≤_}
 use Rattle.trees.specs.declared.NeonOp.{NeonOp}
 use Rattle.trees.specs.declared.NeonOp.the-variants.{Shift, ShiftInsert, MixedSignAdd, DoublingLong, Saturating, BitwiseUnary, AbsoluteDifference, HighNarrow}
 use Rattle.trees.specs.Arith.{kindBits}
-use Rattle.kinds.specs.Sources.{isRegister, AmountIn, usesSecond, KindIn}
-use Rattle.lower_doubling.specs.Elements.{accumulates, factorBits, secondFactorBits}
+use Rattle.lower_kinds.specs.Sources.{isRegister, AmountIn, usesSecond, KindIn}
+use Rattle.lower_doubling_long.specs.Elements.{accumulates, factorBits, secondFactorBits}
 
 abbrev pub readsSecond : NeonOp → Bool
 readsSecond (Shift kind signed) = isRegister kind

@@ -1,12 +1,12 @@
 // The Rust's neon/lower.rs: neon_value, which hands an operation to the function of its family; and the lowering of a legal form.
 use lower_absolute_difference::absolute_difference_lanes;
-use lower_bits::bitwise_unary_lanes;
-use lower_doubling::doubling_long_lanes;
-use lower_high::high_narrow_lanes;
-use lower_insert::shift_insert_lanes;
+use lower_bitwise_unary::bitwise_unary_lanes;
+use lower_doubling_long::doubling_long_lanes;
+use lower_high_narrow::high_narrow_lanes;
 use lower_mixed_sign_add::mixed_sign_add_lanes;
 use lower_saturating::saturating_lanes;
 use lower_shift::shift_lanes;
+use lower_shift_insert::shift_insert_lanes;
 use pool::Built;
 use pool::Node;
 use trees::NeonOp;
@@ -124,6 +124,6 @@ pub fn lower_form(
         (readIf (hasSecond (opAt operation)) second (secondBits (opAt operation) (arrangementAt arrangement)))
         (resultTree (opAt operation) (arrangementAt arrangement) i) [] ⌝ }
 {
-    let shape = shape::shape(operation, arrangement, i);
+    let shape = lower_shape::shape(operation, arrangement, i);
     neon_value(pool, count, shape, first, second, d)
 }

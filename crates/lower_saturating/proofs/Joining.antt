@@ -13,10 +13,10 @@ use Rattle.trees.specs.declared.SaturatingKind.{SaturatingKind}
 use Rattle.trees.specs.declared.SaturatingKind.the-variants.{AddSub, Halving, Narrow, ShiftNarrow, DoublingMultiplyHigh, Unary}
 use Rattle.trees.specs.Simd.{extractLane, concatLanes}
 use Rattle.trees.specs.Arith.{saturatingAt, narrowing, keepLower, saturatingLane, saturatingLanes, kindBits}
-use Rattle.simd.specs.Cut.{MadeLane}
+use Rattle.lower_simd.specs.Cut.{MadeLane}
 use Rattle.lower.specs.Builds.{BuildsIf, BuildsCut, Lowers, read, readIf, unread, withLower}
 use Rattle.lower.proofs.Lanes.{lane-fits, kept-below}
-use Rattle.kinds.specs.Sources.{usesSecond}
+use Rattle.lower_kinds.specs.Sources.{usesSecond}
 
 -- ---- the bits of a source lane
 

@@ -1,6 +1,6 @@
 // The Rust's neon/lower/arith.rs: saturating_lanes, the saturating, halving and narrowing operations lane by lane.
-use kinds::sources::source_bits;
-use kinds::sources::uses_second;
+use lower_kinds::sources::source_bits;
+use lower_kinds::sources::uses_second;
 use neon::Lane;
 use pool::Built;
 use pool::Node;
@@ -13,7 +13,7 @@ ghost use Rattle.pool.specs.Growth.{Room};
 ghost use Rattle.trees.specs.Simd.{concatLanes};
 ghost use Rattle.trees.specs.Arith.{saturatingAt, saturatingLanes, kindBits};
 ghost use Rattle.lower.specs.Builds.{Lowers, read, readIf, unread, Below, withLower};
-ghost use Rattle.kinds.specs.Sources.{usesSecond, KindIn};
+ghost use Rattle.lower_kinds.specs.Sources.{usesSecond, KindIn};
 
 // Lane `index` of the result.
 fn saturating_at(
@@ -34,9 +34,9 @@ fn saturating_at(
         (readIf (usesSecond kind) second (kindBits kind «lane_bits» * lanes)) (λ d a b. saturatingAt kind «signed_sources» «lane_bits» a b (index .0)) [] ⌝ }
 {
     let bits = source_bits(kind, lane_bits);
-    let a = simd::extract_lane(pool, count, first, bits, index);
+    let a = lower_simd::extract_lane(pool, count, first, bits, index);
     if uses_second(kind) {
-        let b = simd::extract_lane(pool, a.count, second, bits, index);
+        let b = lower_simd::extract_lane(pool, a.count, second, bits, index);
         return lower_saturating_lane::saturating_lane(
             pool,
             b.count,
@@ -99,7 +99,7 @@ fn made_lanes(
             lanes,
             Lane(i),
         );
-        acc = simd::concat_lanes(pool, lane.count, lane.node, acc.node);
+        acc = lower_simd::concat_lanes(pool, lane.count, lane.node, acc.node);
         i += 1;
     }
     acc

@@ -13,7 +13,7 @@ use Rattle.trees.specs.declared.SaturatingKind.{SaturatingKind}
 use Rattle.trees.specs.declared.SaturatingKind.the-variants.{AddSub, Halving, Narrow, ShiftNarrow, DoublingMultiplyHigh, Unary}
 use Rattle.trees.specs.Arith.{clamp, saturatingLane, kindBits}
 use Rattle.lower.specs.Builds.{Builds1, Builds2, BuildsIf}
-use Rattle.kinds.specs.Sources.{usesSecond}
+use Rattle.lower_kinds.specs.Sources.{usesSecond}
 
 abbrev pub Lane : (w0 : List ℕ) (k : ℕ) (w1 : List ℕ) (r : Built) (kind : SaturatingKind) (a b : Node) (n : ℕ) (signed : Bool) → Type 0
 Lane w0 k w1 r kind a b n signed =

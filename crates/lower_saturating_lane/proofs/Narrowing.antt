@@ -9,7 +9,7 @@ use Rattle.terms.specs.declared.BinOp.{BinOp}
 use Rattle.terms.specs.Expr.{Expr, Const, Bv}
 use Rattle.pool.specs.declared.Node.{Node}
 use Rattle.pool.specs.declared.Built.{Built}
-use Rattle.nodes.specs.Builders.{MadeConst, MadeBv, MadeExtract}
+use Rattle.pool_nodes.specs.Builders.{MadeConst, MadeBv, MadeExtract}
 use Rattle.pool.proofs.Steps.{start, step, finish, given}
 use Rattle.trees.specs.declared.SaturateTo.{SaturateTo}
 use Rattle.trees.specs.declared.Saturate.{Saturate}

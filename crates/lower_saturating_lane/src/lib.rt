@@ -7,7 +7,7 @@ ghost use Prim.Native.Nat.{_≤_, _<_};
 ghost use Rattle.pool.specs.Growth.{Room};
 ghost use Rattle.trees.specs.Arith.{saturatingLane, kindBits};
 ghost use Rattle.lower.specs.Builds.{BuildsIf};
-ghost use Rattle.kinds.specs.Sources.{usesSecond, KindIn};
+ghost use Rattle.lower_kinds.specs.Sources.{usesSecond, KindIn};
 
 pub mod narrow;
 pub mod sum;

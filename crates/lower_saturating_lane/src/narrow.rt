@@ -1,5 +1,5 @@
 // The Rust's neon/lower/arith.rs: saturating_lane's ShiftNarrow.
-use kinds::operators::shift_op;
+use lower_kinds::operators::shift_op;
 use pool::Bit;
 use pool::Built;
 use pool::Node;
@@ -27,7 +27,7 @@ fn narrowed(
         (λ v. narrowedPlain v wide «lane_bits» to) (value .0 ∷ []) ⌝ }
 {
     match to {
-        Saturate::Never => nodes::extract(pool, count, value, Bit(lane_bits - 1), Bit(0)),
+        Saturate::Never => pool_nodes::extract(pool, count, value, Bit(lane_bits - 1), Bit(0)),
         Saturate::Into(target) => lower::arith::clamp(pool, count, value, wide, lane_bits, target),
     }
 }
@@ -52,8 +52,8 @@ pub fn shift_narrow_lane(
     let half = lower::power(shift - 1);
     let wide_a = lower::extend(pool, count, a, wide, signed);
     let value = lower::arith::plus_if(pool, wide_a.count, rounding, wide_a.node, half, wide);
-    let by = nodes::konst(pool, value.count, shift, 0, wide);
+    let by = pool_nodes::konst(pool, value.count, shift, 0, wide);
     let op = shift_op(signed);
-    let shifted = nodes::bv(pool, by.count, op, value.node, by.node);
+    let shifted = pool_nodes::bv(pool, by.count, op, value.node, by.node);
     narrowed(pool, shifted.count, to, shifted.node, wide, lane_bits)
 }

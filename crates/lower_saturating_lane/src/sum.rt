@@ -1,5 +1,5 @@
 // The Rust's neon/lower/arith.rs: saturating_lane's AddSub and Halving.
-use kinds::operators::shift_op;
+use lower_kinds::operators::shift_op;
 use pool::Bit;
 use pool::Built;
 use pool::Node;
@@ -31,7 +31,7 @@ pub fn add_sub_lane(
     let wide = lane_bits + 1;
     let wide_a = lower::extend(pool, count, a, wide, signed);
     let wide_b = lower::extend(pool, wide_a.count, b, wide, signed);
-    let value = nodes::bv(pool, wide_b.count, op, wide_a.node, wide_b.node);
+    let value = pool_nodes::bv(pool, wide_b.count, op, wide_a.node, wide_b.node);
     lower::arith::clamp(pool, value.count, value.node, wide, lane_bits, to)
 }
 
@@ -53,10 +53,10 @@ pub fn halving_lane(
     let wide = lane_bits + 1;
     let wide_a = lower::extend(pool, count, a, wide, signed);
     let wide_b = lower::extend(pool, wide_a.count, b, wide, signed);
-    let sum = nodes::bv(pool, wide_b.count, BinOp::Add, wide_a.node, wide_b.node);
+    let sum = pool_nodes::bv(pool, wide_b.count, BinOp::Add, wide_a.node, wide_b.node);
     let rounded = lower::arith::plus_if(pool, sum.count, rounding, sum.node, 1, wide);
-    let one = nodes::konst(pool, rounded.count, 1, 0, wide);
+    let one = pool_nodes::konst(pool, rounded.count, 1, 0, wide);
     let op = shift_op(signed);
-    let halved = nodes::bv(pool, one.count, op, rounded.node, one.node);
-    nodes::extract(pool, halved.count, halved.node, Bit(lane_bits - 1), Bit(0))
+    let halved = pool_nodes::bv(pool, one.count, op, rounded.node, one.node);
+    pool_nodes::extract(pool, halved.count, halved.node, Bit(lane_bits - 1), Bit(0))
 }

@@ -14,12 +14,12 @@ use Rattle.trees.specs.declared.ShiftKind.{ShiftKind}
 use Rattle.trees.specs.declared.ShiftKind.the-variants.{LeftImmediate, RightImmediate, Register}
 use Rattle.trees.specs.Simd.{extractCollapsing, extractLane}
 use Rattle.trees.specs.Arith.{shiftAt, signedAmount, shiftedBy, shiftLane}
-use Rattle.nodes.specs.Builders.{MadeSignExtend}
-use Rattle.simd.specs.Cut.{MadeCut, MadeLane}
+use Rattle.pool_nodes.specs.Builders.{MadeSignExtend}
+use Rattle.lower_simd.specs.Cut.{MadeCut, MadeLane}
 use Rattle.trees.proofs.Cuts.{cut-cut}
 use Rattle.lower.specs.Builds.{BuildsIf, Lowers, read, readIf, unread}
 use Rattle.lower.proofs.Lanes.{lane-fits}
-use Rattle.kinds.specs.Sources.{isRegister}
+use Rattle.lower_kinds.specs.Sources.{isRegister}
 use Rattle.lower_shift.specs.Lanes.{MadeAmount}
 
 pub amount-byte : {w0 w1 w2 : List ℕ} {k : ℕ} {r1 r2 : Built} {second : Node} {n j : ℕ} → 8 < n → n ≤ 64

@@ -8,7 +8,7 @@ use Rattle.pool.specs.declared.Node.{Node}
 use Rattle.pool.specs.declared.Built.{Built}
 use Rattle.pool.specs.Rules.{Valid}
 use Rattle.pool.specs.Growth.{NodeIs}
-use Rattle.nodes.specs.Builders.{Takes, Makes}
+use Rattle.pool_nodes.specs.Builders.{Takes, Makes}
 
 -- the signed amount of lane `index`, at any width w of the source; the answer may not reach the source
 pub record MadeAmount (old : List ℕ) (k : ℕ) (new : List ℕ) (r : Built) (second : Node) (bits index : ℕ) : Type 0 where

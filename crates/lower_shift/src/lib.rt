@@ -1,5 +1,5 @@
 // The Rust's neon/lower/arith.rs: shift_lanes, the shifts lane by lane.
-use kinds::sources::is_register;
+use lower_kinds::sources::is_register;
 use lower_shift_lane::shift_lane;
 use neon::Lane;
 use pool::Bit;
@@ -11,7 +11,7 @@ ghost use Prim.Native.Nat.{_+_, _*_, _≤_, _<_};
 ghost use Rattle.pool.specs.Growth.{Room};
 ghost use Rattle.trees.specs.Arith.{shiftAt, shiftLanes};
 ghost use Rattle.lower.specs.Builds.{Lowers, read, readIf, unread, Below};
-ghost use Rattle.kinds.specs.Sources.{isRegister, AmountIn};
+ghost use Rattle.lower_kinds.specs.Sources.{isRegister, AmountIn};
 ghost use Rattle.lower_shift.specs.Lanes.{MadeAmount};
 
 // The signed low byte of lane `index`, a register shift's amount, at a lane's width. The byte is cut from the source itself: the lane
@@ -29,10 +29,10 @@ pub fn signed_amount(
 {
     if 8 < lane_bits {
         let lo = lane_bits * index.0;
-        let byte = simd::extract_collapsing(pool, count, second, Bit(7 + lo), Bit(lo));
-        return nodes::sign_ext(pool, byte.count, byte.node, lane_bits);
+        let byte = lower_simd::extract_collapsing(pool, count, second, Bit(7 + lo), Bit(lo));
+        return pool_nodes::sign_ext(pool, byte.count, byte.node, lane_bits);
     }
-    simd::extract_lane(pool, count, second, lane_bits, index)
+    lower_simd::extract_lane(pool, count, second, lane_bits, index)
 }
 
 // Lane `index` of the result.
@@ -53,7 +53,7 @@ fn shift_at(
     ensures { λ r. ⌜ Lowers (now (pool .entry)) count (now (pool .exit)) r 24 «lane_bits» unread (read first («lane_bits» * lanes))
         (readIf (isRegister kind) second («lane_bits» * lanes)) (λ d a b. shiftAt kind signed «lane_bits» a b (index .0)) [] ⌝ }
 {
-    let value = simd::extract_lane(pool, count, first, lane_bits, index);
+    let value = lower_simd::extract_lane(pool, count, first, lane_bits, index);
     if is_register(kind) {
         let amount = signed_amount(pool, value.count, second, lane_bits, index);
         return shift_lane(
@@ -118,7 +118,7 @@ pub fn shift_lanes(
             lanes,
             Lane(i),
         );
-        acc = simd::concat_lanes(pool, lane.count, lane.node, acc.node);
+        acc = lower_simd::concat_lanes(pool, lane.count, lane.node, acc.node);
         i += 1;
     }
     acc

@@ -13,7 +13,7 @@ use Rattle.terms.specs.declared.CmpOp.the-variants.{Eq, Slt}
 use Rattle.terms.specs.Expr.{Expr, Const}
 use Rattle.pool.specs.declared.Node.{Node}
 use Rattle.pool.specs.declared.Built.{Built}
-use Rattle.nodes.specs.Builders.{MadeConst, MadeBv, MadeCompare, MadeIte, MadeExtract, MadeZeroExtend, MadeSignExtend}
+use Rattle.pool_nodes.specs.Builders.{MadeConst, MadeBv, MadeCompare, MadeIte, MadeExtract, MadeZeroExtend, MadeSignExtend}
 use Rattle.pool.proofs.Steps.{start, step, finish, stay, given, spare}
 use Rattle.trees.specs.declared.SaturateTo.{SaturateTo}
 use Rattle.trees.specs.declared.SaturateTo.the-variants.{Signed, Unsigned, SignedToUnsigned}
@@ -24,7 +24,7 @@ use Rattle.trees.specs.declared.ShiftKind.the-variants.{LeftImmediate, RightImm
 use Rattle.trees.specs.Lower.{unsignedMax}
 use Rattle.trees.specs.Arith.{clamp, roundingBits, shiftRight, shiftBound, saturatingShiftLeft, leftImmediate, leftBy, registerShiftMax, shiftedBy}
 use Rattle.lower.specs.Builds.{Builds1, Builds2, BuildsIf, MadeExtend}
-use Rattle.kinds.specs.Sources.{isRegister}
+use Rattle.lower_kinds.specs.Sources.{isRegister}
 
 -- ---- `shift_right`
 pub rounded-shift : {w0 w1 w2 w3 w4 w5 w6 w7 w8 : List ℕ} {k : ℕ} {r1 r2 r3 r4 r5 r6 r7 r8 : Built} {value amount : Node} {op : BinOp} {n wide : ℕ} {signed : Bool} (most : ℕ)

@@ -1,5 +1,5 @@
 // The Rust's neon/lower/arith.rs: saturating_shift_left, and the left shifts of shift_lane.
-use kinds::operators::shift_op;
+use lower_kinds::operators::shift_op;
 use pool::Built;
 use pool::Node;
 use terms::BinOp;
@@ -23,13 +23,13 @@ fn shift_bound(pool: &mut [u64], count: usize, value: Node, lane_bits: u64, sign
 {
     if signed {
         let magnitude = lower::power(lane_bits - 1);
-        let zero = nodes::konst(pool, count, 0, 0, lane_bits);
-        let negative = nodes::compare(pool, zero.count, CmpOp::Slt, value, zero.node);
-        let low = nodes::konst(pool, negative.count, magnitude, 0, lane_bits);
-        let high = nodes::konst(pool, low.count, magnitude - 1, 0, lane_bits);
-        return nodes::ite(pool, high.count, negative.node, low.node, high.node);
+        let zero = pool_nodes::konst(pool, count, 0, 0, lane_bits);
+        let negative = pool_nodes::compare(pool, zero.count, CmpOp::Slt, value, zero.node);
+        let low = pool_nodes::konst(pool, negative.count, magnitude, 0, lane_bits);
+        let high = pool_nodes::konst(pool, low.count, magnitude - 1, 0, lane_bits);
+        return pool_nodes::ite(pool, high.count, negative.node, low.node, high.node);
     }
-    nodes::konst(pool, count, lower::unsigned_max(lane_bits), 0, lane_bits)
+    pool_nodes::konst(pool, count, lower::unsigned_max(lane_bits), 0, lane_bits)
 }
 
 // A left shift that clamps. A shift back, which goes by the value's sign, restores the value just where no bit of it was lost; so too for an
@@ -48,12 +48,12 @@ pub fn saturating_shift_left(
     ensures { λ r. ⌜ Builds2 (now (pool .entry)) count (now (pool .exit)) r 9 value «lane_bits» amount «lane_bits» «lane_bits»
         (λ v a. saturatingShiftLeft v a «lane_bits» signed) (value .0 ∷ amount .0 ∷ []) ⌝ }
 {
-    let shifted = nodes::bv(pool, count, BinOp::Shl, value, amount);
+    let shifted = pool_nodes::bv(pool, count, BinOp::Shl, value, amount);
     let op = shift_op(signed);
-    let restored = nodes::bv(pool, shifted.count, op, shifted.node, amount);
-    let same = nodes::compare(pool, restored.count, CmpOp::Eq, restored.node, value);
+    let restored = pool_nodes::bv(pool, shifted.count, op, shifted.node, amount);
+    let same = pool_nodes::compare(pool, restored.count, CmpOp::Eq, restored.node, value);
     let bound = shift_bound(pool, same.count, value, lane_bits, signed);
-    nodes::ite(pool, bound.count, same.node, shifted.node, bound.node)
+    pool_nodes::ite(pool, bound.count, same.node, shifted.node, bound.node)
 }
 
 // SQSHLU: the exact product, clamped into the unsigned range. The shift back says nothing here: it would leave a negative value as it is. One
@@ -71,9 +71,9 @@ fn exact_shift_left(
         (λ v. leftImmediate (Saturate.Into SaturateTo.SignedToUnsigned) v shift «lane_bits» true) (value .0 ∷ []) ⌝ }
 {
     let wide = lane_bits + shift + 1;
-    let wide_value = nodes::sign_ext(pool, count, value, wide);
-    let by = nodes::konst(pool, wide_value.count, shift, 0, wide);
-    let exact = nodes::bv(pool, by.count, BinOp::Shl, wide_value.node, by.node);
+    let wide_value = pool_nodes::sign_ext(pool, count, value, wide);
+    let by = pool_nodes::konst(pool, wide_value.count, shift, 0, wide);
+    let exact = pool_nodes::bv(pool, by.count, BinOp::Shl, wide_value.node, by.node);
     lower::arith::clamp(
         pool,
         exact.count,
@@ -102,7 +102,7 @@ fn saturated_left(
     if let SaturateTo::SignedToUnsigned = to {
         return exact_shift_left(pool, count, value, shift, lane_bits);
     }
-    let by = nodes::konst(pool, count, shift, 0, lane_bits);
+    let by = pool_nodes::konst(pool, count, shift, 0, lane_bits);
     saturating_shift_left(pool, by.count, value, by.node, lane_bits, signed)
 }
 
@@ -122,8 +122,8 @@ pub fn left_immediate(
 {
     match saturate {
         Saturate::Never => {
-            let by = nodes::konst(pool, count, shift, 0, lane_bits);
-            nodes::bv(pool, by.count, BinOp::Shl, value, by.node)
+            let by = pool_nodes::konst(pool, count, shift, 0, lane_bits);
+            pool_nodes::bv(pool, by.count, BinOp::Shl, value, by.node)
         }
         Saturate::Into(to) => saturated_left(pool, count, to, value, shift, lane_bits, signed),
     }
@@ -147,5 +147,5 @@ pub fn left_by(
     if saturate {
         return saturating_shift_left(pool, count, value, amount, lane_bits, signed);
     }
-    nodes::bv(pool, count, BinOp::Shl, value, amount)
+    pool_nodes::bv(pool, count, BinOp::Shl, value, amount)
 }

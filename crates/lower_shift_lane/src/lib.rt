@@ -10,7 +10,7 @@ ghost use Prim.Native.Nat.{_≤_, _<_};
 ghost use Rattle.pool.specs.Growth.{Room};
 ghost use Rattle.trees.specs.Arith.{shiftedBy};
 ghost use Rattle.lower.specs.Builds.{Builds2, BuildsIf};
-ghost use Rattle.kinds.specs.Sources.{isRegister, AmountIn};
+ghost use Rattle.lower_kinds.specs.Sources.{isRegister, AmountIn};
 
 pub mod left;
 pub mod right;
@@ -32,8 +32,8 @@ fn shift_register(
         (λ v a. shiftedBy (ShiftKind.Register rounding saturate) signed v a «lane_bits») (value .0 ∷ amount .0 ∷ []) ⌝ }
 {
     let left = left::left_by(pool, count, saturate, value, amount, lane_bits, signed);
-    let zero = nodes::konst(pool, left.count, 0, 0, lane_bits);
-    let negated = nodes::bv(pool, zero.count, BinOp::Sub, zero.node, amount);
+    let zero = pool_nodes::konst(pool, left.count, 0, 0, lane_bits);
+    let negated = pool_nodes::bv(pool, zero.count, BinOp::Sub, zero.node, amount);
     let right = right::shift_right(
         pool,
         negated.count,
@@ -44,8 +44,8 @@ fn shift_register(
         rounding,
         Lane::REGISTER_SHIFT_MAX,
     );
-    let negative = nodes::compare(pool, right.count, CmpOp::Slt, amount, zero.node);
-    nodes::ite(pool, negative.count, negative.node, right.node, left.node)
+    let negative = pool_nodes::compare(pool, right.count, CmpOp::Slt, amount, zero.node);
+    pool_nodes::ite(pool, negative.count, negative.node, right.node, left.node)
 }
 
 // One destination lane. `amount`, the signed one, is read by the register forms alone.
@@ -68,7 +68,7 @@ pub fn shift_lane(
             left::left_immediate(pool, count, saturate, value, shift, lane_bits, signed)
         }
         ShiftKind::RightImmediate { shift, rounding } => {
-            let by = nodes::konst(pool, count, shift, 0, lane_bits);
+            let by = pool_nodes::konst(pool, count, shift, 0, lane_bits);
             right::shift_right(
                 pool,
                 by.count,

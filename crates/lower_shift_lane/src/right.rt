@@ -1,5 +1,5 @@
 // The Rust's neon/lower/arith.rs: shift_right.
-use kinds::operators::shift_op;
+use lower_kinds::operators::shift_op;
 use pool::Bit;
 use pool::Built;
 use pool::Node;
@@ -39,12 +39,12 @@ fn shift_right_rounding(
         (λ v a. shiftRight v a «lane_bits» signed true «max_shift») (value .0 ∷ amount .0 ∷ []) ⌝ }
 {
     let wide = rounding_bits(lane_bits, max_shift);
-    let wide_amount = nodes::zero_ext(pool, count, amount, wide);
-    let one = nodes::konst(pool, wide_amount.count, 1, 0, wide);
-    let less = nodes::bv(pool, one.count, BinOp::Sub, wide_amount.node, one.node);
-    let half = nodes::bv(pool, less.count, BinOp::Shl, one.node, less.node);
+    let wide_amount = pool_nodes::zero_ext(pool, count, amount, wide);
+    let one = pool_nodes::konst(pool, wide_amount.count, 1, 0, wide);
+    let less = pool_nodes::bv(pool, one.count, BinOp::Sub, wide_amount.node, one.node);
+    let half = pool_nodes::bv(pool, less.count, BinOp::Shl, one.node, less.node);
     let wide_value = lower::extend(pool, half.count, value, wide, signed);
-    let sum = nodes::bv(
+    let sum = pool_nodes::bv(
         pool,
         wide_value.count,
         BinOp::Add,
@@ -52,8 +52,8 @@ fn shift_right_rounding(
         half.node,
     );
     let op = shift_op(signed);
-    let shifted = nodes::bv(pool, sum.count, op, sum.node, wide_amount.node);
-    nodes::extract(
+    let shifted = pool_nodes::bv(pool, sum.count, op, sum.node, wide_amount.node);
+    pool_nodes::extract(
         pool,
         shifted.count,
         shifted.node,
@@ -81,5 +81,5 @@ pub fn shift_right(
         return shift_right_rounding(pool, count, value, amount, lane_bits, signed, max_shift);
     }
     let op = shift_op(signed);
-    nodes::bv(pool, count, op, value, amount)
+    pool_nodes::bv(pool, count, op, value, amount)
 }

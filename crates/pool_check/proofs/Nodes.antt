@@ -8,8 +8,8 @@ use native.Mathlib.Nat.{eq-or-lt-of-le, le-of-suc-le-suc, not-suc-le-zero}
 use native.Mathlib.Numerals.{add-one}
 use Rattle.pool.specs.Node.{zext, kinds, kindAt, kindNumber, decode}
 use Rattle.pool.specs.Rules.{okNode, okPool}
-use Rattle.node_rules.specs.Rule.{okAs}
-use Rattle.node_rules.proofs.Numbers.{within, is-bad}
+use Rattle.pool_rules.specs.Rule.{okAs}
+use Rattle.pool_rules.proofs.Numbers.{within, is-bad}
 
 pub some-bad : (ws : List ℕ) (n count : ℕ) → n < count → okNode ws n ≡ false → okPool ws count ≡ false
 unfolding okPool

@@ -13,7 +13,7 @@ use Rattle.pool.specs.Node.{Kind, bad, var, const, bv, compare, ite, extract, c
 use Rattle.pool.specs.Rules.{okKind, widthBefore, Valid}
 use Rattle.pool.specs.Unfold.{shapeOf, earlier, unfoldTo, unfoldAt}
 use Rattle.pool.proofs.Facts.{valid-node}
-use Rattle.node_rules.proofs.Kept.{wide-one, wide-most, register, var-wide, const-wide, const-fits, bv-tests, compare-tests, ite-tests, extract-tests, concat-tests, zext-tests}
+use Rattle.pool_rules.proofs.Kept.{wide-one, wide-most, register, var-wide, const-wide, const-fits, bv-tests, compare-tests, ite-tests, extract-tests, concat-tests, zext-tests}
 
 -- t keeps the rules of a term, and has w bits
 pub record Sound (t : Expr) (w : ℕ) : Type 0 where

@@ -1,12 +1,12 @@
 // The pool check of document 01: whether every node below the count keeps the pool's rules.
-use node_rules::const_ok;
-use node_rules::extend_ok;
-use node_rules::extract_ok;
-use node_rules::ite_ok;
-use node_rules::pair_ok;
-use node_rules::var_ok;
 use pool::Node;
 use pool::words::kind_of;
+use pool_rules::const_ok;
+use pool_rules::extend_ok;
+use pool_rules::extract_ok;
+use pool_rules::ite_ok;
+use pool_rules::pair_ok;
+use pool_rules::var_ok;
 ghost use mathlib.Core.Path.{_≡_};
 ghost use Prim.Native.Nat.{_+_, _*_, _<_};
 ghost use lib.ListN.{length};

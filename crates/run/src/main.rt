@@ -2,8 +2,8 @@
 // 01's columns, from standard input; `run` takes both from standard input, the registers first. Standard output gets the registers after
 // it. It only reads and writes: what is written for the bytes that are read is the library's, `run_lines`. A refusal is said on standard
 // error, and so is the first read or write that fails.
-use whole_input::Filled;
-use whole_input::fill;
+use line_input::Filled;
+use line_input::fill;
 ghost use Prim.Native.Nat.{_≤_};
 ghost use lib.ListN.{length};
 

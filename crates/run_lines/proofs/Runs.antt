@@ -10,21 +10,21 @@ use lib.Seq.{sets, take-at, take-all}
 use borrow.Author.Tests.{eqb-true, eqb-false, eq-eqb, ne-eqb, le-leb, lt-leb, leb-true, leb-false}
 use Rattle.neon.specs.Refusal.{Refusal, refusal}
 use Rattle.block_check.specs.Records.{recordsOf}
-use Rattle.digits.specs.Writing.{Wrote}
-use Rattle.digits.proofs.Laws.{wrote-none, wrote-as}
-use Rattle.series.proofs.Places.{rows-eq}
-use Rattle.series.proofs.Texts.{filled}
+use Rattle.text_digits.specs.Writing.{Wrote}
+use Rattle.text_digits.proofs.Laws.{wrote-none, wrote-as}
+use Rattle.text_series.proofs.Places.{rows-eq}
+use Rattle.text_series.proofs.Texts.{filled}
 use Rattle.wide.specs.Registers.{registersOf}
 use Rattle.saturation.specs.Saturates.{saturatesRun}
 use Rattle.neon.specs.Run.{armRun}
-use Rattle.runner.specs.Run.{runRefusal, RunAnswered, FlagAnswered}
-use Rattle.routine_lines.specs.declared.Answer.{Answer}
-use Rattle.routine_lines.specs.Routine.{routineOf, LinesRead}
-use Rattle.routine_lines.proofs.Blocks as blocks
-use Rattle.routine_lines.proofs.Blocks.{count-fits, block-is, records-are}
-use Rattle.register_lines.specs.declared.Start.{Start}
-use Rattle.register_lines.specs.Start.{startRefusal, startWords, restOf, StartRead}
-use Rattle.register_lines.proofs.Starts.{start-length}
+use Rattle.run_block.specs.Run.{runRefusal, RunAnswered, FlagAnswered}
+use Rattle.line_routine.specs.declared.Answer.{Answer}
+use Rattle.line_routine.specs.Routine.{routineOf, LinesRead}
+use Rattle.line_routine.proofs.Blocks as blocks
+use Rattle.line_routine.proofs.Blocks.{count-fits, block-is, records-are}
+use Rattle.run_registers.specs.declared.Start.{Start}
+use Rattle.run_registers.specs.Start.{startRefusal, startWords, restOf, StartRead}
+use Rattle.run_registers.proofs.Starts.{start-length}
 use Rattle.run_lines.specs.declared.Written.{Written}
 use Rattle.run_lines.specs.Output.{registerLine, registersText, afterText, textBy, restRefusal, restText, startOf, runNumber, runOutput, RanRest, RunWritten}
 

@@ -9,7 +9,7 @@ use lib.Dec.{eqb, ltb}
 use lib.ListN.{length, length-append}
 use borrow.Author.Tests.{eqb-true, eqb-false, eq-eqb, ne-eqb, ltb-true, ltb-false}
 use Rattle.terms.specs.Display.{decimal}
-use Rattle.digits.proofs.Lengths.{decimal-one, decimal-two}
+use Rattle.text_digits.proofs.Lengths.{decimal-one, decimal-two}
 use Rattle.wide.specs.Number.{words}
 use Rattle.run_lines.specs.Output.{mark}
 

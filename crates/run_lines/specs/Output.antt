@@ -9,13 +9,13 @@ use Rattle.terms.specs.Display.{bytes, decimal}
 use Rattle.neon.specs.Refusal.{Refusal, refusal}
 use Rattle.neon.specs.Run.{armRun}
 use Rattle.saturation.specs.Saturates.{saturatesRun}
-use Rattle.digits.specs.Writing.{Wrote}
-use Rattle.series.specs.Series.{upTo}
+use Rattle.text_digits.specs.Writing.{Wrote}
+use Rattle.text_series.specs.Series.{upTo}
 use Rattle.wide.specs.Registers.{registersOf}
-use Rattle.routine_lines.specs.Routine.{routineOf, routineRefusal}
-use Rattle.runner.specs.Run.{runRefusal}
-use Rattle.register_lines.specs.Digits.{hexDigits}
-use Rattle.register_lines.specs.Start.{startRefusal, startWords, restOf}
+use Rattle.line_routine.specs.Routine.{routineOf, routineRefusal}
+use Rattle.run_block.specs.Run.{runRefusal}
+use Rattle.run_registers.specs.Digits.{hexDigits}
+use Rattle.run_registers.specs.Start.{startRefusal, startWords, restOf}
 use Rattle.run_lines.specs.declared.Written.{Written}
 
 -- ---- the text

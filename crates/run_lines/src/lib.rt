@@ -1,16 +1,16 @@
 // A routine run on 32 registers, from text to text: everything between the reads and the writes of the program `run`.
-use digits::put;
-use digits::put_decimal;
-use register_lines::put_register;
-use register_lines::read_start;
-use routine_lines::read_lines;
-use runner::Register;
-use runner::Registers;
+use line_routine::read_lines;
+use run_block::Register;
+use run_block::Registers;
+use run_registers::put_register;
+use run_registers::read_start;
+use text_digits::put;
+use text_digits::put_decimal;
 ghost use mathlib.Core.Path.{_≡_};
 ghost use Prim.Native.Nat.{_+_, _≤_, _<_};
 ghost use lib.Dec.{eqb};
 ghost use lib.ListN.{length};
-ghost use Rattle.digits.specs.Writing.{Wrote};
+ghost use Rattle.text_digits.specs.Writing.{Wrote};
 ghost use Rattle.wide.specs.Number.{words};
 ghost use Rattle.wide.specs.Registers.{registersOf};
 ghost use Rattle.run_lines.specs.Output.{mark, registerLine, registersText, afterText, RanRest, RunWritten};
@@ -107,7 +107,7 @@ fn run_rest(start: Registers, rest: &[u8], out: &mut [u8; ROOM]) -> Written
         return refused(read.number, read.position, false);
     }
     let end = 6 * read.count;
-    let ran = runner::run(start, &records[..end]);
+    let ran = run_block::run(start, &records[..end]);
     if 0 < ran.number {
         return refused(ran.number, ran.position, false);
     }

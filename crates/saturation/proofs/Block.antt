@@ -17,10 +17,10 @@ use Rattle.neon.proofs.Geometry.{sized, source-some, filled}
 use Rattle.trees.specs.Simd.{extractLane}
 use Rattle.trees.specs.Neon.{neonOp}
 use Rattle.trees.specs.Block.{readTree, treeStep}
-use Rattle.value.proofs.Is.{Has, has-number}
-use Rattle.value.proofs.Lanes.{is-lane, lane-lt}
-use Rattle.value.proofs.Lane.{sources}
-use Rattle.value.proofs.Block.{read-is, step-is}
+use Rattle.trees_value.proofs.Is.{Has, has-number}
+use Rattle.trees_value.proofs.Lanes.{is-lane, lane-lt}
+use Rattle.trees_value.proofs.Lane.{sources}
+use Rattle.trees_value.proofs.Block.{read-is, step-is}
 use Rattle.saturation.specs.Saturates.{some, saturatesLane, saturatesAt, saturates, saturatesStep, saturatesRun}
 use Rattle.saturation.specs.Bits.{no, saturable, bitAt, instructionBit, saturationTree, recordBit, bitRun, blockBit}
 use Rattle.saturation.proofs.Some.{instruction-is}

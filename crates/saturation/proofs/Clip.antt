@@ -13,11 +13,11 @@ use Rattle.neon.specs.Arm.{clampZ, cS, cU}
 use Rattle.trees.specs.declared.SaturateTo.the-variants.{Signed, Unsigned, SignedToUnsigned}
 use Rattle.trees.specs.declared.SaturatingKind.the-variants.{AddSub, Narrow}
 use Rattle.trees.specs.Lower.{extend}
-use Rattle.value.proofs.Z.{up, dn, neg-up, neg-dn, ge-is}
-use Rattle.value.proofs.Wrap.{half}
-use Rattle.value.proofs.Bv.{FitsS, FitsU, Fits}
-use Rattle.value.proofs.Is.{Is, Says, is-eq, is-const, is-negative, is-add, is-sub, is-ite, is-extend, says-slt, says-ult}
-use Rattle.value.proofs.Sat.{sumS, lessS, sumU, lessU, applyZ, is-apply}
+use Rattle.trees_value.proofs.Z.{up, dn, neg-up, neg-dn, ge-is}
+use Rattle.trees_value.proofs.Wrap.{half}
+use Rattle.trees_value.proofs.Bv.{FitsS, FitsU, Fits}
+use Rattle.trees_value.proofs.Is.{Is, Says, is-eq, is-const, is-negative, is-add, is-sub, is-ite, is-extend, says-slt, says-ult}
+use Rattle.trees_value.proofs.Sat.{sumS, lessS, sumU, lessU, applyZ, is-apply}
 use Rattle.saturation.specs.Saturates.{outside, beyondS, beyondU}
 use Rattle.saturation.specs.Bits.{no, yes, clipped, saturatingBit}
 

@@ -22,16 +22,16 @@ use Rattle.trees.specs.declared.SaturatingKind.the-variants.{AddSub, Halving, N
 use Rattle.trees.specs.declared.Combine.the-variants.{Nothing, With}
 use Rattle.trees.specs.Arith.{shiftBy, plusIf, signedAmount}
 use Rattle.trees.specs.Neon.{neonOp}
-use Rattle.value.proofs.Z.{up, dn, sum, ge-is, times}
-use Rattle.value.proofs.Wrap.{half}
-use Rattle.value.proofs.Bv.{FitsS, FitsU, Fits}
-use Rattle.value.proofs.Is.{Is, Has, has-number, is-number, by-const, by-is, is-eq, is-const, is-add, is-ashr, is-shl, is-sext, is-extend, is-ite, is-then, is-else, says-slt}
-use Rattle.value.proofs.Clamp.{floor-fits, clamp-fits, S-fits, is-reading}
-use Rattle.value.proofs.Shift.{product}
-use Rattle.value.proofs.Register.{turned, wider, byte-fits, is-amount, rounded-fits}
-use Rattle.value.proofs.Sat as sat
-use Rattle.value.proofs.Sat.{applyZ, plus}
-use Rattle.value.proofs.Lane.{Sources}
+use Rattle.trees_value.proofs.Z.{up, dn, sum, ge-is, times}
+use Rattle.trees_value.proofs.Wrap.{half}
+use Rattle.trees_value.proofs.Bv.{FitsS, FitsU, Fits}
+use Rattle.trees_value.proofs.Is.{Is, Has, has-number, is-number, by-const, by-is, is-eq, is-const, is-add, is-ashr, is-shl, is-sext, is-extend, is-ite, is-then, is-else, says-slt}
+use Rattle.trees_value.proofs.Clamp.{floor-fits, clamp-fits, S-fits, is-reading}
+use Rattle.trees_value.proofs.Shift.{product}
+use Rattle.trees_value.proofs.Register.{turned, wider, byte-fits, is-amount, rounded-fits}
+use Rattle.trees_value.proofs.Sat as sat
+use Rattle.trees_value.proofs.Sat.{applyZ, plus}
+use Rattle.trees_value.proofs.Lane.{Sources}
 use Rattle.saturation.specs.Saturates.{beyondS, beyondU, saturatesLane, twice}
 use Rattle.saturation.specs.Bits.{no, yes, clipped, lost, saturatingBit, shiftBit, mixedSignBit, productBit, doublingLongBit, laneBit}
 use Rattle.saturation.proofs.Clip.{is-clippedS, is-clippedU, is-clippedSU, bit-sqaddsub, bit-uqadd, bit-uqsub, bit-sqxtn, bit-uqxtn, bit-sqxtun}

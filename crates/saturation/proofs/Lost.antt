@@ -14,12 +14,12 @@ use Rattle.terms.specs.declared.BinOp.the-variants.{Shl}
 use Rattle.terms.specs.declared.CmpOp.the-variants.{Eq}
 use Rattle.neon.specs.Arm.{wrap}
 use Rattle.trees.specs.Arith.{shiftBy}
-use Rattle.value.proofs.Z.{up, dn, neg-up, neg-dn, ge-is, lt-is, lt-no}
-use Rattle.value.proofs.Wrap.{wrap-lt}
-use Rattle.value.proofs.Bv.{FitsS, FitsU, Fits}
-use Rattle.value.proofs.Is.{Is, By, Says, is-eq, is-const, is-shl, is-shift, is-ite, is-then, is-else, says-eq}
-use Rattle.value.proofs.Clamp.{reading, reading-fits, reading-wrap, reading-is, same, floor-fits}
-use Rattle.value.proofs.Shift.{restored-is, floor-exact}
+use Rattle.trees_value.proofs.Z.{up, dn, neg-up, neg-dn, ge-is, lt-is, lt-no}
+use Rattle.trees_value.proofs.Wrap.{wrap-lt}
+use Rattle.trees_value.proofs.Bv.{FitsS, FitsU, Fits}
+use Rattle.trees_value.proofs.Is.{Is, By, Says, is-eq, is-const, is-shl, is-shift, is-ite, is-then, is-else, says-eq}
+use Rattle.trees_value.proofs.Clamp.{reading, reading-fits, reading-wrap, reading-is, same, floor-fits}
+use Rattle.trees_value.proofs.Shift.{restored-is, floor-exact}
 use Rattle.saturation.specs.Saturates.{outside, beyondS, beyondU}
 use Rattle.saturation.specs.Bits.{no, yes, lost}
 

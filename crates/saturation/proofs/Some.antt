@@ -13,8 +13,8 @@ use Rattle.terms.specs.Value.{value, bit, ite}
 use Rattle.neon.specs.Arm.{lanes}
 use Rattle.trees.specs.Simd.{concatLanes}
 use Rattle.neon.proofs.Lanes.{lanes-eq}
-use Rattle.value.proofs.Is.{Has}
-use Rattle.value.proofs.Lanes.{concat-value, concat-width}
+use Rattle.trees_value.proofs.Is.{Has}
+use Rattle.trees_value.proofs.Lanes.{concat-value, concat-width}
 use Rattle.saturation.specs.Saturates.{some}
 use Rattle.saturation.specs.Bits.{no, yes, instructionBit}
 

@@ -9,7 +9,7 @@ use Rattle.terms.specs.declared.BinOp.the-variants.{Or}
 use Rattle.terms.specs.Expr.{Expr}
 use Rattle.pool.specs.declared.Node.{Node}
 use Rattle.pool.specs.declared.Built.{Built}
-use Rattle.nodes.specs.Builders.{MadeBv}
+use Rattle.pool_nodes.specs.Builders.{MadeBv}
 use Rattle.pool.proofs.Steps.{start, step, finish, given, spare}
 use Rattle.trees.specs.declared.SaturateTo.{SaturateTo}
 use Rattle.trees.specs.declared.SaturateTo.the-variants.{Signed}
@@ -21,11 +21,11 @@ use Rattle.trees.specs.declared.Combine.{Combine}
 use Rattle.trees.specs.declared.Combine.the-variants.{Nothing, With}
 use Rattle.trees.specs.Simd.{extractLane}
 use Rattle.trees.specs.Arith.{clamp, signedAmount, kindBits, doublingProduct, narrowing}
-use Rattle.simd.specs.Cut.{MadeLane}
+use Rattle.lower_simd.specs.Cut.{MadeLane}
 use Rattle.lower.specs.Builds.{Builds1, Builds2, BuildsIf, Lowers, read, readIf, unread}
-use Rattle.kinds.specs.Sources.{isRegister, usesSecond}
+use Rattle.lower_kinds.specs.Sources.{isRegister, usesSecond}
 use Rattle.lower_shift.specs.Lanes.{MadeAmount}
-use Rattle.lower_doubling.specs.Elements.{accumulates}
+use Rattle.lower_doubling_long.specs.Elements.{accumulates}
 use Rattle.lower_exact.specs.Exact.{joined, twice}
 use Rattle.saturation.specs.Bits.{shiftBit, shiftedBit, saturatingBit, mixedSignBit, clipped, productBit, doublingLongBit}
 

@@ -14,7 +14,7 @@ ghost use Rattle.trees.specs.declared.Combine.{Combine};
 ghost use Rattle.trees.specs.Simd.{extractLane};
 ghost use Rattle.lower.specs.Builds.{Builds2, Lowers, read, readIf, unread, Below};
 ghost use Rattle.lower_exact.specs.Exact.{joined};
-ghost use Rattle.lower_doubling.specs.Elements.{accumulates};
+ghost use Rattle.lower_doubling_long.specs.Elements.{accumulates};
 ghost use Rattle.saturation.specs.Bits.{clipped, productBit, doublingLongBit};
 
 // The doubled product.
@@ -71,7 +71,7 @@ fn either_bit(
     let first = clip(pool, value.count, value.node, wide, lane_bits, to);
     let product = lower::arith::clamp(pool, first.count, value.node, wide, lane_bits, to);
     let second = sum_bit(pool, product.count, op, d, product.node, lane_bits);
-    nodes::bv(pool, second.count, BinOp::Or, first.node, second.node)
+    pool_nodes::bv(pool, second.count, BinOp::Or, first.node, second.node)
 }
 
 // Lane `index`, from the lanes `from` and `with` of the sources.
@@ -96,12 +96,12 @@ pub fn doubling_at(
         (extractLane b («lane_bits» / 2) (with .0)) «lane_bits») [] ⌝ }
 {
     let narrow = lane_bits / 2;
-    let a = simd::extract_lane(pool, count, first, narrow, from);
-    let b = simd::extract_lane(pool, a.count, second, narrow, with);
+    let a = lower_simd::extract_lane(pool, count, first, narrow, from);
+    let b = lower_simd::extract_lane(pool, a.count, second, narrow, with);
     match combine {
         Combine::Nothing => product_bit(pool, b.count, a.node, b.node, lane_bits),
         Combine::With(op) => {
-            let prior = simd::extract_lane(pool, b.count, d, lane_bits, index);
+            let prior = lower_simd::extract_lane(pool, b.count, d, lane_bits, index);
             either_bit(pool, prior.count, op, prior.node, a.node, b.node, lane_bits)
         }
     }

@@ -1,8 +1,8 @@
 // Whether lane `index` of an instruction saturates: one bit over the whole registers of its sources. The lanes are cut from the registers
 // themselves, so that a read of a low half needs no node.
-use kinds::sources::is_register;
-use kinds::sources::source_bits;
-use kinds::sources::uses_second;
+use lower_kinds::sources::is_register;
+use lower_kinds::sources::source_bits;
+use lower_kinds::sources::uses_second;
 use lower_shift::signed_amount;
 use neon::Lane;
 use pool::Built;
@@ -22,7 +22,7 @@ ghost use Rattle.trees.specs.declared.Saturate.{Saturate};
 ghost use Rattle.trees.specs.Simd.{extractLane};
 ghost use Rattle.trees.specs.Arith.{kindBits};
 ghost use Rattle.lower.specs.Builds.{Lowers, read, readIf, unread, Below};
-ghost use Rattle.kinds.specs.Sources.{isRegister, AmountIn, usesSecond, KindIn};
+ghost use Rattle.lower_kinds.specs.Sources.{isRegister, AmountIn, usesSecond, KindIn};
 ghost use Rattle.lower_exact.specs.Exact.{kindTo};
 ghost use Rattle.saturation.specs.Bits.{shiftBit, saturatingBit, mixedSignBit, saturableShift};
 
@@ -44,7 +44,7 @@ pub fn shift_at(
     ensures { λ r. ⌜ Lowers (now (pool .entry)) count (now (pool .exit)) r 15 1 unread (read first 128) (readIf (isRegister kind) second 128)
         (λ d a b. shiftBit kind signed (extractLane a «lane_bits» (index .0)) (extractLane b «lane_bits» (index .0)) «lane_bits») [] ⌝ }
 {
-    let value = simd::extract_lane(pool, count, first, lane_bits, index);
+    let value = lower_simd::extract_lane(pool, count, first, lane_bits, index);
     if is_register(kind) {
         let amount = signed_amount(pool, value.count, second, lane_bits, index);
         return shift_bit(
@@ -83,8 +83,8 @@ pub fn mixed_at(
     ensures { λ r. ⌜ Lowers (now (pool .entry)) count (now (pool .exit)) r 14 1 (read d 128) (read first 128) unread
         (λ d a b. mixedSignBit «destination_signed» (extractLane d «lane_bits» (index .0)) (extractLane a «lane_bits» (index .0)) «lane_bits») [] ⌝ }
 {
-    let prior = simd::extract_lane(pool, count, d, lane_bits, index);
-    let addend = simd::extract_lane(pool, prior.count, first, lane_bits, index);
+    let prior = lower_simd::extract_lane(pool, count, d, lane_bits, index);
+    let addend = lower_simd::extract_lane(pool, prior.count, first, lane_bits, index);
     mixed_bit(
         pool,
         addend.count,
@@ -115,9 +115,9 @@ pub fn saturating_at(
         «lane_bits» «signed_sources») [] ⌝ }
 {
     let bits = source_bits(kind, lane_bits);
-    let a = simd::extract_lane(pool, count, first, bits, index);
+    let a = lower_simd::extract_lane(pool, count, first, bits, index);
     if uses_second(kind) {
-        let b = simd::extract_lane(pool, a.count, second, bits, index);
+        let b = lower_simd::extract_lane(pool, a.count, second, bits, index);
         return saturating_bit(
             pool,
             b.count,

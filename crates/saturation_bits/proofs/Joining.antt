@@ -11,7 +11,7 @@ use Rattle.terms.specs.Expr.{Expr}
 use Rattle.pool.specs.declared.Node.{Node}
 use Rattle.pool.specs.declared.Built.{Built}
 use Rattle.pool.specs.Growth.{NodeIs}
-use Rattle.nodes.specs.Builders.{MadeConst, MadeCompare, MadeIte}
+use Rattle.pool_nodes.specs.Builders.{MadeConst, MadeCompare, MadeIte}
 use Rattle.pool.proofs.Steps.{start, step, finish, given}
 use Rattle.trees.specs.declared.NeonOp.{NeonOp}
 use Rattle.trees.specs.declared.NeonShape.{NeonShape}
@@ -22,11 +22,11 @@ use Rattle.trees.specs.declared.SaturatingKind.the-variants.{AddSub, Halving, N
 use Rattle.trees.specs.Simd.{extractLane, concatLanes}
 use Rattle.trees.specs.Arith.{sourceLane}
 use Rattle.lower.specs.Builds.{Source, Lowers, read, readIf, unread}
-use Rattle.lower_doubling.specs.Elements.{factorBits, accumulates}
+use Rattle.lower_doubling_long.specs.Elements.{factorBits, accumulates}
 use Rattle.trees.specs.declared.Combine.{Combine}
 use Rattle.trees.specs.declared.NeonOp.the-variants.{DoublingLong}
 use Rattle.lower_neon.proofs.Sources.{Weaker}
-use Rattle.lower_doubling.proofs.Multiplying.{factor-fits, factor-most}
+use Rattle.lower_doubling_long.proofs.Multiplying.{factor-fits, factor-most}
 use Rattle.lower_exact.specs.Exact.{kindTo}
 use Rattle.lower_neon.specs.Family.{readsSecond, readsOld}
 use Rattle.saturation.specs.Bits.{saturable, saturableKind, saturableTo, doublingLongBit, instructionBit}

@@ -12,7 +12,7 @@ use Rattle.pool.specs.declared.Node.{Node}
 use Rattle.pool.specs.declared.Built.{Built}
 use Rattle.pool.specs.Rules.{Valid}
 use Rattle.pool.specs.Growth.{NodeIs}
-use Rattle.nodes.specs.Builders.{Takes, Makes}
+use Rattle.pool_nodes.specs.Builders.{Takes, Makes}
 use Rattle.lower.specs.Builds.{SourceIs, read, readIf}
 use Rattle.lower_neon.specs.Family.{readsSecond, readsOld}
 use Rattle.saturation.specs.Bits.{no, shiftBit, mixedSignBit, doublingLongBit, saturatingBit, instructionBit}

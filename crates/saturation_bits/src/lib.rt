@@ -1,5 +1,5 @@
 // Whether an instruction saturates: the bits of its lanes side by side, and the block's bit after it.
-use lower_doubling::source_lane;
+use lower_doubling_long::source_lane;
 use lower_exact::kind_to;
 use neon::Lane;
 use pool::Built;
@@ -24,7 +24,7 @@ ghost use Rattle.trees.specs.Arith.{kindBits};
 ghost use Rattle.neon.specs.Refusal.{formNumber};
 ghost use Rattle.neon.specs.Op.{opAt, arrangementAt};
 ghost use Rattle.lower.specs.Builds.{Lowers, read, readIf, unread, Below};
-ghost use Rattle.kinds.specs.Sources.{usesSecond, KindIn};
+ghost use Rattle.lower_kinds.specs.Sources.{usesSecond, KindIn};
 ghost use Rattle.lower_neon.specs.Family.{readsSecond, readsOld, FamilyIn};
 ghost use Rattle.saturation.specs.Bits.{saturatingBit, saturable as saturableOp, saturableKind, saturableTo, saturableShift};
 ghost use Rattle.saturation_bits.specs.Lanes.{laneAt, bitsMost, BitMade};
@@ -152,7 +152,7 @@ fn lane_bits_of(
     let mut i = 1;
     while i < lanes {
         let lane = bit_at(pool, acc.count, shape, first, second, d, Lane(i));
-        acc = simd::concat_lanes(pool, lane.count, lane.node, acc.node);
+        acc = lower_simd::concat_lanes(pool, lane.count, lane.node, acc.node);
         i += 1;
     }
     acc
@@ -176,8 +176,8 @@ pub fn instruction_bit(
 {
     let lanes = shape.lanes;
     let bits = lane_bits_of(pool, count, shape, first, second, d);
-    let zero = nodes::konst(pool, bits.count, 0, 0, lanes);
-    let none = nodes::compare(pool, zero.count, CmpOp::Eq, bits.node, zero.node);
-    let one = nodes::konst(pool, none.count, 1, 0, 1);
-    nodes::ite(pool, one.count, none.node, before, one.node)
+    let zero = pool_nodes::konst(pool, bits.count, 0, 0, lanes);
+    let none = pool_nodes::compare(pool, zero.count, CmpOp::Eq, bits.node, zero.node);
+    let one = pool_nodes::konst(pool, none.count, 1, 0, 1);
+    pool_nodes::ite(pool, one.count, none.node, before, one.node)
 }

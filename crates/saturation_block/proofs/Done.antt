@@ -12,11 +12,11 @@ use Rattle.neon.specs.Refusal.{AllLegal}
 use Rattle.pool.specs.Node.{none, places, placesIn}
 use Rattle.pool.specs.Growth.{Room, Grown}
 use Rattle.pool.proofs.Laws.{grown-trans, cell-kept, is-kept}
-use Rattle.register_map.specs.declared.RegisterMap.{RegisterMap}
-use Rattle.register_map.specs.Map.{firstMap}
+use Rattle.block_map.specs.declared.RegisterMap.{RegisterMap}
+use Rattle.block_map.specs.Map.{firstMap}
 use Rattle.block_check.specs.Records.{recordsOf}
 use Rattle.block_check.proofs.Refusals.{from-length, legal-by, size-legal}
-use Rattle.lower_record.specs.Step.{MapOk, MapIs}
+use Rattle.block_record.specs.Step.{MapOk, MapIs}
 use Rattle.block.proofs.Running.{first-ok}
 use Rattle.saturation.specs.Bits.{no}
 use Rattle.saturation_step.specs.declared.Flagged.{Flagged}

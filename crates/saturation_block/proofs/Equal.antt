@@ -10,10 +10,10 @@ use Rattle.terms.specs.Value.{value, bit}
 use Rattle.pool.specs.Node.{places}
 use Rattle.neon.specs.declared.Instruction.{Instruction}
 use Rattle.trees.specs.Block.{treeStep}
-use Rattle.register_map.specs.declared.RegisterMap.{RegisterMap}
-use Rattle.register_map.specs.Map.{firstMap, written}
-use Rattle.value.proofs.Block.{block-is}
-use Rattle.value.proofs.Range.{block-lt}
+use Rattle.block_map.specs.declared.RegisterMap.{RegisterMap}
+use Rattle.block_map.specs.Map.{firstMap, written}
+use Rattle.trees_value.proofs.Block.{block-is}
+use Rattle.trees_value.proofs.Range.{block-lt}
 use Rattle.block.proofs.Equal.{legal-in}
 use Rattle.saturation.specs.Saturates.{saturatesRun}
 use Rattle.saturation.specs.Bits.{bitRun}

@@ -10,9 +10,9 @@ use Rattle.trees.specs.Block.{treeRun}
 use Rattle.pool.specs.Node.{kindNumber, places, none}
 use Rattle.pool.specs.Rules.{poolOk}
 use Rattle.pool.specs.Growth.{Reach, NodeIs}
-use Rattle.register_map.specs.declared.RegisterMap.{RegisterMap}
-use Rattle.register_map.specs.Map.{firstMap, noMap}
-use Rattle.lower_record.specs.Step.{MapIs}
+use Rattle.block_map.specs.declared.RegisterMap.{RegisterMap}
+use Rattle.block_map.specs.Map.{firstMap, noMap}
+use Rattle.block_record.specs.Step.{MapIs}
 use Rattle.block.specs.Block.{VarAt}
 use Rattle.saturation.specs.Bits.{no, blockBit}
 use Rattle.saturation_step.specs.Step.{raised}

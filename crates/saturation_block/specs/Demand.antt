@@ -12,7 +12,7 @@ use Rattle.neon.specs.Run.{armRun}
 use Rattle.neon.specs.Refusal.{Legal}
 use Rattle.pool.specs.Node.{none}
 use Rattle.pool.specs.Unfold.{unfoldAt}
-use Rattle.register_map.specs.Map.{nodeOf, noMap}
+use Rattle.block_map.specs.Map.{nodeOf, noMap}
 use Rattle.saturation.specs.Saturates.{saturatesRun}
 use Rattle.block.specs.declared.BlockAnswer.{BlockAnswer}
 use Rattle.block.specs.Block as block

@@ -2,8 +2,8 @@
 // 1 exactly where some lane of some instruction saturates. The Rust has no such term.
 use block_check::Refused;
 use block_check::refusal_by;
+use block_map::RegisterMap;
 use pool::Node;
-use register_map::RegisterMap;
 use saturation_run::run_flagged;
 use saturation_run::start_flagged;
 ghost use mathlib.Core.Path.{_≡_};

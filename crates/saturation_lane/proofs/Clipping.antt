@@ -11,7 +11,7 @@ use Rattle.terms.specs.Expr.{Expr, Const, Compare, Ite}
 use Rattle.pool.specs.declared.Node.{Node}
 use Rattle.pool.specs.declared.Built.{Built}
 use Rattle.pool.specs.Node.{wide as words}
-use Rattle.nodes.specs.Builders.{MadeConst, MadeCompare, MadeIte}
+use Rattle.pool_nodes.specs.Builders.{MadeConst, MadeCompare, MadeIte}
 use Rattle.pool.proofs.Steps.{start, step, finish, given}
 use Rattle.trees.specs.declared.SaturateTo.{SaturateTo}
 use Rattle.trees.specs.declared.SaturateTo.the-variants.{Signed, Unsigned, SignedToUnsigned}
@@ -22,7 +22,7 @@ use Rattle.trees.specs.declared.SaturatingKind.the-variants.{AddSub, Halving, N
 use Rattle.trees.specs.Lower.{unsignedMax}
 use Rattle.trees.specs.Arith.{kindBits}
 use Rattle.lower.specs.Builds.{Builds1, Builds2, BuildsIf, listIf}
-use Rattle.kinds.specs.Sources.{usesSecond, KindIn}
+use Rattle.lower_kinds.specs.Sources.{usesSecond, KindIn}
 use Rattle.lower_exact.specs.Exact.{joined, exactLane, exactBits, kindTo}
 use Rattle.lower_exact.proofs.Exactly.{then2}
 use Rattle.saturation.specs.Bits.{no, yes, clippedBetween, clipped, narrowBit, saturatingBit, mixedSignBit}

@@ -13,7 +13,7 @@ use Rattle.terms.specs.declared.CmpOp.the-variants.{Eq, Slt}
 use Rattle.terms.specs.Expr.{Expr, Const}
 use Rattle.pool.specs.declared.Node.{Node}
 use Rattle.pool.specs.declared.Built.{Built}
-use Rattle.nodes.specs.Builders.{MadeConst, MadeBv, MadeCompare, MadeIte, MadeSignExtend}
+use Rattle.pool_nodes.specs.Builders.{MadeConst, MadeBv, MadeCompare, MadeIte, MadeSignExtend}
 use Rattle.pool.proofs.Steps.{start, step, finish, given}
 use Rattle.trees.specs.declared.SaturateTo.{SaturateTo}
 use Rattle.trees.specs.declared.SaturateTo.the-variants.{Signed, Unsigned, SignedToUnsigned}
@@ -22,7 +22,7 @@ use Rattle.trees.specs.declared.Saturate.the-variants.{Never, Into}
 use Rattle.trees.specs.declared.ShiftKind.{ShiftKind}
 use Rattle.trees.specs.declared.ShiftKind.the-variants.{LeftImmediate, RightImmediate, Register}
 use Rattle.lower.specs.Builds.{Builds1, Builds2, BuildsIf}
-use Rattle.kinds.specs.Sources.{isRegister}
+use Rattle.lower_kinds.specs.Sources.{isRegister}
 use Rattle.saturation.specs.Bits.{clipped, lost, leftBit, shiftedBit, saturableTo, saturableShift}
 
 pub is-lost : {w0 w1 w2 w3 w4 w5 w6 : List ℕ} {k : ℕ} {r1 r2 r3 r4 r5 r6 : Built} {value amount : Node} {op : BinOp} {n : ℕ} (signed : Bool)

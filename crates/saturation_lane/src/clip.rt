@@ -19,8 +19,8 @@ fn one_where(pool: &mut [u64], count: usize, test: Node, other: Node) -> Built
     requires { ⌜ (test .0 < count) × (other .0 < count) ⌝ }
     ensures { λ r. ⌜ Builds2 (now (pool .entry)) count (now (pool .exit)) r 2 test 0 other 1 1 (λ t o. Ite t yes o) (test .0 ∷ other .0 ∷ []) ⌝ }
 {
-    let one = nodes::konst(pool, count, 1, 0, 1);
-    nodes::ite(pool, one.count, test, one.node, other)
+    let one = pool_nodes::konst(pool, count, 1, 0, 1);
+    pool_nodes::ite(pool, one.count, test, one.node, other)
 }
 
 // 1 where `value` is more than `high`.
@@ -37,9 +37,9 @@ fn clip_above(
     ensures { λ r. ⌜ Builds1 (now (pool .entry)) count (now (pool .exit)) r 5 value wide 1
         (λ v. Ite (Compare op (Const (wideWords (high .lo) (high .hi)) wide) v) yes no) (value .0 ∷ []) ⌝ }
 {
-    let most = nodes::konst(pool, count, high.lo, high.hi, wide);
-    let above = nodes::compare(pool, most.count, op, most.node, value);
-    let zero = nodes::konst(pool, above.count, 0, 0, 1);
+    let most = pool_nodes::konst(pool, count, high.lo, high.hi, wide);
+    let above = pool_nodes::compare(pool, most.count, op, most.node, value);
+    let zero = pool_nodes::konst(pool, above.count, 0, 0, 1);
     one_where(pool, zero.count, above.node, zero.node)
 }
 
@@ -57,8 +57,8 @@ fn clip_below(
     ensures { λ r. ⌜ Builds2 (now (pool .entry)) count (now (pool .exit)) r 4 value wide other 1 1
         (λ v o. Ite (Compare Slt v (Const (wideWords (low .lo) (low .hi)) wide)) yes o) (value .0 ∷ other .0 ∷ []) ⌝ }
 {
-    let least = nodes::konst(pool, count, low.lo, low.hi, wide);
-    let below = nodes::compare(pool, least.count, CmpOp::Slt, value, least.node);
+    let least = pool_nodes::konst(pool, count, low.lo, low.hi, wide);
+    let below = pool_nodes::compare(pool, least.count, CmpOp::Slt, value, least.node);
     one_where(pool, below.count, below.node, other)
 }
 

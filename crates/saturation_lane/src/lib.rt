@@ -1,5 +1,5 @@
 // Whether a lane saturates: one bit over the lane's sources.
-use kinds::operators::mixed_to;
+use lower_kinds::operators::mixed_to;
 use pool::Built;
 use pool::Node;
 use terms::BinOp;
@@ -12,7 +12,7 @@ ghost use Rattle.pool.specs.Growth.{Room};
 ghost use Rattle.trees.specs.declared.Saturate.{Saturate};
 ghost use Rattle.trees.specs.Arith.{kindBits};
 ghost use Rattle.lower.specs.Builds.{Builds2, BuildsIf};
-ghost use Rattle.kinds.specs.Sources.{usesSecond, KindIn};
+ghost use Rattle.lower_kinds.specs.Sources.{usesSecond, KindIn};
 ghost use Rattle.lower_exact.specs.Exact.{kindTo};
 ghost use Rattle.saturation.specs.Bits.{saturatingBit, mixedSignBit};
 

@@ -1,5 +1,5 @@
 // Whether a shift saturates.
-use kinds::operators::shift_op;
+use lower_kinds::operators::shift_op;
 use pool::Built;
 use pool::Node;
 use terms::BinOp;
@@ -15,7 +15,7 @@ ghost use Rattle.pool.specs.Growth.{Room};
 ghost use Rattle.trees.specs.declared.Saturate.{Saturate};
 ghost use Rattle.trees.specs.declared.SaturateTo.{SaturateTo};
 ghost use Rattle.lower.specs.Builds.{Builds1, Builds2, BuildsIf};
-ghost use Rattle.kinds.specs.Sources.{isRegister, AmountIn};
+ghost use Rattle.lower_kinds.specs.Sources.{isRegister, AmountIn};
 ghost use Rattle.saturation.specs.Bits.{lost as lostTree, leftBit, shiftedBit, saturableTo, saturableShift};
 
 // Whether a shift to the left, undone, gives another value.
@@ -33,12 +33,12 @@ fn lost(
         (λ v a. lostTree v a signed) (value .0 ∷ amount .0 ∷ []) ⌝ }
 {
     let op = shift_op(signed);
-    let shifted = nodes::bv(pool, count, BinOp::Shl, value, amount);
-    let restored = nodes::bv(pool, shifted.count, op, shifted.node, amount);
-    let same = nodes::compare(pool, restored.count, CmpOp::Eq, restored.node, value);
-    let zero = nodes::konst(pool, same.count, 0, 0, 1);
-    let one = nodes::konst(pool, zero.count, 1, 0, 1);
-    nodes::ite(pool, one.count, same.node, zero.node, one.node)
+    let shifted = pool_nodes::bv(pool, count, BinOp::Shl, value, amount);
+    let restored = pool_nodes::bv(pool, shifted.count, op, shifted.node, amount);
+    let same = pool_nodes::compare(pool, restored.count, CmpOp::Eq, restored.node, value);
+    let zero = pool_nodes::konst(pool, same.count, 0, 0, 1);
+    let one = pool_nodes::konst(pool, zero.count, 1, 0, 1);
+    pool_nodes::ite(pool, one.count, same.node, zero.node, one.node)
 }
 
 // SQSHLU: the exact product against the unsigned range.
@@ -49,9 +49,9 @@ fn exact_left_bit(pool: &mut [u64], count: usize, value: Node, shift: u64, lane_
         (λ v. leftBit (Saturate.Into SaturateTo.SignedToUnsigned) v shift «lane_bits» true) (value .0 ∷ []) ⌝ }
 {
     let wide = lane_bits + shift + 1;
-    let wide_value = nodes::sign_ext(pool, count, value, wide);
-    let by = nodes::konst(pool, wide_value.count, shift, 0, wide);
-    let exact = nodes::bv(pool, by.count, BinOp::Shl, wide_value.node, by.node);
+    let wide_value = pool_nodes::sign_ext(pool, count, value, wide);
+    let by = pool_nodes::konst(pool, wide_value.count, shift, 0, wide);
+    let exact = pool_nodes::bv(pool, by.count, BinOp::Shl, wide_value.node, by.node);
     crate::clip::clip(
         pool,
         exact.count,
@@ -80,7 +80,7 @@ fn left_bit(
     if let SaturateTo::SignedToUnsigned = to {
         return exact_left_bit(pool, count, value, shift, lane_bits);
     }
-    let by = nodes::konst(pool, count, shift, 0, lane_bits);
+    let by = pool_nodes::konst(pool, count, shift, 0, lane_bits);
     lost(pool, by.count, value, by.node, lane_bits, signed)
 }
 
@@ -121,10 +121,10 @@ fn register_bit(
         (λ v a. shiftedBit (ShiftKind.Register rounding true) signed v a «lane_bits») (value .0 ∷ amount .0 ∷ []) ⌝ }
 {
     let left = lost(pool, count, value, amount, lane_bits, signed);
-    let zero = nodes::konst(pool, left.count, 0, 0, lane_bits);
-    let negative = nodes::compare(pool, zero.count, CmpOp::Slt, amount, zero.node);
-    let none = nodes::konst(pool, negative.count, 0, 0, 1);
-    nodes::ite(pool, none.count, negative.node, none.node, left.node)
+    let zero = pool_nodes::konst(pool, left.count, 0, 0, lane_bits);
+    let negative = pool_nodes::compare(pool, zero.count, CmpOp::Slt, amount, zero.node);
+    let none = pool_nodes::konst(pool, negative.count, 0, 0, 1);
+    pool_nodes::ite(pool, none.count, negative.node, none.node, left.node)
 }
 
 // A lane of the shifts that can saturate. `amount`, the signed one, is read by the register forms alone.

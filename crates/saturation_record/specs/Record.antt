@@ -9,7 +9,7 @@ use Rattle.pool.specs.declared.Node.{Node}
 use Rattle.pool.specs.declared.Built.{Built}
 use Rattle.pool.specs.Rules.{Valid}
 use Rattle.pool.specs.Growth.{NodeIs}
-use Rattle.nodes.specs.Builders.{Takes, Makes}
+use Rattle.pool_nodes.specs.Builders.{Takes, Makes}
 use Rattle.saturation.specs.Bits.{saturationTree}
 use Rattle.saturation_bits.specs.Lanes.{bitsMost}
 

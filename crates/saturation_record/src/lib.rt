@@ -97,7 +97,7 @@ pub fn record_bit(
     requires { ⌜ (d .0 < count) × (first .0 < count) × (second .0 < count) × (before .0 < count) ⌝ }
     ensures { λ r. ⌜ RecordBit (now (pool .entry)) count (now (pool .exit)) r operation arrangement i d first second before ⌝ }
 {
-    let shape = shape::shape(operation, arrangement, i);
+    let shape = lower_shape::shape(operation, arrangement, i);
     let op = shape.op;
     if saturable(op) {
         return instruction_bit(pool, count, shape, first, second, d, before);

@@ -8,7 +8,7 @@ use lib.ListN.{length, length-append}
 use native.Mathlib.Numerals.{add-one}
 use Rattle.terms.specs.Expr.{Expr, Var}
 use Rattle.pool.specs.declared.Built.{Built}
-use Rattle.nodes.specs.Builders.{MadeConst}
+use Rattle.pool_nodes.specs.Builders.{MadeConst}
 use Rattle.block.specs.Block.{Started}
 use Rattle.block.proofs.Running.{start-is}
 use Rattle.pool.proofs.Laws.{cell-kept}
@@ -16,11 +16,11 @@ use Rattle.neon.specs.declared.Instruction.{Instruction}
 use Rattle.trees.specs.Block.{treeStep, treeRun}
 use Rattle.pool.specs.Growth.{Reach, Grown, NodeIs}
 use Rattle.pool.proofs.Laws.{grown-refl, grown-trans, is-kept, reach-kept, reach-trans}
-use Rattle.register_map.specs.declared.RegisterMap.{RegisterMap}
-use Rattle.register_map.specs.Map.{nodeOf, firstMap, written}
-use Rattle.record_check.specs.Record.{recordAt}
+use Rattle.block_map.specs.declared.RegisterMap.{RegisterMap}
+use Rattle.block_map.specs.Map.{nodeOf, firstMap, written}
+use Rattle.block_record_check.specs.Record.{recordAt}
 use Rattle.block_check.specs.Records.{recordsFrom, recordsOf}
-use Rattle.lower_record.specs.Step.{MapOk}
+use Rattle.block_record.specs.Step.{MapOk}
 use Rattle.block_check.proofs.Refusals.{from-more}
 use Rattle.block.proofs.Running.{tree-more, added-kept}
 use Rattle.saturation.specs.Bits.{recordBit, bitRun}

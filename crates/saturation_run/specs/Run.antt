@@ -8,9 +8,9 @@ use Rattle.neon.specs.declared.Instruction.{Instruction}
 use Rattle.trees.specs.Block.{treeStep, treeRun}
 use Rattle.pool.specs.Rules.{Valid}
 use Rattle.pool.specs.Growth.{Reach, Grown, NodeIs}
-use Rattle.register_map.specs.declared.RegisterMap.{RegisterMap}
-use Rattle.register_map.specs.Map.{firstMap, written}
-use Rattle.lower_record.specs.Step.{MapOk, MapIs}
+use Rattle.block_map.specs.declared.RegisterMap.{RegisterMap}
+use Rattle.block_map.specs.Map.{firstMap, written}
+use Rattle.block_record.specs.Step.{MapOk, MapIs}
 use Rattle.block.specs.Block.{VarAt}
 use Rattle.saturation.specs.Bits.{no, bitRun}
 use Rattle.saturation_step.specs.declared.Flagged.{Flagged}

@@ -1,6 +1,6 @@
 // The records of a block in order, each with its saturation bit.
 use block::start_pool;
-use record_check::record_at;
+use block_record_check::record_at;
 use saturation_step::Flagged;
 use saturation_step::flag_record;
 ghost use Prim.Native.Nat.{_*_, _/_, _<_};
@@ -8,7 +8,7 @@ ghost use lib.ListN.{length};
 ghost use Rattle.neon.specs.Refusal.{AllLegal};
 ghost use Rattle.pool.specs.Growth.{Room};
 ghost use Rattle.block_check.specs.Records.{recordsOf};
-ghost use Rattle.lower_record.specs.Step.{MapOk};
+ghost use Rattle.block_record.specs.Step.{MapOk};
 ghost use Rattle.saturation_step.specs.Step.{flagReserve};
 ghost use Rattle.saturation_run.specs.Run.{FlagStarted, FlagRuns};
 
@@ -49,7 +49,7 @@ pub fn start_flagged(pool: &mut [u64]) -> Flagged
     ensures { λ r. ⌜ FlagStarted (now (pool .entry)) (now (pool .exit)) r ⌝ }
 {
     let map = start_pool(pool);
-    let zero = nodes::konst(pool, map.count, 0, 0, 1);
+    let zero = pool_nodes::konst(pool, map.count, 0, 0, 1);
     let mut raised = map;
     raised.count = zero.count;
     let node = zero.node;

@@ -10,10 +10,10 @@ use Rattle.pool.specs.declared.Node.{Node}
 use Rattle.pool.specs.declared.Built.{Built}
 use Rattle.pool.specs.Growth.{NodeIs}
 use Rattle.pool.proofs.Laws.{is-kept, reach-kept, grown-trans}
-use Rattle.register_map.specs.declared.RegisterMap.{RegisterMap}
-use Rattle.register_map.specs.Map.{nodeOf}
-use Rattle.lower_record.specs.Step.{MapOk, Steps}
-use Rattle.lower_record.proofs.Recording.{registers-in, nodes-in}
+use Rattle.block_map.specs.declared.RegisterMap.{RegisterMap}
+use Rattle.block_map.specs.Map.{nodeOf}
+use Rattle.block_record.specs.Step.{MapOk, Steps}
+use Rattle.block_record.proofs.Recording.{registers-in, nodes-in}
 use Rattle.saturation.specs.Bits.{recordBit}
 use Rattle.saturation_record.specs.Record.{RecordBit}
 use Rattle.saturation_step.specs.declared.Flagged.{Flagged}

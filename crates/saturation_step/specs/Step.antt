@@ -9,9 +9,9 @@ use Rattle.trees.specs.Block.{treeStep}
 use Rattle.pool.specs.declared.Node.{Node}
 use Rattle.pool.specs.Rules.{Valid}
 use Rattle.pool.specs.Growth.{Reach, Grown, NodeIs}
-use Rattle.register_map.specs.declared.RegisterMap.{RegisterMap}
-use Rattle.register_map.specs.Map.{nodeOf, written}
-use Rattle.lower_record.specs.Step.{MapOk, MapIs, Added}
+use Rattle.block_map.specs.declared.RegisterMap.{RegisterMap}
+use Rattle.block_map.specs.Map.{nodeOf, written}
+use Rattle.block_record.specs.Step.{MapOk, MapIs, Added}
 use Rattle.saturation.specs.Bits.{recordBit}
 use Rattle.saturation_step.specs.declared.Flagged.{Flagged}
 

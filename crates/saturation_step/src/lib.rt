@@ -1,13 +1,13 @@
 // One record of a block with its saturation bit: first the bit over the registers before it, then the record as in every block.
-use lower_record::lower_record;
+use block_map::RegisterMap;
+use block_record::lower_record;
 use pool::Node;
-use register_map::RegisterMap;
 use saturation_record::record_bit;
 ghost use Prim.Native.Nat.{_<_};
 ghost use Rattle.neon.specs.Refusal.{Legal};
 ghost use Rattle.pool.specs.Growth.{Room};
-ghost use Rattle.record_check.specs.Record.{instruction};
-ghost use Rattle.lower_record.specs.Step.{MapOk};
+ghost use Rattle.block_record_check.specs.Record.{instruction};
+ghost use Rattle.block_record.specs.Step.{MapOk};
 ghost use Rattle.saturation_step.specs.Step.{flagReserve, Flags};
 
 // The map of the registers, and the block's bit.

@@ -10,13 +10,13 @@ use Rattle.terms.specs.Value.{value}
 use Rattle.pool.specs.Node.{widthAt}
 use Rattle.pool.specs.Unfold.{unfoldAt}
 use Rattle.pool.specs.Growth.{NodeIs}
-use Rattle.register_map.specs.Map.{nodeOf}
+use Rattle.block_map.specs.Map.{nodeOf}
 use Rattle.block.proofs.Equal.{registers-hold}
 use Rattle.script_meaning.specs.Meaning.{script}
 use Rattle.script_meaning.proofs.Stays.{holdsOf}
 use Rattle.script_length.specs.Answer.{chosen}
 use Rattle.script_length.proofs.Answers.{good-nodes}
-use Rattle.scripts.proofs.Means.{written-means}
+use Rattle.script_write.proofs.Means.{written-means}
 use Rattle.script_blocks.specs.Demand.{RegistersChosen, DifferWhenScriptHolds}
 
 may-be-chosen : (ws : List ℕ) (count n : ℕ) (t : Expr) → NodeIs ws count n 128 t → chosen ws count n ≡ true

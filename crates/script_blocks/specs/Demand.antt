@@ -9,12 +9,12 @@ use Prim.Native.Nat.{ℕ, _<_}
 use lib.ListN.{take}
 use Rattle.neon.specs.declared.Instruction.{Instruction}
 use Rattle.neon.specs.Run.{armRun}
-use Rattle.register_map.specs.Map.{nodeOf}
+use Rattle.block_map.specs.Map.{nodeOf}
 use Rattle.block.specs.declared.BlockAnswer.{BlockAnswer}
 use Rattle.block.specs.Block as block
 use Rattle.script_meaning.specs.Demand.{ModelOf, Holds}
 use Rattle.script_length.specs.Answer.{scriptNumber}
-use Rattle.scripts.specs.Answer as scripts
+use Rattle.script_write.specs.Answer as scripts
 
 -- the registers of an accepted block may be chosen: their script is refused for want of room alone
 abbrev pub RegistersChosen : Type 0

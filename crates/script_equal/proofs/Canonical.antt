@@ -13,11 +13,11 @@ use Rattle.pool.specs.Rules.{Valid, widthBefore, okCell}
 use Rattle.pool.specs.Unfold.{unfoldAt}
 use Rattle.pool.proofs.Facts.{valid-node}
 use Rattle.pool.proofs.Laws.{unfold-step}
-use Rattle.node_rules.proofs.Kept.{compare-tests}
-use Rattle.register_map.specs.Map.{nodeOf}
+use Rattle.pool_rules.proofs.Kept.{compare-tests}
+use Rattle.block_map.specs.Map.{nodeOf}
 use Rattle.block.proofs.Equal.{equal-when-terms-are}
 use Rattle.join.proofs.Meaning.{eq-holds}
-use Rattle.canonise.proofs.Meaning.{last-is-root}
+use Rattle.canonical_write.proofs.Meaning.{last-is-root}
 use Rattle.script_length.proofs.Answers.{below, all-wide, keeps}
 use Rattle.script_lane_length.proofs.Answers.{fine}
 use Rattle.script_lane_meaning.proofs.Values.{value-fits}

@@ -11,7 +11,7 @@ use Rattle.terms.specs.Value.{value}
 use Rattle.neon.specs.declared.Instruction.{Instruction}
 use Rattle.neon.specs.Run.{armRun}
 use Rattle.pool.specs.Unfold.{unfoldAt}
-use Rattle.register_map.specs.Map.{nodeOf}
+use Rattle.block_map.specs.Map.{nodeOf}
 use Rattle.block.specs.declared.BlockAnswer.{BlockAnswer}
 use Rattle.block.specs.Block as block
 use Rattle.block.proofs.Equal.{registers-hold, registers-fit}
@@ -20,7 +20,7 @@ use Rattle.join.specs.Join.{moved}
 use Rattle.join.specs.Join as join
 use Rattle.join.proofs.Meaning.{terms-kept}
 use Rattle.script_lane_meaning.specs.Demand.{bitsOf, laneAt}
-use Rattle.script_lanes.proofs.Means.{lane-written-means}
+use Rattle.script_lane_write.proofs.Means.{lane-written-means}
 use Rattle.script_equal.specs.Demand.{Unmet, NoLaneMet, Start, EqualWhenNoLaneIsMet, DifferWhereALaneIsMet}
 use Rattle.script_equal.proofs.Lanes.{lanes-equal}
 

@@ -8,15 +8,15 @@ use Rattle.terms.specs.declared.CmpOp.the-variants.{Eq}
 use Rattle.neon.specs.declared.Instruction.{Instruction}
 use Rattle.neon.specs.Run.{armRun}
 use Rattle.pool.specs.Node.{Cell, compare, cellAt}
-use Rattle.register_map.specs.Map.{nodeOf}
+use Rattle.block_map.specs.Map.{nodeOf}
 use Rattle.block.specs.declared.BlockAnswer.{BlockAnswer}
 use Rattle.join.specs.declared.Joined.{Joined}
 use Rattle.join.specs.Join.{moved}
 use Rattle.join_blocks.specs.Demand.{OfTwoBlocks}
-use Rattle.canonise.specs.declared.Canonised.{Canonised}
-use Rattle.canonise.specs.Canonise as canonise
+use Rattle.canonical_write.specs.declared.Canonised.{Canonised}
+use Rattle.canonical_write.specs.Canonise as canonise
 use Rattle.script_meaning.specs.Demand.{ModelOf, Holds}
-use Rattle.script_lanes.specs.Answer.{LaneAnswered}
+use Rattle.script_lane_write.specs.Answer.{LaneAnswered}
 
 -- a script was written, and no model at all meets its assertions: what a solver says by "unsat"
 pub record Unmet (ws : List ℕ) (count x y hi lo : ℕ) : Type 0 where

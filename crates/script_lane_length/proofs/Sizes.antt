@@ -7,7 +7,7 @@ use native.Mathlib.Omega.{arith}
 use lib.ListN.{length, length-append}
 use Rattle.terms.specs.Display.{bytes, decimal}
 use Rattle.pool.specs.Node.{kindNumber, widthAt}
-use Rattle.series.specs.Series.{upTo}
+use Rattle.text_series.specs.Series.{upTo}
 use Rattle.script_meaning.specs.Sexp.{show}
 use Rattle.script_meaning.specs.Script.{nodeName, sortBy, termOf}
 use Rattle.script_text.specs.Lines.{declarationLine}

@@ -1,5 +1,4 @@
 // The length of a pool's script by lanes, with no byte written: each line's length is a sum.
-use decimals::number_length;
 use pool::Node;
 use pool::words::kind_of;
 use pool::words::width_of;
@@ -8,10 +7,11 @@ use script_length::cut_length;
 use script_length::script_number;
 use script_length::sort_length;
 use script_length::term_length;
+use text_decimals::number_length;
 ghost use mathlib.Core.Path.{_≡_};
 ghost use Prim.Native.Nat.{_*_, _≤_, _<_};
 ghost use lib.ListN.{length};
-ghost use Rattle.series.specs.Series.{upTo};
+ghost use Rattle.text_series.specs.Series.{upTo};
 ghost use Rattle.script_length.specs.Answer.{Named, AllNamed};
 ghost use Rattle.script_lane_meaning.specs.LaneScript.{laneScriptOf};
 ghost use Rattle.script_lane_text.specs.Lines.{linesAt};

@@ -8,7 +8,7 @@ use lib.Dec.{eqb}
 use Rattle.terms.specs.Expr.{Expr, Var, Const, Bv, Compare, Ite, Extract, Concat, ZeroExtend, SignExtend, width}
 use Rattle.terms.specs.Value.{value, holds, bit}
 use Rattle.terms.specs.Rules.{Good}
-use Rattle.value.proofs.Range.{value-lt}
+use Rattle.trees_value.proofs.Range.{value-lt}
 use Rattle.pool.specs.Node.{widthAt}
 use Rattle.pool.specs.Rules.{Valid}
 use Rattle.pool.specs.Unfold.{unfoldAt}

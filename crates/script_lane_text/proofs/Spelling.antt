@@ -5,7 +5,7 @@ use Prim.Native.Nat.{ℕ, zero, suc, _+_}
 use native.Mathlib.Nat.{add-zero, zero-add, add-suc, suc-add}
 use Rattle.terms.specs.Display.{bytes}
 use Rattle.pool.specs.Node.{Kind, widthAt, kindAt, kindNumber, cellAt, decode}
-use Rattle.series.specs.Series.{upTo}
+use Rattle.text_series.specs.Series.{upTo}
 use Rattle.script_meaning.specs.Sexp.{Sexp, Items, stop, _⨾_, show, showLines}
 use Rattle.script_meaning.specs.Script.{nodeName, sortBy, termOf, definedBy, declarations, checkSat}
 use Rattle.script_text.specs.Lines.{lineBy, declarationLine}

@@ -1,5 +1,4 @@
 // The script of a pool by lanes as bytes: the lines that S-1's form does not have.
-use digits::put;
 use pool::Node;
 use pool::words::kind_of;
 use pool::words::width_of;
@@ -8,13 +7,14 @@ use script_text::put_declarations;
 use script_text::put_node_name;
 use script_text::put_sort;
 use script_text::put_term;
+use text_digits::put;
 ghost use mathlib.Core.Path.{_≡_};
 ghost use Prim.Native.Nat.{_+_, _*_, _≤_, _<_};
 ghost use lib.ListN.{length};
 ghost use Rattle.pool.specs.Node.{kindNumber};
-ghost use Rattle.digits.specs.Writing.{Room, Wrote};
+ghost use Rattle.text_digits.specs.Writing.{Room, Wrote};
 ghost use Rattle.text_parts.specs.Text.{Ready};
-ghost use Rattle.series.specs.Series.{upTo};
+ghost use Rattle.text_series.specs.Series.{upTo};
 ghost use Rattle.script_text.specs.Lines.{AllReady};
 ghost use Rattle.script_lane_meaning.specs.LaneScript.{laneScriptOf};
 ghost use Rattle.script_lane_text.specs.Lines.{constantLine, equationLine, linesAt, laneLines};

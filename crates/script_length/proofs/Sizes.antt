@@ -9,7 +9,7 @@ use Rattle.terms.specs.Display.{bytes, decimal, digitsTo}
 use Rattle.pool.specs.Node.{kindNumber, widthAt, wordAt}
 use Rattle.text_parts.specs.Text.{Ready}
 use Rattle.text_parts.proofs.Operands.{ready-of}
-use Rattle.series.specs.Series.{upTo}
+use Rattle.text_series.specs.Series.{upTo}
 use Rattle.script_meaning.specs.Sexp.{show, showAll, showMore}
 use Rattle.script_meaning.specs.Script.{binary, nameOf, sortBy, apply1, apply2, apply3, index1, index2, termOf, scriptOf}
 use Rattle.script_text.specs.Lines.{lineAt, declarationLine, claimLines}

@@ -15,15 +15,15 @@ use Rattle.pool.specs.Rules.{poolOk}
 use Rattle.text_length.specs.Answer.{lengthBy}
 use Rattle.script_meaning.specs.Script.{scriptOf}
 use Rattle.script_length.specs.Answer.{chosen}
-use Rattle.register_map.specs.Map.{nodeOf}
+use Rattle.block_map.specs.Map.{nodeOf}
 use Rattle.block_check.specs.Records.{recordsOf}
 use Rattle.block.specs.declared.BlockAnswer.{BlockAnswer}
 use Rattle.block.specs.Block as block
-use Rattle.scripts.specs.Answer as scripts
-use Rattle.routine_lines.specs.declared.Answer.{Answer}
-use Rattle.routine_lines.specs.Routine.{routineOf, routineRefusal, LinesRead}
-use Rattle.routine_lines.proofs.Blocks as blocks
-use Rattle.routine_lines.proofs.Blocks.{count-fits, block-is, records-are}
+use Rattle.script_write.specs.Answer as scripts
+use Rattle.line_routine.specs.declared.Answer.{Answer}
+use Rattle.line_routine.specs.Routine.{routineOf, routineRefusal, LinesRead}
+use Rattle.line_routine.proofs.Blocks as blocks
+use Rattle.line_routine.proofs.Blocks.{count-fits, block-is, records-are}
 use Rattle.script_lines.specs.declared.Given.{Given}
 use Rattle.script_lines.specs.Output.{askedRefusal, Refused, Asked, ScriptGiven}
 

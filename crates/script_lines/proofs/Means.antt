@@ -10,11 +10,11 @@ use lib.ListN.{length}
 use borrow.Author.Tests.{leb-true}
 use Rattle.facts.specs.Refuse.{unless}
 use Rattle.pool.specs.Node.{places}
-use Rattle.register_map.specs.Map.{nodeOf}
+use Rattle.block_map.specs.Map.{nodeOf}
 use Rattle.script_meaning.specs.Script.{scriptOf}
-use Rattle.scripts.specs.Answer as scripts
+use Rattle.script_write.specs.Answer as scripts
 use Rattle.script_blocks.proofs.Differ.{registers-chosen, differ-when-script-holds}
-use Rattle.routine_lines.specs.Routine.{routineOf}
+use Rattle.line_routine.specs.Routine.{routineOf}
 use Rattle.script_lines.specs.declared.Given.{Given}
 use Rattle.script_lines.specs.Output.{askedRefusal, Asked, ScriptGiven}
 use Rattle.script_lines.specs.Demand.{OutputMeans, AskedFits}

@@ -7,7 +7,7 @@ use lib.ListN.{take}
 use Rattle.neon.specs.Run.{armRun}
 use Rattle.pool.specs.Node.{places}
 use Rattle.script_meaning.specs.Demand.{ModelOf, Holds}
-use Rattle.routine_lines.specs.Routine.{routineOf}
+use Rattle.line_routine.specs.Routine.{routineOf}
 use Rattle.script_lines.specs.declared.Given.{Given}
 use Rattle.script_lines.specs.Output.{askedRefusal, ScriptGiven}
 

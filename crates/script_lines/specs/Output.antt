@@ -7,11 +7,11 @@ use lib.Dec.{leb}
 use lib.ListN.{length}
 use Rattle.neon.specs.Refusal.{Refusal, refusal, blockRefusal}
 use Rattle.pool.specs.Node.{places}
-use Rattle.register_map.specs.Map.{nodeOf}
+use Rattle.block_map.specs.Map.{nodeOf}
 use Rattle.block.specs.declared.BlockAnswer.{BlockAnswer}
 use Rattle.block.specs.Block as block
-use Rattle.scripts.specs.Answer as scripts
-use Rattle.routine_lines.specs.Routine.{routineOf, routineRefusal}
+use Rattle.script_write.specs.Answer as scripts
+use Rattle.line_routine.specs.Routine.{routineOf, routineRefusal}
 use Rattle.script_lines.specs.declared.Given.{Given}
 
 abbrev pub mostBytes : ℕ

@@ -1,7 +1,7 @@
 // The script of two registers after a routine, from text to text: everything between the reads and the writes of the program `script`.
 use block::lower_block;
-use routine_lines::read_lines;
-use scripts::write_script;
+use line_routine::read_lines;
+use script_write::write_script;
 ghost use mathlib.Core.Path.{_≡_};
 ghost use Rattle.script_lines.specs.Output.{ScriptGiven};
 

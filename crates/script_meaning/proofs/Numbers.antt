@@ -14,7 +14,7 @@ use borrow.Author.Tests.{lt-ltb, le-leb, ne-eqb}
 use Rattle.facts.proofs.Tests.{and-both}
 use Rattle.facts.proofs.Numbers.{before-or-from}
 use Rattle.terms.specs.Display.{digit, decimal}
-use Rattle.digits.proofs.Laws.{digits, digits-one, digits-more}
+use Rattle.text_digits.proofs.Laws.{digits, digits-one, digits-more}
 use Rattle.script_meaning.specs.Read.{isDigit}
 use Rattle.script_meaning.specs.Meaning.{all, number, isNumeral, numeral, isBinaryDigit, when}
 use Rattle.script_meaning.specs.Script.{binary}

@@ -19,7 +19,7 @@ use Rattle.terms.specs.Display.{bytes, decimal}
 use Rattle.pool.specs.Node.{Kind, bad, var, const, bv, compare, ite, extract, concat, zext, sext, Cell, wide}
 use Rattle.pool.specs.Rules.{okKind}
 use Rattle.pool.specs.Unfold.{shapeOf}
-use Rattle.node_rules.proofs.Kept.{wide-one, const-wide, const-fits, bv-tests, compare-tests, ite-tests, extract-tests, concat-tests, zext-tests}
+use Rattle.pool_rules.proofs.Kept.{wide-one, const-wide, const-fits, bv-tests, compare-tests, ite-tests, extract-tests, concat-tests, zext-tests}
 use Rattle.script_meaning.specs.Sexp.{Sexp, word, list, Items, stop, _⨾_}
 use Rattle.script_meaning.specs.Meaning as meanings
 use Rattle.script_meaning.specs.Meaning.{andThen, when, isNone, all, number, isBinaryDigit, literal, Meaning, meaning, Entry, find, functions, indexed, cut, zeros, signs}

@@ -5,8 +5,8 @@ use Prim.Native.Nat.{ℕ, zero, suc, _+_, _≤_}
 use native.Mathlib.Omega.{arith}
 use lib.ListN.{length, length-append}
 use Rattle.terms.specs.Display.{bytes, decimal}
-use Rattle.digits.specs.Writing.{Room, Wrote}
-use Rattle.digits.proofs.Laws.{wrote-length}
+use Rattle.text_digits.specs.Writing.{Room, Wrote}
+use Rattle.text_digits.proofs.Laws.{wrote-length}
 use Rattle.script_meaning.specs.Sexp.{Sexp, word, list, Items, stop, _⨾_, show}
 use Rattle.script_meaning.specs.Script.{apply1, apply2, apply3, index1, index2, sortBy, defineFun}
 

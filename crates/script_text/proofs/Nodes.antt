@@ -17,8 +17,8 @@ use Rattle.pool.specs.Node.{Kind, bad, var, const, bv, compare, ite, extract, c
 use Rattle.pool.specs.Node.{kindAt, kinds, bvCode, compareCode, kindNumber, widthAt, wordAt, wide, codeOf, Cell, cellAt, decode}
 use Rattle.pool.specs.Rules.{okKind, widthBefore, ifEarlier}
 use Rattle.pool.proofs.Facts.{kind-code, valid-node}
-use Rattle.node_rules.proofs.Kept.{wide-most, const-wide, bv-tests, compare-tests, ite-tests, extract-tests, concat-tests, zext-tests}
-use Rattle.node_fields.specs.Fields.{opA, opB, opC}
+use Rattle.pool_rules.proofs.Kept.{wide-most, const-wide, bv-tests, compare-tests, ite-tests, extract-tests, concat-tests, zext-tests}
+use Rattle.pool_fields.specs.Fields.{opA, opB, opC}
 use Rattle.text_parts.specs.Text.{Ready}
 use Rattle.script_meaning.specs.Sexp.{Sexp, word, show}
 use Rattle.script_meaning.specs.Script.{binary, nameOf, functionOf, apply1, apply2, apply3, index1, index2, termBy, termOf}

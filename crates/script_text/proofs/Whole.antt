@@ -5,7 +5,7 @@ use Prim.Native.Nat.{ℕ, zero, suc, _+_}
 use native.Mathlib.Nat.{add-zero, zero-add, add-suc, suc-add}
 use Rattle.terms.specs.Display.{bytes, decimal, digitsTo}
 use Rattle.pool.specs.Node.{Kind, bad, var, const, bv, compare, ite, extract, concat, zext, sext, cellAt}
-use Rattle.series.specs.Series.{upTo}
+use Rattle.text_series.specs.Series.{upTo}
 use Rattle.script_meaning.specs.Sexp.{Sexp, Items, stop, _⨾_, show, showLines}
 use Rattle.script_meaning.specs.Script.{registerName, nameOf, sortBy, apply2, declareConst, assertion, checkSat, definition, definedBy, definitions, declarations, commandsOf, scriptOf}
 use native.Mathlib.Omega.{arith}

@@ -1,25 +1,25 @@
 // The script of a pool as bytes (document 02, S-1): the parts of a line.
-use decimals::put_number;
-use digits::put;
-use node_fields::first;
-use node_fields::high;
-use node_fields::low;
-use node_fields::second;
-use node_fields::third;
 use pool::Node;
 use pool::words::kind_of;
 use pool::words::width_of;
+use pool_fields::first;
+use pool_fields::high;
+use pool_fields::low;
+use pool_fields::second;
+use pool_fields::third;
+use text_decimals::put_number;
+use text_digits::put;
 ghost use mathlib.Core.Path.{_≡_};
 ghost use mathlib.Core.List.{_++_};
 ghost use Prim.Native.Nat.{_+_, _*_, _/_, _%_, _^_, _≤_, _<_};
 ghost use Rattle.terms.specs.Display.{bytes};
 ghost use lib.ListN.{length};
 ghost use Rattle.pool.specs.Node.{wide, kindAt, kindNumber};
-ghost use Rattle.digits.specs.Writing.{Room, Wrote};
+ghost use Rattle.text_digits.specs.Writing.{Room, Wrote};
 ghost use Rattle.text_parts.specs.Text.{Ready};
 ghost use Rattle.script_meaning.specs.Sexp.{show};
 ghost use Rattle.script_text.specs.Lines.{lineAt, declarationLine, claimLines, AllReady};
-ghost use Rattle.series.specs.Series.{upTo};
+ghost use Rattle.text_series.specs.Series.{upTo};
 ghost use Rattle.script_meaning.specs.Script.{binary, nodeName, registerName, nameOf, termOf, scriptOf, sortBy, functionOf, apply1, apply2, apply3, index1, index2};
 
 // Bit k of two words.

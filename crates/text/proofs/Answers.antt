@@ -11,7 +11,7 @@ use lib.Seq.{sets-eq}
 use borrow.Author.Tests.{le-leb, lt-leb}
 use Rattle.facts.specs.Refuse.{unless}
 use Rattle.pool.specs.Rules.{poolOk}
-use Rattle.digits.specs.Writing.{Wrote}
+use Rattle.text_digits.specs.Writing.{Wrote}
 use Rattle.text_parts.specs.Text.{text}
 use Rattle.text_length.specs.Answer.{nodeNumber}
 use Rattle.text_length.proofs.Answers.{good-node, no-length}

@@ -3,8 +3,8 @@
 use pool::Node;
 use text_length::measure;
 use text_length::node_number;
-use text_terms::write_node;
-ghost use Rattle.digits.specs.Writing.{Room, Wrote};
+use text_write::write_node;
+ghost use Rattle.text_digits.specs.Writing.{Room, Wrote};
 ghost use Rattle.text_parts.specs.Text.{text, Ready};
 ghost use Rattle.text.specs.Answer.{Answered};
 

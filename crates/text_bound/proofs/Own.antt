@@ -10,9 +10,9 @@ use lib.ListN.{length, length-append}
 use borrow.Author.Tests.{eqb-true, eqb-false, ltb-true, ltb-false, eq-eqb, ne-eqb}
 use Rattle.terms.specs.Display.{decimal, hexadecimal}
 use Rattle.pool.specs.Node.{kinds, kindAt, wide, wordAt, widthAt, kindNumber}
-use Rattle.node_fields.specs.Fields.{opA, opB, opC, leftOf, rightOf}
-use Rattle.digits.proofs.Laws.{digits, digits-one, length-more}
-use Rattle.digits.proofs.Lengths.{decimal-one, decimal-two, decimal-three}
+use Rattle.pool_fields.specs.Fields.{opA, opB, opC, leftOf, rightOf}
+use Rattle.text_digits.proofs.Laws.{digits, digits-one, length-more}
+use Rattle.text_digits.proofs.Lengths.{decimal-one, decimal-two, decimal-three}
 use Rattle.text_operators.specs.Between.{Joined, betweenText}
 use Rattle.text_operators.proofs.Lengths.{operator-three, operator-shl, operator-shr, operator-compare}
 use Rattle.text_parts.specs.Text.{text, openText, endText, single, Ready}

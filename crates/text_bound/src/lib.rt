@@ -1,10 +1,10 @@
 // Whether a node's text is surely short: by a bound for each node, which costs a fraction of the text's length where the text has nodes
 // more often than the pool.
-use node_fields::first;
-use node_fields::second;
-use node_fields::third;
 use pool::Node;
 use pool::words::kind_of;
+use pool_fields::first;
+use pool_fields::second;
+use pool_fields::third;
 use text_parts::is_single;
 ghost use mathlib.Core.Path.{_≡_};
 ghost use mathlib.Core.Bool.{true};

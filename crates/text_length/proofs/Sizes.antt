@@ -8,8 +8,8 @@ use lib.Dec.{eqb}
 use lib.ListN.{length, length-append}
 use Rattle.terms.specs.Display.{decimal, hexadecimal, display}
 use Rattle.pool.specs.Node.{kinds, kindAt, widthAt, wordAt, wide, kindNumber}
-use Rattle.node_rules.proofs.Numbers.{within}
-use Rattle.node_fields.specs.Fields.{opA, leftOf, rightOf}
+use Rattle.pool_rules.proofs.Numbers.{within}
+use Rattle.pool_fields.specs.Fields.{opA, leftOf, rightOf}
 use Rattle.text_operators.specs.Between.{betweenText}
 use Rattle.text_parts.specs.Text.{text, openOf, openText, endText, single, Ready}
 use Rattle.text_parts.proofs.Operands.{Single, to-nineteen}

@@ -1,16 +1,16 @@
 // The length of a node's text up to a ceiling: by a pass over the text that stops once the ceiling is passed, or node by node.
-use digits::decimal_length;
-use digits::less;
-use digits::less_hex;
-use node_fields::first;
-use node_fields::high;
-use node_fields::left;
-use node_fields::low;
-use node_fields::right;
 use pool::Node;
 use pool::words::kind_of;
 use pool::words::width_of;
 use pool_check::pool_check;
+use pool_fields::first;
+use pool_fields::high;
+use pool_fields::left;
+use pool_fields::low;
+use pool_fields::right;
+use text_digits::decimal_length;
+use text_digits::less;
+use text_digits::less_hex;
 use text_operators::operator_length;
 use text_parts::is_single;
 ghost use mathlib.Core.Path.{_≡_};

@@ -4,7 +4,7 @@ use Prim.Native.Nat.{ℕ, _≤_, _<_}
 use native.Mathlib.Omega.{arith}
 use lib.ListN.{length}
 use Rattle.pool.specs.Node.{Kind, kinds}
-use Rattle.node_rules.proofs.Numbers.{within}
+use Rattle.pool_rules.proofs.Numbers.{within}
 use Rattle.text_operators.specs.Between.{betweenOf, betweenText}
 
 -- the kinds 3 to 8, 9, 10 and 11, 12 to 14

@@ -1,10 +1,10 @@
 // What `Display` of the Rust's expr.rs writes between two operands.
-use digits::put;
+use text_digits::put;
 ghost use mathlib.Core.Path.{_≡_};
 ghost use mathlib.Core.List.{[], _∷_};
 ghost use Prim.Native.Nat.{_≤_, _<_};
 ghost use lib.ListN.{length};
-ghost use Rattle.digits.specs.Writing.{Room, Wrote};
+ghost use Rattle.text_digits.specs.Writing.{Room, Wrote};
 ghost use Rattle.text_operators.specs.Between.{Joined, betweenText};
 
 // The one character of the operators 3 to 8.

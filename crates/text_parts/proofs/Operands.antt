@@ -15,10 +15,10 @@ use Rattle.facts.proofs.Tests.{and-both}
 use Rattle.pool.specs.Node.{bad, kinds, kindAt, decode, Cell, cellAt, widthAt, wordAt, kindNumber}
 use Rattle.pool.specs.Rules.{widthBefore, okKind, okPool, Valid}
 use Rattle.pool.proofs.Facts.{valid-node}
-use Rattle.node_rules.proofs.Numbers.{within, is-bad}
-use Rattle.node_fields.specs.Fields.{opA, opB, opC}
+use Rattle.pool_rules.proofs.Numbers.{within, is-bad}
+use Rattle.pool_fields.specs.Fields.{opA, opB, opC}
 use Rattle.text_parts.specs.Text.{Ready, single}
-use Rattle.node_rules.proofs.Kept.{Ok, Two, Three, One, register, bv-two, compare-two, ite-three, extract-one, extract-range, concat-two, zext-one, wide-bad, wide-var, wide-const, wide-bv, wide-ite, wide-extract, wide-concat, wide-zext, most-bad, most-var, most-const, most-bv, most-compare, most-ite, most-extract, most-concat, most-zext}
+use Rattle.pool_rules.proofs.Kept.{Ok, Two, Three, One, register, bv-two, compare-two, ite-three, extract-one, extract-range, concat-two, zext-one, wide-bad, wide-var, wide-const, wide-bv, wide-ite, wide-extract, wide-concat, wide-zext, most-bad, most-var, most-const, most-bv, most-compare, most-ite, most-extract, most-concat, most-zext}
 
 -- fewer nodes of a valid pool are a valid pool
 valid-less : (ws : List ℕ) (k j : ℕ) → j ≤ k → Valid ws k → Valid ws j

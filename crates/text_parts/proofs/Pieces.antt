@@ -8,9 +8,9 @@ use lib.Dec.{eqb}
 use borrow.Author.Tests.{eqb-true, eqb-false, eq-eqb, ne-eqb}
 use Rattle.terms.specs.Display.{bytes}
 use Rattle.pool.specs.Node.{kinds, kindAt, kindNumber}
-use Rattle.node_fields.specs.Fields.{opA, leftOf, rightOf}
-use Rattle.digits.specs.Writing.{Room}
-use Rattle.digits.proofs.Laws.{room-front, room-as}
+use Rattle.pool_fields.specs.Fields.{opA, leftOf, rightOf}
+use Rattle.text_digits.specs.Writing.{Room}
+use Rattle.text_digits.proofs.Laws.{room-front, room-as}
 use Rattle.text_operators.specs.Between.{Joined, betweenText}
 use Rattle.text_parts.specs.Text.{text, openText, endText, single, Ready}
 use Rattle.text_parts.proofs.Operands.{Pair, Term, is-single, is-pair, ite-b, ite-c, pair-b, first-term}

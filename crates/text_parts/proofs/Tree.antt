@@ -11,8 +11,8 @@ use Rattle.terms.specs.Display.{bytes, display}
 use Rattle.pool.specs.Node.{Kind, kinds, kindAt, decode, Cell, cellAt, widthAt, wordAt, wide, kindNumber}
 use Rattle.pool.specs.Unfold.{shapeOf, earlier, unfoldAt}
 use Rattle.pool.proofs.Laws.{unfold-step}
-use Rattle.node_rules.proofs.Numbers.{within}
-use Rattle.node_fields.specs.Fields.{opA, opB, opC}
+use Rattle.pool_rules.proofs.Numbers.{within}
+use Rattle.pool_fields.specs.Fields.{opA, opB, opC}
 use Rattle.text_operators.specs.Between.{betweenOf, betweenText}
 use Rattle.text_parts.specs.Text.{text, openOf, openText, rangeText, widthText, endOf, endText, Ready}
 use Rattle.text_parts.proofs.Operands.{Pair, Single, pair-kinds, single-kinds, to-nineteen, compare-low, compare-high, ite-a, ite-b, ite-c, pair-a, pair-b, single-a}

@@ -1,19 +1,19 @@
 // The parts of a node's text: what `Display` of the Rust's expr.rs writes before and after its operands, as bytes into a lent
 // buffer. k is the number of the node's kind.
-use digits::put;
-use digits::put_decimal;
-use digits::put_hex;
-use node_fields::high;
-use node_fields::low;
 use pool::Node;
 use pool::words::width_of;
+use pool_fields::high;
+use pool_fields::low;
+use text_digits::put;
+use text_digits::put_decimal;
+use text_digits::put_hex;
 ghost use mathlib.Core.Path.{_≡_};
 ghost use mathlib.Core.Bool.{true};
 ghost use mathlib.Core.List.{_∷_, _++_};
 ghost use Prim.Native.Nat.{_≤_, _<_};
 ghost use Rattle.terms.specs.Display.{bytes, decimal, hexadecimal};
 ghost use Rattle.pool.specs.Node.{wide, kindNumber};
-ghost use Rattle.digits.specs.Writing.{Room, Wrote};
+ghost use Rattle.text_digits.specs.Writing.{Room, Wrote};
 ghost use Rattle.text_parts.specs.Text.{text, Ready, openText, widthText, endText, single};
 
 // A character and a number.

@@ -10,15 +10,15 @@ use lib.ListN.{length, drop}
 use lib.Seq.{sets-eq}
 use borrow.Author.Tests.{eq-eqb, ne-eqb, le-leb, lt-leb}
 use Rattle.neon.specs.Refusal.{Refusal, refusal, recordsRefusal, Legal}
-use Rattle.record_check.specs.Record.{recordAt}
+use Rattle.block_record_check.specs.Record.{recordAt}
 use Rattle.block_check.specs.Records.{recordsOf}
 use Rattle.block_check.proofs.Refusals.{all-legal, legal-at}
-use Rattle.encoding.specs.Word.{encode}
-use Rattle.encoding.specs.declared.Decoded.{Decoded}
-use Rattle.encoding.specs.declared.Decoded.the-variants.{Record, Nothing}
-use Rattle.encoding.specs.Decode.{decode}
-use Rattle.digits.specs.Writing.{Wrote}
-use Rattle.series.proofs.Places.{rows-length}
+use Rattle.words_encoding.specs.Word.{encode}
+use Rattle.words_encoding.specs.declared.Decoded.{Decoded}
+use Rattle.words_encoding.specs.declared.Decoded.the-variants.{Record, Nothing}
+use Rattle.words_encoding.specs.Decode.{decode}
+use Rattle.text_digits.specs.Writing.{Wrote}
+use Rattle.text_series.proofs.Places.{rows-length}
 use Rattle.words_lists.specs.Words.{wordAt, wholeWords, isRecord, flat, wordsRefusal, readRefusal, recordsIn, WordsRead, Good, wordBytes, writeRefusal, wordsIn, WordsWritten, AllGood}
 
 module _ (bs : List ℕ) where

@@ -12,15 +12,15 @@ use lib.Seq.{take-all}
 use borrow.Author.Tests.{eq-eqb, eqb-true, eqb-false}
 use Rattle.neon.specs.declared.Instruction.{Instruction}
 use Rattle.neon.specs.Refusal.{Refusal, refusal, recordNumber, recordsRefusal, Legal}
-use Rattle.record_check.specs.Record.{instruction, recordAt}
+use Rattle.block_record_check.specs.Record.{instruction, recordAt}
 use Rattle.block_check.specs.Records.{recordsFrom, recordsOf}
-use Rattle.encoding.specs.declared.Decoded.{Decoded}
-use Rattle.encoding.specs.declared.Decoded.the-variants.{Record, Nothing}
-use Rattle.encoding.specs.Word.{encode}
-use Rattle.encoding.specs.Decode.{decode}
-use Rattle.encoding.proofs.Back.{decode-encode, decoded-where, word-fits}
-use Rattle.series.specs.Series.{upTo}
-use Rattle.series.proofs.Places.{rows-eq, row-entry, cut-rows, entries-are}
+use Rattle.words_encoding.specs.declared.Decoded.{Decoded}
+use Rattle.words_encoding.specs.declared.Decoded.the-variants.{Record, Nothing}
+use Rattle.words_encoding.specs.Word.{encode}
+use Rattle.words_encoding.specs.Decode.{decode}
+use Rattle.words_encoding.proofs.Back.{decode-encode, decoded-where, word-fits}
+use Rattle.text_series.specs.Series.{upTo}
+use Rattle.text_series.proofs.Places.{rows-eq, row-entry, cut-rows, entries-are}
 use Rattle.words_lists.specs.Words.{wordAt, wholeWords, isRecord, numbers, flat, wordsRefusal, readRefusal, recordsIn, Good, wordBytes, writeRefusal, wordsIn, AllGood}
 use Rattle.words_lists.specs.Lists.{ReadsWritten, WritesRead}
 use Rattle.words_lists.proofs.Answers.{flat-length, records-length, no-refusal, words-length, all-good, all-fit}

@@ -7,14 +7,14 @@ use lib.Dec.{leb, eqb}
 use lib.ListN.{length, getD, drop}
 use Rattle.neon.specs.declared.Instruction.{Instruction}
 use Rattle.neon.specs.Refusal.{Refusal, refusal, recordsRefusal, Legal}
-use Rattle.encoding.specs.declared.Decoded.{Decoded}
-use Rattle.encoding.specs.declared.Decoded.the-variants.{Record, Nothing}
-use Rattle.encoding.specs.Decode.{decode}
-use Rattle.encoding.specs.Word.{encode}
-use Rattle.record_check.specs.Record.{recordAt}
+use Rattle.words_encoding.specs.declared.Decoded.{Decoded}
+use Rattle.words_encoding.specs.declared.Decoded.the-variants.{Record, Nothing}
+use Rattle.words_encoding.specs.Decode.{decode}
+use Rattle.words_encoding.specs.Word.{encode}
+use Rattle.block_record_check.specs.Record.{recordAt}
 use Rattle.block_check.specs.Records.{recordsOf}
-use Rattle.record_lines.specs.Line.{line}
-use Rattle.series.specs.Series.{upTo}
+use Rattle.line_records.specs.Line.{line}
+use Rattle.text_series.specs.Series.{upTo}
 use Rattle.words_lists.specs.declared.Answer.{Answer}
 
 -- word j, its low byte first

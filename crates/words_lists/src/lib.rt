@@ -1,16 +1,16 @@
 // Lists of A64 words, read as records of flat numbers, six each, and written back (document 02, S-7).
 use block_check::records_refusal;
-use encoding::Decoded;
-use encoding::decode::decode_word;
-use encoding::encode::encode_word;
+use block_record_check::record_at;
+use line_records::put_line;
 use neon::Instruction;
-use record_check::record_at;
-use record_lines::put_line;
+use words_encoding::Decoded;
+use words_encoding::decode::decode_word;
+use words_encoding::encode::encode_word;
 ghost use mathlib.Core.Path.{_≡_};
 ghost use Prim.Native.Nat.{_+_, _*_, _≤_, _<_};
 ghost use lib.ListN.{length};
-ghost use Rattle.encoding.specs.Decode.{decode};
-ghost use Rattle.digits.specs.Writing.{Room, Wrote};
+ghost use Rattle.words_encoding.specs.Decode.{decode};
+ghost use Rattle.text_digits.specs.Writing.{Room, Wrote};
 ghost use Rattle.words_lists.specs.Words.{wordAt, isRecord, numbers, flat, listed, recordsIn, Good, WordsRead, wordBytes, AllGood, wordsIn, WordsWritten};
 
 // 0 or a number of document 01 and 02, a position, and how many words or records there are.

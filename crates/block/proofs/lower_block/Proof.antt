@@ -1,6 +1,6 @@
 use native.Mathlib.Omega.{arith}
 use mathlib.Core.Path.{_≡_, refl, ap}
-use Rattle.register_map.specs.declared.RegisterMap.{RegisterMap}
+use Rattle.block_map.specs.declared.RegisterMap.{RegisterMap}
 use Rattle.block.proofs.Running.{Fits, fits, first-ok, runs-first, all-done}
 use borrow.Author.Needs.{needs}
 use Rattle.block.proofs.lower_block.Statement.{statement}

@@ -3,7 +3,7 @@ use mathlib.Core.List.{List}
 use mathlib.Core.Path.{_≡_, sym, _∙_}
 use Prim.Native.Nat.{ℕ, _<_}
 use Rattle.pool.specs.Node.{widthAt}
-use Rattle.node_fields.specs.Fields.{opA}
+use Rattle.pool_fields.specs.Fields.{opA}
 use Rattle.text_parts.proofs.Operands.{to-nineteen, first-term, is-pair, pair-b}
 use Rattle.evaluate.proofs.Values.{one-asks, one-gives, two-asks, two-gives}
 use borrow.Author.Needs.{needs}

@@ -7,7 +7,7 @@ use Rattle.neon.specs.Op.{opAt, arrangementAt}
 use Rattle.neon.specs.Refusal.{formNumber}
 use Rattle.neon.proofs.Legal.{formed}
 use Rattle.pool.specs.Rules.{poolOk}
-use Rattle.form.proofs.Parts.{coded}
+use Rattle.neon_form.proofs.Parts.{coded}
 use Rattle.instruction_check.specs.Number.{sourcesOk}
 use Rattle.instruction_check.proofs.Refusing.{within-places, number-pool, number-form, number-sources, number-room, number-done}
 use borrow.Author.Needs.{needs}

@@ -3,7 +3,7 @@ use native.Mathlib.Omega.{arith}
 use mathlib.Core.Path.{refl}
 use mathlib.Core.Path.{subst}
 use Rattle.trees.specs.declared.SaturatingKind.{SaturatingKind}
-use Rattle.kinds.specs.Sources.{KindIn}
+use Rattle.lower_kinds.specs.Sources.{KindIn}
 use Rattle.lower_exact.proofs.Exactly.{is-add-sub, is-halving, is-narrow, is-shift-narrow, is-multiply-high, is-unary}
 use borrow.Author.Needs.{needs}
 use Rattle.lower_exact.proofs.exact_lane.Statement.{statement}

@@ -4,7 +4,7 @@ use mathlib.Core.Path.{_≡_, refl}
 use Prim.Native.Nat.{ℕ, _+_, _*_, _≤_}
 use Rattle.trees.specs.declared.NeonOp.{NeonOp}
 use Rattle.pool.specs.Growth.{Room}
-use Rattle.lower_bits.proofs.Lanes.{nodes-most}
+use Rattle.lower_bitwise_unary.proofs.Lanes.{nodes-most}
 use Rattle.neon.specs.Refusal.{mostNodes}
 use Rattle.lower_neon.proofs.Sources.{Ready, lanes-le, ready, as-is, not-read, within}
 use borrow.Author.Needs.{needs}

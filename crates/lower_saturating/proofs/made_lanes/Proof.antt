@@ -4,7 +4,7 @@ use native.Mathlib.Nat.{lt-of-lt-of-le}
 use Prim.Native.Nat.{_*_, _-_, _≤_}
 use mathlib.Core.List.{[]}
 use Rattle.trees.specs.Arith.{saturatingAt, kindBits}
-use Rattle.kinds.specs.Sources.{usesSecond}
+use Rattle.lower_kinds.specs.Sources.{usesSecond}
 use Rattle.lower.specs.Builds.{read, readIf, unread}
 use Rattle.lower.proofs.Lanes.{LanesTo, LanesKept, lanes-first, lanes-more, lanes-all, room-first, room-lane, room-concat}
 use Rattle.lower_saturating.proofs.Joining.{made-most}

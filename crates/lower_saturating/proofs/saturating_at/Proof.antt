@@ -3,7 +3,7 @@ use native.Mathlib.Omega.{arith}
 use mathlib.Core.Bool.{true}
 use mathlib.Core.Path.{_≡_, sym, subst, _∙_}
 use Prim.Native.Nat.{ℕ, _+_, _*_, _≤_}
-use Rattle.kinds.specs.Sources.{usesSecond}
+use Rattle.lower_kinds.specs.Sources.{usesSecond}
 use Rattle.lower.proofs.Lanes.{lane-fits}
 use Rattle.lower_saturating.proofs.Joining.{source-least, at-two, at-one}
 use borrow.Author.Needs.{needs}

@@ -3,7 +3,7 @@ use native.Mathlib.Omega.{arith}
 use Prim.Native.Nat.{_+_, _*_, _≤_}
 use mathlib.Core.Path.{_≡_, sym, _∙_}
 use mathlib.Core.Bool.{true}
-use Rattle.kinds.specs.Sources.{isRegister}
+use Rattle.lower_kinds.specs.Sources.{isRegister}
 use Rattle.lower.proofs.Lanes.{lane-fits}
 use Rattle.lower_shift.proofs.Lanes.{at-register, at-immediate}
 use borrow.Author.Needs.{needs}

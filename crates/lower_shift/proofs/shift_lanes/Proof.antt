@@ -3,7 +3,7 @@ use native.Mathlib.Omega.{arith}
 use native.Mathlib.Nat.{lt-of-lt-of-le}
 use Prim.Native.Nat.{_*_, _-_, _≤_}
 use mathlib.Core.List.{[]}
-use Rattle.kinds.specs.Sources.{isRegister}
+use Rattle.lower_kinds.specs.Sources.{isRegister}
 use Rattle.lower.specs.Builds.{read, readIf, unread}
 use Rattle.lower.proofs.Lanes.{LanesTo, LanesKept, lanes-first, lanes-more, lanes-all, room-first, room-lane, room-concat}
 use Rattle.trees.specs.Arith.{shiftAt, shiftLanes}

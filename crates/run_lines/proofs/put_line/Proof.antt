@@ -1,10 +1,10 @@
 -- `run_lines::put_line` meets its contract.
 use mathlib.Core.Path.{_≡_, sym, refl, ap, _∙_}
 use native.Mathlib.Omega.{arith}
-use Rattle.digits.proofs.Laws.{wrote-then, wrote-as, wrote-length}
+use Rattle.text_digits.proofs.Laws.{wrote-then, wrote-as, wrote-length}
 use Rattle.run_lines.proofs.Texts.{name-length, mark-length}
-use Rattle.runner.specs.Lanes.{number}
-use Rattle.register_lines.proofs.Digits.{digits-length}
+use Rattle.run_block.specs.Lanes.{number}
+use Rattle.run_registers.proofs.Digits.{digits-length}
 use Rattle.run_lines.specs.Output.{mark}
 use borrow.Author.Needs.{needs}
 use Rattle.run_lines.proofs.put_line.Statement.{statement}

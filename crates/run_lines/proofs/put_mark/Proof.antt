@@ -1,7 +1,7 @@
 -- `run_lines::put_mark` meets its contract.
 use mathlib.Core.Path.{_≡_, sym, refl, ap, _∙_}
 use native.Mathlib.Omega.{arith}
-use Rattle.digits.proofs.Laws.{wrote-none, wrote-as}
+use Rattle.text_digits.proofs.Laws.{wrote-none, wrote-as}
 use Rattle.run_lines.specs.Output.{mark}
 use borrow.Author.Needs.{needs}
 use Rattle.run_lines.proofs.put_mark.Statement.{statement}

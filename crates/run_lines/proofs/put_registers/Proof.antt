@@ -1,14 +1,14 @@
 -- `run_lines::put_registers` meets its contract.
 use mathlib.Core.Path.{_≡_, sym, refl, ap₂, _∙_}
 use native.Mathlib.Omega.{arith}
-use Rattle.digits.proofs.Laws.{wrote-as, wrote-length}
+use Rattle.text_digits.proofs.Laws.{wrote-as, wrote-length}
 use mathlib.Core.List.{List}
 use mathlib.Core.Path.{subst}
 use Prim.Native.Nat.{ℕ, _*_, _-_, _≤_}
 use lib.ListN.{length}
-use Rattle.digits.specs.Writing.{Wrote}
-use Rattle.series.specs.Series.{upTo}
-use Rattle.series.proofs.Texts.{wrote-next, wrote-first}
+use Rattle.text_digits.specs.Writing.{Wrote}
+use Rattle.text_series.specs.Series.{upTo}
+use Rattle.text_series.proofs.Texts.{wrote-next, wrote-first}
 use Rattle.wide.specs.Registers.{registersOf}
 use Rattle.run_lines.specs.Output.{registerLine, registersText}
 use Rattle.run_lines.proofs.put_registers.Statement.{statement}

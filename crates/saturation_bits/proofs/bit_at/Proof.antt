@@ -5,7 +5,7 @@ use mathlib.Core.Bool.{true}
 use Prim.Native.Nat.{_+_, _*_, _≤_}
 use Rattle.trees.specs.declared.NeonOp.{NeonOp}
 use Rattle.lower.proofs.Lanes.{lane-fits}
-use Rattle.lower_doubling.proofs.Multiplying.{lanes-most}
+use Rattle.lower_doubling_long.proofs.Multiplying.{lanes-most}
 use Rattle.lower_neon.proofs.Sources.{Ready, ready, as-is, not-read, within}
 use Rattle.saturation.specs.Bits.{saturable}
 use Rattle.saturation_bits.proofs.Joining.{not-op, from-fits, with-fits, any-source, doubled}

@@ -1,7 +1,7 @@
 -- start_flagged: the registers, and the constant 0 at node 32.
 use native.Mathlib.Omega.{arith}
 use mathlib.Core.Path.{_≡_, ap}
-use Rattle.register_map.specs.declared.RegisterMap.{RegisterMap}
+use Rattle.block_map.specs.declared.RegisterMap.{RegisterMap}
 use Rattle.saturation_run.proofs.Running.{started}
 use borrow.Author.Needs.{needs}
 use Rattle.saturation_run.proofs.start_flagged.Statement.{statement}

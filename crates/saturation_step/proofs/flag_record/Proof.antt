@@ -1,9 +1,9 @@
 -- flag_record: the bit over the registers before the record, then the record.
 use native.Mathlib.Omega.{arith}
 use Rattle.neon.specs.declared.Instruction.{Instruction}
-use Rattle.record_check.specs.Record.{instruction}
-use Rattle.record_check.proofs.Refusals.{form-legal}
-use Rattle.lower_record.proofs.Recording.{registers-in, nodes-in}
+use Rattle.block_record_check.specs.Record.{instruction}
+use Rattle.block_record_check.proofs.Refusals.{form-legal}
+use Rattle.block_record.proofs.Recording.{registers-in, nodes-in}
 use Rattle.saturation_step.proofs.Stepping.{raised-ok, flags}
 use borrow.Author.Needs.{needs}
 use Rattle.saturation_step.proofs.flag_record.Statement.{statement}

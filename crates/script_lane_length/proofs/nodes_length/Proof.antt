@@ -3,7 +3,7 @@ use mathlib.Core.Path.{_≡_, refl, sym, ap, _∙_, subst}
 use native.Mathlib.Omega.{arith}
 use Prim.Native.Nat.{ℕ, _+_, _-_, _*_, _≤_, _<_}
 use lib.ListN.{length}
-use Rattle.series.specs.Series.{upTo}
+use Rattle.text_series.specs.Series.{upTo}
 use Rattle.script_lane_text.specs.Lines.{linesAt}
 use Rattle.script_lane_length.proofs.Sizes.{next-lines, no-lines}
 use Rattle.script_lane_length.proofs.nodes_length.Statement.{statement}

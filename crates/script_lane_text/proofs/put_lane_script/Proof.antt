@@ -1,5 +1,5 @@
 -- `put_lane_script` writes the whole script. Assumes nothing.
-use Rattle.digits.proofs.Laws.{room-front, room-step, room-as, wrote-then, wrote-as}
+use Rattle.text_digits.proofs.Laws.{room-front, room-step, room-as, wrote-then, wrote-as}
 use Rattle.script_lane_text.proofs.Spelling.{script-lines}
 use borrow.Author.Needs.{needs}
 use Rattle.script_lane_text.proofs.put_lane_script.Statement.{statement}

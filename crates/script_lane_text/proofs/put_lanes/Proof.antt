@@ -1,5 +1,5 @@
 -- `put_lanes` writes the last two lines. Assumes nothing.
-use Rattle.digits.proofs.Laws.{room-front, room-step, room-as, wrote-then, wrote-as}
+use Rattle.text_digits.proofs.Laws.{room-front, room-step, room-as, wrote-then, wrote-as}
 use Rattle.script_lane_text.proofs.Spelling.{lanes-are}
 use borrow.Author.Needs.{needs}
 use Rattle.script_lane_text.proofs.put_lanes.Statement.{statement}

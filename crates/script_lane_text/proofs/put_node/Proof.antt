@@ -1,5 +1,5 @@
 -- `put_node` writes both lines of a node, and nothing for a Var. Assumes nothing.
-use Rattle.digits.proofs.Laws.{room-front, room-step, room-as, wrote-none, wrote-then, wrote-as}
+use Rattle.text_digits.proofs.Laws.{room-front, room-step, room-as, wrote-none, wrote-then, wrote-as}
 use mathlib.Core.Path.{_≡_, sym, _∙_}
 use Rattle.script_text.proofs.Nodes.{kind-above}
 use Rattle.script_text.proofs.Spelling.{above}

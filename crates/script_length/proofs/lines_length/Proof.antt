@@ -3,7 +3,7 @@ use mathlib.Core.Path.{_≡_, sym, ap, _∙_}
 use native.Mathlib.Omega.{arith}
 use Prim.Native.Nat.{ℕ, _-_, _*_, _≤_}
 use lib.ListN.{length}
-use Rattle.series.specs.Series.{upTo}
+use Rattle.text_series.specs.Series.{upTo}
 use Rattle.script_text.specs.Lines.{lineAt}
 use Rattle.script_length.proofs.Sizes.{next-line, no-lines}
 use Rattle.script_length.proofs.lines_length.Statement.{statement}

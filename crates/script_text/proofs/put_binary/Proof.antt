@@ -7,7 +7,7 @@ use native.Mathlib.Numerals.{add-one}
 use lib.ListN.{length, set, length-set}
 use lib.Seq.{sets}
 use Rattle.pool.specs.Node.{wide}
-use Rattle.digits.specs.Writing.{Wrote}
+use Rattle.text_digits.specs.Writing.{Wrote}
 use Rattle.script_meaning.specs.Script.{binary}
 use Rattle.script_meaning.proofs.Numbers.{binary-length}
 use Rattle.script_text.proofs.Bits.{next-bit}

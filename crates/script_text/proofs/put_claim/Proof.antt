@@ -1,5 +1,5 @@
 -- `put_claim` writes the last two lines, which name both nodes.
-use Rattle.digits.proofs.Laws.{room-front, room-step, room-as, wrote-then, wrote-as}
+use Rattle.text_digits.proofs.Laws.{room-front, room-step, room-as, wrote-then, wrote-as}
 use Rattle.script_text.proofs.Whole.{claim-is}
 use borrow.Author.Needs.{needs}
 use Rattle.script_text.proofs.put_claim.Statement.{statement}

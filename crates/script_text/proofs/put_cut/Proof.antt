@@ -4,8 +4,8 @@ use mathlib.Core.Path.{_≡_}
 use Prim.Native.Nat.{_+_}
 use lib.ListN.{length, length-append}
 use Rattle.terms.specs.Display.{bytes, decimal}
-use Rattle.digits.specs.Writing.{Wrote}
-use Rattle.digits.proofs.Laws.{wrote-then, wrote-as}
+use Rattle.text_digits.specs.Writing.{Wrote}
+use Rattle.text_digits.proofs.Laws.{wrote-then, wrote-as}
 use Rattle.script_meaning.specs.Sexp.{show}
 use Rattle.script_meaning.specs.Script.{nameOf, apply1, index2}
 use Rattle.script_text.proofs.Chunks.{indexed-2, cut-length, room-after}

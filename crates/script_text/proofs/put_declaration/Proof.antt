@@ -1,5 +1,5 @@
 -- `put_declaration` writes the line that declares a register.
-use Rattle.digits.proofs.Laws.{room-front, room-step, room-as, wrote-then, wrote-as}
+use Rattle.text_digits.proofs.Laws.{room-front, room-step, room-as, wrote-then, wrote-as}
 use Rattle.script_text.proofs.Whole.{declaration-is}
 use borrow.Author.Needs.{needs}
 use Rattle.script_text.proofs.put_declaration.Statement.{statement}

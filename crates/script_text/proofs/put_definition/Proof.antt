@@ -1,11 +1,11 @@
 -- `put_definition` writes the line of a node, and nothing for a Var.
-use Rattle.digits.proofs.Laws.{room-front, room-step, room-as, wrote-then, wrote-as}
+use Rattle.text_digits.proofs.Laws.{room-front, room-step, room-as, wrote-then, wrote-as}
 use mathlib.Core.Path.{_≡_, sym, _∙_}
 use native.Mathlib.Omega.{arith}
 use Prim.Native.Nat.{ℕ, _≤_}
 use Rattle.script_text.proofs.Nodes.{kind-above}
 use Rattle.script_text.proofs.Spelling.{no-line, line-with}
-use Rattle.digits.proofs.Laws.{wrote-none}
+use Rattle.text_digits.proofs.Laws.{wrote-none}
 use borrow.Author.Needs.{needs}
 use Rattle.script_text.proofs.put_definition.Statement.{statement}
 use Rattle.script_text.proofs.put_definition.Tie as tie

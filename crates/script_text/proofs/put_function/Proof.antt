@@ -1,7 +1,7 @@
 -- `put_function` writes the function of each kind from 3 on: the bytes of each arm are the name of that kind's function.
 use mathlib.Core.Path.{_≡_, ap}
 use Prim.Native.Nat.{ℕ}
-use Rattle.digits.proofs.Laws.{room-as, wrote-as}
+use Rattle.text_digits.proofs.Laws.{room-as, wrote-as}
 use Rattle.pool.specs.Node.{kindAt, kinds}
 use Rattle.script_meaning.specs.Script.{functionOf}
 use Rattle.script_text.proofs.Spelling.{above, last-kind}

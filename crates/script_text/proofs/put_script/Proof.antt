@@ -1,5 +1,5 @@
 -- `put_script` writes the whole script, in the four parts of `script-lines`.
-use Rattle.digits.proofs.Laws.{room-front, room-step, room-as, wrote-then, wrote-as}
+use Rattle.text_digits.proofs.Laws.{room-front, room-step, room-as, wrote-then, wrote-as}
 use Rattle.script_text.proofs.Whole.{script-lines}
 use borrow.Author.Needs.{needs}
 use Rattle.script_text.proofs.put_script.Statement.{statement}

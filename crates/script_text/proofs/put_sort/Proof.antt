@@ -1,5 +1,5 @@
 -- `put_sort` writes Bool for width 0, else (_ BitVec w).
-use Rattle.digits.proofs.Laws.{room-front, room-step, room-as, wrote-then, wrote-as}
+use Rattle.text_digits.proofs.Laws.{room-front, room-step, room-as, wrote-then, wrote-as}
 use Rattle.script_text.proofs.Chunks.{short-sort, long-sort}
 use borrow.Author.Needs.{needs}
 use Rattle.script_text.proofs.put_sort.Statement.{statement}

@@ -1,5 +1,5 @@
 -- `put_term` writes the term of a node, by its kind. For each kind the text is said once, over what was read of the node.
-use Rattle.digits.proofs.Laws.{room-as, wrote-as}
+use Rattle.text_digits.proofs.Laws.{room-as, wrote-as}
 use mathlib.Core.List.{List, _++_}
 use mathlib.Core.Path.{_≡_, sym, ap, _∙_}
 use Prim.Native.Nat.{ℕ, _-_, _≤_}
@@ -8,7 +8,7 @@ use Rattle.terms.specs.Display.{bytes}
 use Rattle.pool.specs.Node.{kindAt, widthAt, wordAt, wide}
 use Rattle.script_meaning.specs.Sexp.{show}
 use Rattle.script_meaning.specs.Script.{binary, nameOf, termOf, functionOf, apply1, apply2, apply3, index1, index2}
-use Rattle.node_fields.specs.Fields.{opA, opB}
+use Rattle.pool_fields.specs.Fields.{opA, opB}
 use Rattle.script_text.proofs.Nodes.{Two, Extends, constant, three-of, cut-of, two-of, extension-of, extension-term, kind-below}
 use borrow.Author.Needs.{needs}
 use Rattle.script_text.proofs.put_term.Statement.{statement}

@@ -1,5 +1,5 @@
 -- `put_three` writes (ite a b c).
-use Rattle.digits.proofs.Laws.{room-front, room-step, room-as, wrote-then, wrote-as}
+use Rattle.text_digits.proofs.Laws.{room-front, room-step, room-as, wrote-then, wrote-as}
 use Rattle.terms.specs.Display.{bytes}
 use Rattle.pool.specs.Node.{kindAt}
 use Rattle.script_meaning.specs.Script.{functionOf, nameOf}

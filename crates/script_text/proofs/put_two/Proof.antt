@@ -1,5 +1,5 @@
 -- `put_two` writes (f a b), f the function of the kind.
-use Rattle.digits.proofs.Laws.{room-front, room-step, room-as, wrote-then, wrote-as}
+use Rattle.text_digits.proofs.Laws.{room-front, room-step, room-as, wrote-then, wrote-as}
 use Rattle.pool.specs.Node.{kindAt}
 use Rattle.script_meaning.specs.Script.{functionOf, nameOf}
 use Rattle.script_text.proofs.Chunks.{applied-2}

@@ -6,7 +6,7 @@ use Prim.Native.Nat.{ℕ, _+_, _*_, _≤_, _<_}
 use native.Mathlib.Omega.{arith}
 use borrow.Author.Needs.{needs}
 use lib.ListN.{length}
-use Rattle.node_fields.specs.Fields.{opA, opB}
+use Rattle.pool_fields.specs.Fields.{opA, opB}
 use Rattle.text_parts.specs.Text.{text, single}
 use Rattle.text_parts.proofs.Operands.{is-single, ite-c}
 use Rattle.text_bound.proofs.Own.{leaf-most, single-most, ite-most, pair-most, first-less, second-less}

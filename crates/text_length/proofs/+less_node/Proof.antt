@@ -15,11 +15,11 @@ use Rattle.text_length.proofs.Sizes.{before, less-one, less-two}
 use Rattle.text_length.proofs.less_node.Reads as less-node
 use Rattle.text_length.proofs.less_node.Kinds as less-node-kinds
 use Rattle.text_length.proofs.+less_node.Lts-less_node as less-node-lts
-use Rattle.digits.proofs.less.Reads as less-reads
-use Rattle.node_fields.proofs.first.Reads as first-reads
+use Rattle.text_digits.proofs.less.Reads as less-reads
+use Rattle.pool_fields.proofs.first.Reads as first-reads
 use Rattle.pool.proofs.words.kind_of.Reads as kind-of-reads
-use Rattle.node_fields.proofs.left.Reads as left-reads
-use Rattle.node_fields.proofs.right.Reads as right-reads
+use Rattle.pool_fields.proofs.left.Reads as left-reads
+use Rattle.pool_fields.proofs.right.Reads as right-reads
 use Rattle.text_length.proofs.less_leaf.Reads as less-leaf-reads
 use Rattle.text_length.proofs.less_single.Reads as less-single-reads
 use Rattle.text_length.proofs.own_length.Reads as own-length-reads

@@ -5,7 +5,7 @@ use native.Mathlib.Nat.{eq-or-lt-of-le}
 use native.Mathlib.Omega.{arith}
 use Rattle.pool.specs.Node.{kindAt, kinds}
 use Rattle.terms.specs.Display.{bytes}
-use Rattle.digits.proofs.Laws.{room-as, wrote-as}
+use Rattle.text_digits.proofs.Laws.{room-as, wrote-as}
 use Rattle.text_operators.specs.Between.{Joined, betweenText}
 use borrow.Author.Needs.{needs}
 use Rattle.text_operators.proofs.put_between.Statement.{statement}

@@ -1,6 +1,6 @@
 use mathlib.Core.Path.{_≡_}
-use Rattle.digits.specs.Writing.{Room}
-use Rattle.digits.proofs.Laws.{room-front, room-step, room-as, wrote-then, wrote-as}
+use Rattle.text_digits.specs.Writing.{Room}
+use Rattle.text_digits.proofs.Laws.{room-front, room-step, room-as, wrote-then, wrote-as}
 use Rattle.text_parts.specs.Text.{endText, rangeText, widthText}
 use Rattle.text_parts.proofs.Operands.{is-single, from-18, to-nineteen}
 use Rattle.text_parts.proofs.Tree.{end-range, end-width}

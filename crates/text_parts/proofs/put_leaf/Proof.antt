@@ -3,7 +3,7 @@ use Prim.Native.Nat.{ℕ}
 use Rattle.terms.specs.Expr.{Var, Const}
 use Rattle.terms.specs.Display.{display}
 use Rattle.pool.specs.Node.{wide, widthAt}
-use Rattle.digits.proofs.Laws.{room-front, room-step, room-as, wrote-then, wrote-as}
+use Rattle.text_digits.proofs.Laws.{room-front, room-step, room-as, wrote-then, wrote-as}
 use Rattle.text_parts.specs.Text.{text}
 use Rattle.text_parts.proofs.Operands.{is-const}
 use Rattle.text_parts.proofs.Tree.{whole-var, whole-const}

@@ -1,4 +1,4 @@
-use Rattle.digits.proofs.Laws.{room-step, wrote-byte, wrote-then, wrote-length}
+use Rattle.text_digits.proofs.Laws.{room-step, wrote-byte, wrote-then, wrote-length}
 use borrow.Author.Needs.{needs}
 use Rattle.text_parts.proofs.put_numbered.Statement.{statement}
 use Rattle.text_parts.proofs.put_numbered.Tie as tie

@@ -3,7 +3,7 @@ use Prim.Native.Nat.{ℕ, _≤_, _<_}
 use native.Mathlib.Omega.{arith}
 use Rattle.pool.specs.Node.{kindAt, kinds}
 use Rattle.text_parts.specs.Text.{openText}
-use Rattle.digits.proofs.Laws.{room-as, wrote-none, wrote-as}
+use Rattle.text_digits.proofs.Laws.{room-as, wrote-none, wrote-as}
 use Rattle.text_parts.proofs.Tree.{bracket}
 use borrow.Author.Needs.{needs}
 use Rattle.text_parts.proofs.put_open.Statement.{statement}

@@ -1,4 +1,4 @@
-use Rattle.digits.proofs.Laws.{wrote-then}
+use Rattle.text_digits.proofs.Laws.{wrote-then}
 use borrow.Author.Needs.{needs}
 use Rattle.text_parts.proofs.put_value.Statement.{statement}
 use Rattle.text_parts.proofs.put_value.Tie as tie

@@ -1,4 +1,4 @@
-use Rattle.digits.proofs.Laws.{room-front, room-step, wrote-then}
+use Rattle.text_digits.proofs.Laws.{room-front, room-step, wrote-then}
 use borrow.Author.Needs.{needs}
 use Rattle.text_parts.proofs.put_width.Statement.{statement}
 use Rattle.text_parts.proofs.put_width.Tie as tie

@@ -8,7 +8,7 @@ use native.Mathlib.Omega.{arith}
 use lib.ListN.{length}
 use borrow.Author.Needs.{needs}
 use borrow.Author.Tests.{not-true, not-false}
-use Rattle.encoding.specs.Decode.{decode}
+use Rattle.words_encoding.specs.Decode.{decode}
 use Rattle.words_lists.specs.Words.{wordAt, isRecord}
 use Rattle.words_lists.proofs.good_words.Statement.{statement}
 use Rattle.words_lists.proofs.good_words.Tie as tie

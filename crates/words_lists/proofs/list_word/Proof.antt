@@ -4,11 +4,11 @@ use native.Mathlib.Omega.{arith}
 use Prim.Native.Nat.{ℕ}
 use Rattle.neon.specs.declared.Instruction.{Instruction}
 use Rattle.neon.specs.Refusal.{Legal}
-use Rattle.digits.proofs.Laws.{wrote-none, wrote-as}
-use Rattle.encoding.specs.declared.Decoded.the-variants.{Record}
-use Rattle.encoding.specs.Decode.{decode}
-use Rattle.encoding.proofs.Back.{decoded-where}
-use Rattle.record_lines.proofs.Small.{small, line-length}
+use Rattle.text_digits.proofs.Laws.{wrote-none, wrote-as}
+use Rattle.words_encoding.specs.declared.Decoded.the-variants.{Record}
+use Rattle.words_encoding.specs.Decode.{decode}
+use Rattle.words_encoding.proofs.Back.{decoded-where}
+use Rattle.line_records.proofs.Small.{small, line-length}
 use Rattle.words_lists.specs.Words.{listed}
 use borrow.Author.Needs.{needs}
 use Rattle.words_lists.proofs.list_word.Statement.{statement}

@@ -1,6 +1,6 @@
 -- `words_lists::put_record` meets its contract.
 use mathlib.Core.Path.{sym, ap, _∙_}
-use Rattle.digits.proofs.Laws.{wrote-none, wrote-as, room-as}
+use Rattle.text_digits.proofs.Laws.{wrote-none, wrote-as, room-as}
 use Rattle.words_lists.specs.Words.{flat}
 use borrow.Author.Needs.{needs}
 use Rattle.words_lists.proofs.put_record.Statement.{statement}

@@ -4,11 +4,11 @@ use mathlib.Core.Path.{_≡_, refl, sym, ap, _∙_, subst}
 use Prim.Native.Nat.{ℕ, _-_, _/_, _≤_}
 use native.Mathlib.Omega.{arith}
 use lib.ListN.{length}
-use Rattle.digits.specs.Writing.{Wrote}
-use Rattle.digits.proofs.Laws.{wrote-length, wrote-as, room-as}
-use Rattle.encoding.specs.Decode.{decode}
-use Rattle.series.specs.Series.{upTo}
-use Rattle.series.proofs.Texts.{room-next, wrote-next, wrote-first}
+use Rattle.text_digits.specs.Writing.{Wrote}
+use Rattle.text_digits.proofs.Laws.{wrote-length, wrote-as, room-as}
+use Rattle.words_encoding.specs.Decode.{decode}
+use Rattle.text_series.specs.Series.{upTo}
+use Rattle.text_series.proofs.Texts.{room-next, wrote-next, wrote-first}
 use Rattle.words_lists.specs.Words.{wordAt, flat, recordsIn}
 use Rattle.words_lists.proofs.put_records.Statement.{statement}
 use Rattle.words_lists.proofs.put_records.Tie as tie

@@ -6,12 +6,12 @@ use native.Mathlib.Omega.{arith}
 use lib.ListN.{length}
 use Rattle.neon.specs.declared.Instruction.{Instruction}
 use Rattle.neon.specs.Refusal.{Legal}
-use Rattle.digits.specs.Writing.{Wrote}
-use Rattle.digits.proofs.Laws.{wrote-length, wrote-as}
-use Rattle.record_check.specs.Record.{recordAt}
-use Rattle.encoding.specs.Word.{encode}
-use Rattle.series.specs.Series.{upTo}
-use Rattle.series.proofs.Texts.{room-next, wrote-next, wrote-first}
+use Rattle.text_digits.specs.Writing.{Wrote}
+use Rattle.text_digits.proofs.Laws.{wrote-length, wrote-as}
+use Rattle.block_record_check.specs.Record.{recordAt}
+use Rattle.words_encoding.specs.Word.{encode}
+use Rattle.text_series.specs.Series.{upTo}
+use Rattle.text_series.proofs.Texts.{room-next, wrote-next, wrote-first}
 use Rattle.words_lists.specs.Words.{wordBytes, wordsIn}
 use Rattle.words_lists.proofs.put_words.Statement.{statement}
 use Rattle.words_lists.proofs.put_words.Tie as tie

@@ -6,7 +6,7 @@ use Prim.Native.Nat.{ℕ, _-_, _<_, _≤_}
 use native.Mathlib.Omega.{arith}
 use Rattle.text_parts.specs.Text.{single}
 use Rattle.text_parts.proofs.Operands.{Pair, is-single, is-pair}
-use Rattle.node_fields.specs.Fields.{opA, opB}
+use Rattle.pool_fields.specs.Fields.{opA, opB}
 use Rattle.evaluate.specs.Step.{Visited}
 use borrow.Fn.Kinds.{In}
 use borrow.Fn.PlainCycle.{Measures, is, falls, and}
@@ -14,9 +14,9 @@ use Rattle.evaluate.proofs.visit.Reads as visit
 use Rattle.evaluate.proofs.visit.Kinds as visit-kinds
 use Rattle.evaluate.proofs.+visit.Lts-visit as visit-lts
 use Rattle.evaluate.proofs.combine.Reads as combine-reads
-use Rattle.node_fields.proofs.first.Reads as first-reads
-use Rattle.node_fields.proofs.second.Reads as second-reads
-use Rattle.node_fields.proofs.third.Reads as third-reads
+use Rattle.pool_fields.proofs.first.Reads as first-reads
+use Rattle.pool_fields.proofs.second.Reads as second-reads
+use Rattle.pool_fields.proofs.third.Reads as third-reads
 use Rattle.pool.proofs.words.kind_of.Reads as kind-of-reads
 use Rattle.text_parts.proofs.is_single.Reads as is-single-reads
 

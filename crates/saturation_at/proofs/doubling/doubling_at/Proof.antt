@@ -4,7 +4,7 @@ use mathlib.Core.Path.{refl}
 use mathlib.Core.Path.{subst}
 use Rattle.trees.specs.declared.Combine.{Combine}
 use Rattle.lower.specs.Builds.{Below, readIf}
-use Rattle.lower_doubling.specs.Elements.{accumulates}
+use Rattle.lower_doubling_long.specs.Elements.{accumulates}
 use Rattle.saturation_at.proofs.At.{at-nothing, at-with}
 use borrow.Author.Needs.{needs}
 use Rattle.saturation_at.proofs.doubling.doubling_at.Statement.{statement}

@@ -3,7 +3,7 @@ use native.Mathlib.Omega.{arith}
 use mathlib.Core.Path.{subst, ap, sym, _∙_, _≡_}
 use mathlib.Core.Bool.{true}
 use Rattle.trees.specs.declared.ShiftKind.{ShiftKind}
-use Rattle.kinds.specs.Sources.{AmountIn}
+use Rattle.lower_kinds.specs.Sources.{AmountIn}
 use Rattle.saturation.specs.Bits.{saturableShift}
 use Rattle.saturation_lane.proofs.Shifts.{is-left, is-register, not-right}
 use borrow.Author.Needs.{needs}

@@ -1,0 +1,73 @@
+use native.Mathlib.Omega.{arith}
+use mathlib.Core.Path.{_≡_, refl, ap, _∙_}
+use mathlib.Core.List.{List}
+use Prim.Native.Nat.{ℕ, _-_, _≤_, _<_}
+use native.Mathlib.Nat.{not-suc-le-zero}
+use lib.ListN.{length, getD, length-set}
+use Rattle.pool.specs.declared.Node.{Node}
+use Rattle.block_map.specs.Map.{node}
+use Rattle.block_map.specs.declared.RegisterMap.{RegisterMap}
+use Rattle.block_map.proofs.Nodes.{is-first, one-more}
+use Rattle.block_map.proofs.RegisterMap.initial.Statement.{statement}
+use Rattle.block_map.proofs.RegisterMap.initial.Tie as tie
+
+record-of : List Node → ℕ → RegisterMap
+record-of l k = record { nodes = l; count = k }
+
+abbrev Inv-loop : tie.InvT-loop
+Inv-loop nodes₀ r₀ nodes r = (length nodes ≡ 32) × (r ≤ 32) × ((i : ℕ) → i < r → getD nodes i (node 0) ≡ node i)
+
+abbrev μ-loop : tie.MeasureT-loop
+μ-loop nodes₀ r₀ nodes r = 32 - r
+
+loop-holds : tie.Need-loop-holds Inv-loop μ-loop
+loop-holds c = (refl, omega arith, λ i h. absurd (not-suc-le-zero h))
+
+mul-nodes : tie.Need-mul-nodes Inv-loop μ-loop
+mul-nodes c =
+    let l-loop-test = c in
+    omega (arith, l-loop-test .loop-test .taken)
+
+array-set-from-nodes : tie.Need-array-set-from-nodes Inv-loop μ-loop
+array-set-from-nodes c =
+    let l-loop-test = c in
+    let l-loop = l-loop-test .before in
+    omega (arith, l-loop .loop .inv .0, l-loop-test .loop-test .taken)
+
+add-r : tie.Need-add-r Inv-loop μ-loop
+add-r c =
+    let l-loop-test = c in
+    omega (arith, l-loop-test .loop-test .taken)
+
+loop-less : tie.Need-loop-less Inv-loop μ-loop
+loop-less c =
+    let l-loop-test = c in
+    omega (arith, l-loop-test .loop-test .taken)
+
+loop-again : tie.Need-loop-again Inv-loop μ-loop
+loop-again c =
+    let l-loop-test = c in
+    let l-loop = l-loop-test .before in
+    (length-set (l-loop .loop .nodes) _ _ ∙ l-loop .loop .inv .0, omega (arith, l-loop-test .loop-test .taken), one-more (l-loop .loop .nodes) (l-loop .loop .r) (l-loop .loop .inv .0) (l-loop-test .loop-test .taken) (l-loop .loop .inv .2))
+
+returns : tie.Need-returns Inv-loop μ-loop
+unfolding record-of
+returns c =
+    let l-loop-test = c in
+    let l-loop = l-loop-test .before in
+    let e : l-loop .loop .r ≡ 32 = omega (arith, l-loop .loop .inv .1, l-loop-test .loop-test .left) in
+    ap (λ (l : List Node). record-of l 32) (is-first (l-loop .loop .nodes) (l-loop .loop .inv .0) (λ i h. l-loop .loop .inv .2 i (omega (arith, h, e))))
+
+pub initial-spec : {M : Type 1} → statement M
+initial-spec =
+    tie.close
+    (tie.spec
+    Inv-loop
+    μ-loop
+    loop-holds
+    mul-nodes
+    array-set-from-nodes
+    add-r
+    loop-less
+    loop-again
+    returns)

@@ -1,0 +1,14 @@
+use borrow.Author.Needs.{needs}
+use Rattle.block_map.proofs.RegisterMap.refused.Statement.{statement}
+use Rattle.block_map.proofs.RegisterMap.refused.Tie as tie
+
+none-requires : tie.Need-none-requires
+none-requires c κs = search needs
+
+returns : tie.Need-returns
+returns c =
+    let l-none = c in
+    rw (l-none .none .ensures)
+
+pub refused-spec : {M : Type 1} → statement M
+refused-spec = tie.close (tie.spec none-requires returns)

@@ -1,0 +1,115 @@
+-- The search for a key, and keys that are compared. Assumes nothing.
+use mathlib.Core.Path.{_≡_, refl, sym, ap, _∙_, subst}
+use mathlib.Core.Bool.{Bool, true, false, false≢true}
+use mathlib.Core.List.{List}
+use Prim.Native.Nat.{ℕ, zero, suc, _+_, _-_, _*_, _%_, _≤_, _<_}
+use native.Mathlib.Omega.{arith}
+use native.Mathlib.Numerals.{add-one}
+use lib.ListN.{getD}
+use borrow.Author.Tests.{eqb-true, eq-eqb}
+use Rattle.facts.proofs.Tests.{and-both}
+use Rattle.canonical_classes.specs.declared.Key.{Key}
+use Rattle.pool.specs.Node.{wordAt, kindNumber, aOf, bOf, cOf}
+use Rattle.pool_operands.specs.Operands.{hasA, hasB, hasC}
+use Rattle.canonical_classes.specs.Key.{classIf, keyOf, sameKey, bucketOf, wayOf}
+use Rattle.canonical_classes.specs.Class.{On, Holds, Low, Rises, under}
+
+-- ---- keys
+
+pub keys-same : (k l : Key) → sameKey k l ≡ true → k ≡ l
+keys-same k l h =
+    let p5 = and-both _ _ h in
+    let p4 = and-both _ _ (p5 .0) in
+    let p3 = and-both _ _ (p4 .0) in
+    let p2 = and-both _ _ (p3 .0) in
+    let p1 = and-both _ _ (p2 .0) in
+    let e0 : k .word ≡ l .word = eqb-true _ _ (p1 .0) in
+    let e1 : k .a ≡ l .a = eqb-true _ _ (p1 .1) in
+    let e2 : k .b ≡ l .b = eqb-true _ _ (p2 .1) in
+    let e3 : k .c ≡ l .c = eqb-true _ _ (p3 .1) in
+    let e4 : k .x ≡ l .x = eqb-true _ _ (p4 .1) in
+    let e5 : k .y ≡ l .y = eqb-true _ _ (p5 .1) in
+    λ i. record { word = e0 i; a = e1 i; b = e2 i; c = e3 i; x = e4 i; y = e5 i }
+
+same-self : (k : Key) → sameKey k k ≡ true
+same-self k =
+    rw (
+      eq-eqb (k .word) (k .word) refl,
+      eq-eqb (k .a) (k .a) refl,
+      eq-eqb (k .b) (k .b) refl,
+      eq-eqb (k .c) (k .c) refl,
+      eq-eqb (k .x) (k .x) refl,
+      eq-eqb (k .y) (k .y) refl,
+    )
+
+pub keys-differ : (k l : Key) → sameKey k l ≡ false → k ≡ l → ⊥
+keys-differ k l h e = false≢true (sym h ∙ ap (sameKey k) (sym e) ∙ same-self k)
+
+-- a key from its parts
+pub key-made : (ws class : List ℕ) (n kind a b c : ℕ) (p q r : Bool) → kind ≡ kindNumber ws n → p ≡ hasA kind → q ≡ hasB kind → r ≡ hasC kind
+    → a ≡ classIf p class (aOf (wordAt ws n 1)) → b ≡ classIf q class (bOf (wordAt ws n 1)) → c ≡ classIf r class (cOf (wordAt ws n 1) % 65536)
+    → _≡_ {A = Key} (record { word = getD ws (4 * n) 0; a = a; b = b; c = c; x = wordAt ws n 2; y = wordAt ws n 3 }) (keyOf ws class n)
+unfolding keyOf
+key-made ws class n kind a b c p q r ek ep eq er ea eb ec =
+    let fa = ea ∙ ap (λ (t : Bool). classIf t class (aOf (wordAt ws n 1))) (ep ∙ ap hasA ek) in
+    let fb = eb ∙ ap (λ (t : Bool). classIf t class (bOf (wordAt ws n 1))) (eq ∙ ap hasB ek) in
+    let fc = ec ∙ ap (λ (t : Bool). classIf t class (cOf (wordAt ws n 1) % 65536)) (er ∙ ap hasC ek) in
+    λ i. record { word = getD ws (4 * n) 0; a = fa i; b = fb i; c = fc i; x = wordAt ws n 2; y = wordAt ws n 3 }
+
+-- ---- the way of a key
+
+on-free : (slots : List ℕ) (k : Key) (s level j : ℕ) → getD slots s 0 ≡ 0 → On slots k s level j → ⊥
+on-free slots k s level j z (On.here e) = omega (arith, z, e)
+on-free slots k s level j z (On.there e o) = omega (arith, z, e)
+
+on-next : (slots : List ℕ) (k : Key) (s level m j : ℕ) → getD slots s 0 ≡ suc m → On slots k s level j → (j ≡ m → ⊥)
+    → On slots k (under m (wayOf k level)) (suc level) j
+on-next slots k s level m j h (On.here e) f = absurd (f (omega (arith, h, e)))
+on-next slots k s level m j h (On.there {m = p} e o) f =
+    let q : p ≡ m = omega (arith, h, e) in
+    subst (λ (x : ℕ). On slots k (under x (wayOf k level)) (suc level) j) q o
+
+-- more links lead where fewer did
+pub on-holds : (slots new : List ℕ) (k : Key) → Holds slots new → {s level j : ℕ} → On slots k s level j → On new k s level j
+on-holds slots new k h (On.here {s = s} {j = j} e) = On.here (h s j e)
+on-holds slots new k h (On.there {s = s} {m = m} e o) = On.there (h s m e) (on-holds slots new k h o)
+
+-- where the search for k stands: all that it has to meet is yet to come, and what is met from here on is met from the bucket
+pub record Searching (ws class slots : List ℕ) (n : ℕ) (k : Key) (slot level : ℕ) : Type 0 where
+  pub slot-less : slot < 65536 + 2 * n
+  pub deeper : 0 < getD slots slot 0 → level < getD slots slot 0
+  pub left : (j : ℕ) → On slots k (bucketOf k) 0 j → keyOf ws class j ≡ k → On slots k slot level j
+  pub back : (new : List ℕ) → Holds slots new → (j : ℕ) → On new k slot level j → On new k (bucketOf k) 0 j
+
+pub search-first : (ws class slots : List ℕ) (n : ℕ) (k : Key) → bucketOf k < 65536 → Searching ws class slots n k (bucketOf k) 0
+search-first ws class slots n k h =
+    record { slot-less = omega arith; deeper = λ p. p; left = λ j o e. o; back = λ new g j o. o }
+
+module _ (ws class slots : List ℕ) (n : ℕ) (k : Key) where
+  -- past node m, which has another key
+  pub search-next : Low slots n → Rises slots → (slot level m : ℕ) → getD slots slot 0 ≡ suc m → wayOf k level < 2 → sameKey (keyOf ws class m) k ≡ false
+      → Searching ws class slots n k slot level
+      → Searching ws class slots n k (under m (wayOf k level)) (level + 1)
+  search-next low rises slot level m e w d S =
+      let l : suc m ≤ n = rw e at (low slot) in
+      let z : level + 1 ≡ suc level = add-one level in
+      record {
+        slot-less = omega arith;
+        deeper = λ p. omega (arith, rises m (wayOf k level) w p, S .deeper (omega (arith, e)), e);
+        left = λ j o f.
+            rw z (on-next slots k slot level m j e (S .left j o f) (λ q. keys-differ (keyOf ws class m) k d (ap (keyOf ws class) (sym q) ∙ f)));
+        back = λ new g j o. S .back new g j (On.there (g slot m e) (rw z at o));
+      }
+
+  pub search-none : (slot level : ℕ) → getD slots slot 0 ≡ 0 → Searching ws class slots n k slot level → (j : ℕ) → On slots k (bucketOf k) 0 j → keyOf ws class j ≡ k → ⊥
+  search-none slot level z S j o e = on-free slots k slot level j z (S .left j o e)
+
+-- what falls: links rise, and there are no more than 65,535
+abbrev pub ahead : ℕ → ℕ
+ahead zero = 0
+ahead (suc m) = 65536 - m
+
+pub ahead-less : (link next : ℕ) → 0 < link → link ≤ 65535 → (0 < next → link < next) → next ≤ 65535 → ahead next < ahead link
+ahead-less zero next h g f l = absurd (omega arith)
+ahead-less (suc m) zero h g f l = omega arith
+ahead-less (suc m) (suc p) h g f l = omega (arith, f (omega arith))

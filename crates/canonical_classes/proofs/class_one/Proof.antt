@@ -1,0 +1,93 @@
+-- `class_one` keeps `Kept` for one node more: a known tree's class, or a class of its own in the slot that `find` gave.
+use native.Mathlib.Omega.{arith}
+use Prim.Native.Nat.{ℕ, _+_, _-_, _<_}
+use lib.ListN.{getD}
+use Rattle.canonical_classes.proofs.Steps.{kept-new, kept-old}
+use borrow.Author.Needs.{needs}
+use Rattle.canonical_classes.proofs.class_one.Statement.{statement}
+use Rattle.canonical_classes.proofs.class_one.Tie as tie
+
+abbrev entry : tie.After-find → tie.Start
+entry c = c .before .before .before .before
+
+-- each word of the pool is one of 64 bits
+words : (c : tie.After-find) (i : ℕ) → getD (entry c .args .pool .now) i 0 < 18446744073709551616
+words c i = omega (arith, c .before .before .before .shared-slice-known .given i)
+
+link-low : (c : tie.Then1) → c .before .find .result .link - 1 < 65536
+link-low c = omega (arith, c .before .find .ensures .found (omega (arith, c .if1 .taken)) .0, entry (c .before) .pre .0)
+
+find-requires : tie.Need-find-requires
+find-requires c κs = search needs
+
+sub-class : tie.Need-sub-class
+sub-class c = search needs
+
+mul-class : tie.Need-mul-class
+mul-class c = omega (arith, link-low c)
+
+element-copy-out-class : tie.Need-element-copy-out-class
+element-copy-out-class c = omega (arith, link-low c)
+
+mul-class-2 : tie.Need-mul-class-2
+mul-class-2 c = search needs
+
+element-write-class : tie.Need-element-write-class
+element-write-class c = search needs
+
+returns : tie.Need-returns
+returns c =
+    let t = c .before in
+    let f = t .before .find .ensures .found (omega (arith, t .if1 .taken)) in
+    let s = entry (t .before) in
+    let a = s .args in
+    kept-old (a .pool .now) (a .n + 1) (s .pre .0 .0) (words (t .before)) (omega arith) (a .n) (omega arith) (a .class .now) (a .slots .now) (s .pre .1)
+    (t .before .find .result .link - 1) (omega (arith, f .0, t .if1 .taken)) (f .1)
+
+cast-class : tie.Need-cast-class
+cast-class c = search needs
+
+mul-class-3 : tie.Need-mul-class-3
+mul-class-3 c = search needs
+
+element-write-class-2 : tie.Need-element-write-class-2
+element-write-class-2 c = search needs
+
+add-slots : tie.Need-add-slots
+add-slots c = search needs
+
+cast-slots : tie.Need-cast-slots
+cast-slots c = search needs
+
+mul-slots : tie.Need-mul-slots
+mul-slots c = search needs
+
+element-write-slots : tie.Need-element-write-slots
+element-write-slots c = search needs
+
+returns-2 : tie.Need-returns-2
+returns-2 c =
+    let s = entry (c .before) in
+    let a = s .args in
+    kept-new (a .pool .now) (a .n + 1) (s .pre .0 .0) (words (c .before)) (omega arith) (a .n) (omega arith) (a .class .now) (a .slots .now) (s .pre .1)
+    (c .before .find .result) (omega arith) (c .before .find .ensures)
+
+pub class-one-spec : {M : Type 1} → statement M
+class-one-spec =
+    tie.close
+    (tie.spec
+    find-requires
+    sub-class
+    mul-class
+    element-copy-out-class
+    mul-class-2
+    element-write-class
+    returns
+    cast-class
+    mul-class-3
+    element-write-class-2
+    add-slots
+    cast-slots
+    mul-slots
+    element-write-slots
+    returns-2)

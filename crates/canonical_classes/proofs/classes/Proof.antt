@@ -1,0 +1,46 @@
+-- `classes`: at n the loop has the classes of the nodes below n (`Kept`); at the end `Classes`.
+use Rattle.canonical_classes.proofs.Steps.{kept-first, valid-le}
+use Rattle.canonical_classes.specs.Class.{Kept}
+use mathlib.Core.Path.{_≡_}
+use Prim.Native.Nat.{_≤_, _-_, _+_}
+use native.Mathlib.Omega.{arith}
+use Rattle.canonical_classes.proofs.classes.Statement.{statement}
+use Rattle.canonical_classes.proofs.classes.Tie as tie
+
+abbrev Inv-loop : tie.InvT-loop
+Inv-loop pool count class₀ slots₀ n₀ class slots n = (n ≤ count) × Kept pool n class slots
+
+abbrev μ-loop : tie.MeasureT-loop
+μ-loop pool count class₀ slots₀ n₀ class slots n = count - n
+
+loop-holds : tie.Need-loop-holds Inv-loop μ-loop
+loop-holds c =
+    let s = c .before in
+    (omega arith, kept-first _ _ _ (s .pre .1 .0) (s .pre .1 .1) (s .pre .1 .2))
+
+class-one-requires : tie.Need-class-one-requires Inv-loop μ-loop
+class-one-requires c κs =
+    let at-loop = c .before .before .before in
+    let s = at-loop .before .before in
+    ((valid-le (s .args .pool .now) (at-loop .loop .n + 1) (s .args .count) (omega arith) (s .pre .0 .0), omega arith, omega arith), at-loop .loop .inv .1)
+
+add-n : tie.Need-add-n Inv-loop μ-loop
+add-n c = omega arith
+
+loop-less : tie.Need-loop-less Inv-loop μ-loop
+loop-less c = omega arith
+
+loop-again : tie.Need-loop-again Inv-loop μ-loop
+loop-again c = (omega arith, c .class-one .ensures)
+
+returns : tie.Need-returns Inv-loop μ-loop
+returns c =
+    let at-loop = c .before in
+    let s = at-loop .before .before in
+    let e : at-loop .loop .n ≡ s .args .count = omega arith in
+    rw e at (at-loop .loop .inv .1 .classes)
+
+pub classes-spec : {M : Type 1} → statement M
+classes-spec =
+    tie.close
+    (tie.spec Inv-loop μ-loop loop-holds class-one-requires add-n loop-less loop-again returns)

@@ -1,0 +1,162 @@
+// Which nodes of a pool unfold to the same tree (document 02, S-13). The Rust has no counterpart.
+use pool::Node;
+use pool::words::kind_of;
+use pool_operands::has_a;
+use pool_operands::has_b;
+use pool_operands::has_c;
+ghost use mathlib.Core.Path.{_≡_};
+ghost use Prim.Native.Nat.{_+_, _*_, _≤_, _<_};
+ghost use lib.ListN.{length};
+ghost use Rattle.pool.specs.Rules.{Valid};
+ghost use Rattle.canonical_classes.specs.Key.{classIf, keyOf, sameKey, mixOf, bucketOf, rowOf, wayOf};
+ghost use Rattle.canonical_classes.specs.Class.{Empty, Low, Rises, Found, Classes, Long, Kept};
+
+// A node's word 0, the classes of its operands, 0 for an operand that its kind has not, and its words 2 and 3.
+pub struct Key {
+    pub word: u64,
+    pub a: u64,
+    pub b: u64,
+    pub c: u64,
+    pub x: u64,
+    pub y: u64,
+}
+
+fn wide(x: u16) -> u64
+    ensures { λ r. ⌜ (r ≡ x) × (r < 65536) ⌝ }
+{
+    x as u64
+}
+
+// The class of the node m, 0 where there is no such operand.
+fn class_if(there: bool, class: &[u16; 65536], m: u64) -> u64
+    requires { ⌜ m < 65536 ⌝ }
+    ensures { λ r. ⌜ (r ≡ classIf there (now (class .entry)) m) × (r < 65536) ⌝ }
+{
+    if there {
+        return wide(class[m as usize]);
+    }
+    0
+}
+
+fn key_of(pool: &[u64], class: &[u16; 65536], n: usize) -> Key
+    requires { ⌜ 4 * n + 3 < length (now pool) ⌝ }
+    ensures { λ r. ⌜ (r ≡ keyOf (now (pool .entry)) (now (class .entry)) n) × (r .a < 65536) × (r .b < 65536) × (r .c < 65536) ⌝ }
+{
+    let at = 4 * n;
+    let w1 = pool[at + 1];
+    let kind = kind_of(pool, Node(n));
+    Key {
+        word: pool[at],
+        a: class_if(has_a(kind), class, w1 % 65536),
+        b: class_if(has_b(kind), class, w1 / 65536 % 65536),
+        c: class_if(has_c(kind), class, w1 / 4294967296 % 65536),
+        x: pool[at + 2],
+        y: pool[at + 3],
+    }
+}
+
+fn same(k: Key, l: Key) -> bool
+    ensures { λ r. ⌜ r ≡ sameKey k l ⌝ }
+{
+    (k.word == l.word) & (k.a == l.a) & (k.b == l.b) & (k.c == l.c) & (k.x == l.x) & (k.y == l.y)
+}
+
+// Spreads a number's bits.
+fn mix(x: u64) -> u64
+    ensures { λ r. ⌜ (r ≡ mixOf x) × (r < 2305843009213693952) ⌝ }
+{
+    x % 4294967296 * 227832187 + x / 4294967296 * 251658257
+}
+
+// A number below 65,536 that goes by the key. 4611686018427387904 is 2^62.
+fn bucket(k: Key) -> usize
+    requires { ⌜ (k .a < 65536) × (k .b < 65536) × (k .c < 65536) ⌝ }
+    ensures { λ r. ⌜ (r ≡ bucketOf k) × (r < 65536) ⌝ }
+{
+    let h = mix(mix(k.word) + k.a + 65536 * k.b + 4294967296 * k.c);
+    let g = mix(h + k.x % 4611686018427387904);
+    (mix(g + k.y % 4611686018427387904) / 1048576 % 65536) as usize
+}
+
+// A key's words as one row of bits: 64 of each, from `level` on.
+fn row(k: Key, level: u64) -> u64
+    requires { ⌜ (k .a < 65536) × (k .b < 65536) × (k .c < 65536) ⌝ }
+    ensures { λ r. ⌜ r ≡ rowOf k level ⌝ }
+{
+    if level < 64 {
+        return k.x;
+    }
+    if level < 128 {
+        return k.y;
+    }
+    if level < 192 {
+        return k.a + 65536 * k.b + 4294967296 * k.c;
+    }
+    k.word
+}
+
+// Bit `level` of the key.
+fn way(k: Key, level: u64) -> usize
+    requires { ⌜ (k .a < 65536) × (k .b < 65536) × (k .c < 65536) ⌝ }
+    ensures { λ r. ⌜ (r ≡ wayOf k level) × (r < 2) ⌝ }
+{
+    ((row(k, level) >> (level % 64)) % 2) as usize
+}
+
+// A link, 0 or one more than a node, and the slot that it stands in.
+pub struct Place {
+    pub link: usize,
+    pub slot: usize,
+}
+
+// The node with the key of node n; link 0 where none has it, and then the slot is the one that n belongs in. Two keys differ in one of
+// their 256 bits, so that no more than 256 nodes are met on the way, whatever the keys.
+fn find(pool: &[u64], class: &[u16; 65536], slots: &[u16; 196608], n: usize) -> Place
+    requires { ⌜ (4 * (n + 1) ≤ length (now pool)) × (n < 65535) ⌝ }
+    requires { ⌜ Low (now slots) n × Rises (now slots) ⌝ }
+    ensures { λ r. ⌜ Found (now (pool .entry)) (now (class .entry)) (now (slots .entry)) n r ⌝ }
+{
+    let k = key_of(pool, class, n);
+    let mut slot = bucket(k);
+    let mut level = 0;
+    let mut link = wide(slots[slot]) as usize;
+    while 0 < link {
+        if same(key_of(pool, class, link - 1), k) {
+            return Place { link, slot };
+        }
+        slot = 65536 + 2 * (link - 1) + way(k, level);
+        level += 1;
+        link = wide(slots[slot]) as usize;
+    }
+    Place { link, slot }
+}
+
+// The class of node n, the nodes below it having theirs.
+fn class_one(pool: &[u64], n: usize, class: &mut [u16; 65536], slots: &mut [u16; 196608])
+    requires { ⌜ (Valid (now pool) (n + 1)) × (4 * (n + 1) ≤ length (now pool)) × (n < 65535) ⌝ }
+    requires { ⌜ Kept (now pool) n (now class) (now slots) ⌝ }
+    ensures { λ r. ⌜ Kept (now (pool .entry)) (n + 1) (now (class .exit)) (now (slots .exit)) ⌝ }
+{
+    let place = find(pool, class, slots, n);
+    let link = place.link;
+    let slot = place.slot;
+    if 0 < link {
+        class[n] = class[link - 1];
+        return;
+    }
+    class[n] = n as u16;
+    slots[slot] = (n + 1) as u16;
+}
+
+// Fills `class` for the nodes below count: the first node with the same tree.
+pub fn classes(pool: &[u64], count: usize, class: &mut [u16; 65536], slots: &mut [u16; 196608])
+    requires { ⌜ (Valid (now pool) count) × (4 * count ≤ length (now pool)) × (count ≤ 65535) ⌝ }
+    requires { ⌜ Long (now class) × (length (now slots) ≡ 196608) × Empty (now slots) ⌝ }
+    ensures { λ r. ⌜ Classes (now (pool .entry)) count (now (class .exit)) ⌝ }
+{
+    let mut n = 0;
+    while n < count {
+        class_one(pool, n, class, slots);
+        n += 1;
+    }
+}

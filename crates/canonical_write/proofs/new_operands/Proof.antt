@@ -1,0 +1,80 @@
+-- `new_operands` gives `newOperands`: word 1 with the new number of each operand that the kind has.
+use Rattle.canonical_write.proofs.Words.{operands-made}
+use borrow.Author.Needs.{needs}
+use Rattle.canonical_write.proofs.new_operands.Statement.{statement}
+use Rattle.canonical_write.proofs.new_operands.Tie as tie
+
+mul-w1 : tie.Need-mul-w1
+mul-w1 c = search needs
+
+add-w1 : tie.Need-add-w1
+add-w1 c = search needs
+
+mul-w1-2 : tie.Need-mul-w1-2
+mul-w1-2 c = search needs
+
+shared-slice-read-w1 : tie.Need-shared-slice-read-w1
+shared-slice-read-w1 c = search needs
+
+kind-of-requires : tie.Need-kind-of-requires
+kind-of-requires c κs = search needs
+
+has-a-requires : tie.Need-has-a-requires
+has-a-requires c κs = search needs
+
+number-if-requires : tie.Need-number-if-requires
+number-if-requires c κs = search needs
+
+has-b-requires : tie.Need-has-b-requires
+has-b-requires c κs = search needs
+
+number-if-requires-2 : tie.Need-number-if-requires-2
+number-if-requires-2 c κs = search needs
+
+has-c-requires : tie.Need-has-c-requires
+has-c-requires c κs = search needs
+
+number-if-requires-3 : tie.Need-number-if-requires-3
+number-if-requires-3 c κs = search needs
+
+mul-result : tie.Need-mul-result
+mul-result c = search needs
+
+add-result : tie.Need-add-result
+add-result c = search needs
+
+mul-result-2 : tie.Need-mul-result-2
+mul-result-2 c = search needs
+
+add-result-2 : tie.Need-add-result-2
+add-result-2 c = search needs
+
+returns : tie.Need-returns
+returns c =
+    let at-has-b = c .before .before .before in
+    let at-number-if = at-has-b .before in
+    let at-has-a = at-number-if .before in
+    let at-kind-of = at-has-a .before in
+    operands-made _ _ _ _ (at-kind-of .kind-of .result) _ _ _ _ _ _ (at-kind-of .kind-of .ensures) (at-has-a .has-a .ensures) (at-has-b .has-b .ensures) (c .before .has-c .ensures)
+    (at-number-if .number-if .ensures .0) (c .before .before .number-if2 .ensures .0) (c .number-if3 .ensures .0)
+
+pub new-operands-spec : {M : Type 1} → statement M
+new-operands-spec =
+    tie.close
+    (tie.spec
+    mul-w1
+    add-w1
+    mul-w1-2
+    shared-slice-read-w1
+    kind-of-requires
+    has-a-requires
+    number-if-requires
+    has-b-requires
+    number-if-requires-2
+    has-c-requires
+    number-if-requires-3
+    mul-result
+    add-result
+    mul-result-2
+    add-result-2
+    returns)

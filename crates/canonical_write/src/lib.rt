@@ -1,0 +1,168 @@
+// The canonical pool of a root (document 02, S-13): its distinct subtrees in the order in which a left-first walk finishes them.
+use canonical_classes::classes;
+use canonical_order::walk;
+use pool::Node;
+use pool::words::kind_of;
+use pool_check::pool_check;
+use pool_operands::has_a;
+use pool_operands::has_b;
+use pool_operands::has_c;
+ghost use mathlib.Core.Path.{_≡_};
+ghost use Prim.Native.Nat.{_+_, _*_, _≤_, _<_};
+ghost use lib.ListN.{length, getD};
+ghost use Rattle.pool.specs.Rules.{Valid};
+ghost use Rattle.canonical_classes.specs.Class.{Classes, Long, Empty};
+ghost use Rattle.canonical_order.specs.Walk.{AllNone, Numbered};
+ghost use Rattle.canonical_write.specs.Canonise.{Answered, RootAnswered, Written, OneMore, numberIf, newOperands};
+
+// The number of document 02, and how many nodes are written.
+pub struct Canonised {
+    pub number: u64,
+    pub count: usize,
+}
+
+fn wide(x: u16) -> u64
+    ensures { λ r. ⌜ (r ≡ x) × (r < 65536) ⌝ }
+{
+    x as u64
+}
+
+fn entry(a: &[u16; 65536], m: u64) -> u64
+    requires { ⌜ m < 65536 ⌝ }
+    ensures { λ r. ⌜ (r ≡ getD (now (a .entry)) m 0) × (r < 65536) ⌝ }
+{
+    wide(a[m as usize])
+}
+
+// The new number of an operand, 0 where there is none.
+fn number_if(there: bool, class: &[u16; 65536], number: &[u16; 65536], m: u64) -> u64
+    requires { ⌜ m < 65536 ⌝ }
+    ensures { λ r. ⌜ (r ≡ numberIf there (now (class .entry)) (now (number .entry)) m) × (r < 65536) ⌝ }
+{
+    if there {
+        return entry(number, entry(class, m));
+    }
+    0
+}
+
+// Word 1 of a node, with the new numbers of its operands.
+fn new_operands(pool: &[u64], class: &[u16; 65536], number: &[u16; 65536], n: usize) -> u64
+    requires { ⌜ 4 * n + 3 < length (now pool) ⌝ }
+    ensures { λ r. ⌜ r ≡ newOperands (now (pool .entry)) (now (class .entry)) (now (number .entry)) n ⌝ }
+{
+    let w1 = pool[4 * n + 1];
+    let kind = kind_of(pool, Node(n));
+    let a = number_if(has_a(kind), class, number, w1 % 65536);
+    let b = number_if(has_b(kind), class, number, w1 / 65536 % 65536);
+    let c = number_if(has_c(kind), class, number, w1 / 4294967296 % 65536);
+    a + 65536 * b + 4294967296 * c
+}
+
+// Writes node j of the canonical pool.
+fn write_one(
+    pool: &[u64],
+    class: &[u16; 65536],
+    root: usize,
+    number: &[u16; 65536],
+    order: &[u16; 65536],
+    k: usize,
+    j: usize,
+    out: &mut [u64],
+)
+    requires { ⌜ (Valid (now pool) (root + 1)) × (4 * (root + 1) ≤ length (now pool)) × (root < 65535) ⌝ }
+    requires { ⌜ Classes (now pool) (root + 1) (now class) ⌝ }
+    requires { ⌜ Numbered (now pool) (now class) root (now number) (now order) k ⌝ }
+    requires { ⌜ (j < k) × (4 * k ≤ length (now out)) × (k ≤ 65535) ⌝ }
+    ensures { λ r. ⌜ OneMore (now (pool .entry)) root j (now (out .entry)) (now (out .exit)) ⌝ }
+{
+    let n = entry(order, j as u64) as usize;
+    let at = 4 * n;
+    let w1 = new_operands(pool, class, number, n);
+    pool::push(out, j, pool[at], w1, pool[at + 2], pool[at + 3]);
+}
+
+// Writes the first k nodes, all that there are.
+fn write(
+    pool: &[u64],
+    class: &[u16; 65536],
+    root: usize,
+    number: &[u16; 65536],
+    order: &[u16; 65536],
+    k: usize,
+    out: &mut [u64],
+)
+    requires { ⌜ (Valid (now pool) (root + 1)) × (4 * (root + 1) ≤ length (now pool)) × (root < 65535) ⌝ }
+    requires { ⌜ Classes (now pool) (root + 1) (now class) ⌝ }
+    requires { ⌜ Numbered (now pool) (now class) root (now number) (now order) k ⌝ }
+    requires { ⌜ (4 * k ≤ length (now out)) × (k ≤ 65535) ⌝ }
+    ensures { λ r. ⌜ Written (now (pool .entry)) root k (now (out .entry)) (now (out .exit)) ⌝ }
+{
+    let mut j = 0;
+    while j < k {
+        write_one(pool, class, root, number, order, k, j, out);
+        j += 1;
+    }
+}
+
+// An array of zeros, one of 65,535 everywhere, and slots without links.
+fn zeros() -> [u16; 65536]
+    ensures { λ r. ⌜ Long r ⌝ }
+{
+    [0u16; 65536]
+}
+
+fn nones() -> [u16; 65536]
+    ensures { λ r. ⌜ Long r × AllNone r ⌝ }
+{
+    [65535u16; 65536]
+}
+
+fn free_slots() -> [u16; 196608]
+    ensures { λ r. ⌜ (length r ≡ 196608) × Empty r ⌝ }
+{
+    [0u16; 196608]
+}
+
+// Counts the distinct subtrees before it writes a word.
+fn canonise_root(pool: &[u64], root: usize, out: &mut [u64]) -> Canonised
+    requires { ⌜ (Valid (now pool) (root + 1)) × (4 * (root + 1) ≤ length (now pool)) × (root < 65535) ⌝ }
+    ensures { λ r. ⌜ RootAnswered (now (pool .entry)) root (now (out .entry)) (now (out .exit)) r ⌝ }
+{
+    let mut class = zeros();
+    let mut slots = free_slots();
+    classes(pool, root + 1, &mut class, &mut slots);
+    let mut number = nones();
+    let mut order = zeros();
+    let mut stack = zeros();
+    let all = walk(pool, &class, root, &mut number, &mut order, &mut stack);
+    if pool::places(out) < all {
+        return Canonised {
+            number: 6,
+            count: 0,
+        };
+    }
+    write(pool, &class, root, &number, &order, all, out);
+    Canonised {
+        number: 0,
+        count: all,
+    }
+}
+
+// The canonical pool of a root: its last node unfolds to the root's tree.
+pub fn canonise(pool: &[u64], count: usize, root: usize, out: &mut [u64]) -> Canonised
+    ensures { λ r. ⌜ Answered (now (pool .entry)) count root (now (out .entry)) (now (out .exit)) r ⌝ }
+{
+    if !pool_check(pool, count) {
+        return Canonised {
+            number: 1,
+            count: 0,
+        };
+    }
+    if count <= root {
+        return Canonised {
+            number: 5,
+            count: 0,
+        };
+    }
+    canonise_root(pool, root, out)
+}

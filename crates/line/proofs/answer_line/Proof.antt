@@ -1,0 +1,177 @@
+-- `answer_line`, by the way that a line takes: no room, not in columns, refused, accepted. Assumes nothing.
+use native.Mathlib.Omega.{arith}
+use mathlib.Core.List.{List, [], _∷_}
+use mathlib.Core.Path.{_≡_, ap, _∙_}
+use Prim.Native.Nat.{ℕ, _+_, _≤_}
+use lib.ListN.{length, getD}
+use Rattle.pool.specs.Node.{places}
+use Rattle.block_map.specs.Map.{nodeOf}
+use Rattle.block.specs.Block.{Answered}
+use Rattle.line_fields.specs.Fields.{lineNumber, recordOf}
+use Rattle.line_fields.proofs.Numbers.{line-low}
+use Rattle.line_output.specs.Answer.{answerRoom}
+use Rattle.line.proofs.Fits.{inside}
+use Rattle.line.proofs.Records.{block-low, answered-one, long, low-d, node-under, registers, left-little, left-other, lowered-one, no-room, little-room, other, refused, done}
+use borrow.Author.Needs.{needs}
+use Rattle.line.proofs.answer_line.Statement.{statement}
+use Rattle.line.proofs.answer_line.Tie as tie
+
+abbrev entry : tie.Else2 → tie.Start
+entry c = c .before .before .before .before .before
+
+-- past the second test there is room for every answer
+room : (c : tie.Else2) → entry c .args .at + answerRoom ≤ length (entry c .args .out .now)
+room c = omega (arith, c .if2 .left, c .before .if1 .left)
+
+abbrev roomy : tie.Else3 → tie.Else2
+roomy c = c .before .before
+
+-- past the third the line is in columns
+in-columns : (c : tie.Else3) → lineNumber (entry (roomy c) .args .line .now) ≡ 0
+in-columns c = omega (arith, c .before .line-number .ensures, c .if3 .left)
+
+abbrev ordered : tie.After-lower-block → tie.Else3
+ordered c = c .before .before .before .before
+
+-- the block of one is answered
+one : (c : tie.After-lower-block) → let a = entry (roomy (ordered c)) .args in
+    Answered (a .pool .now) (recordOf (a .line .now) ∷ []) (c .lower-block .last .0) (c .lower-block .result)
+one c = answered-one (entry (roomy (ordered c)) .args .line .now) (c .before .before .before .fields-of .ensures) (c .lower-block .ensures)
+
+-- it is accepted, and the fourth of the line's numbers is d
+abbrev lowered : tie.Else4 → tie.After-lower-block
+lowered c = c .before .before .before .before
+
+accepted : (c : tie.Else4) → lowered c .lower-block .result .number ≡ 0
+accepted c = omega (arith, c .if4 .left)
+
+d-is : (c : tie.After-lower-block) → getD (c .before .before .before .fields-of .result) 3 0 ≡ recordOf (entry (roomy (ordered c)) .args .line .now) .d
+d-is c = ap (λ (z : List ℕ). getD z 3 0) (c .before .before .before .fields-of .ensures)
+
+node-is : (c : tie.After-get) → let l = lowered (c .before .before) in
+    c .get .result .0 ≡ nodeOf (l .lower-block .result .map) (recordOf (entry (roomy (ordered l)) .args .line .now) .d)
+node-is c = let l = lowered (c .before .before) in c .get .ensures ∙ ap (nodeOf (l .lower-block .result .map)) (d-is l)
+
+returns : tie.Need-returns
+returns c =
+    let a = c .before .before .before .before .args in
+    let w = no-room (a .pool .now) (a .line .now) (a .out .now) (a .at) (c .if1 .taken) in
+    (w, (left-little (a .pool .now) (a .line .now) (a .out .now) (a .at) (omega (arith, c .if1 .taken)), inside (places (a .pool .now)) (a .line .now) w))
+
+sub-if2 : tie.Need-sub-if2
+sub-if2 c = search needs
+
+returns-2 : tie.Need-returns-2
+returns-2 c =
+    let a = c .before .before .before .before .before .args in
+    let w = little-room (a .pool .now) (a .line .now) (a .out .now) (a .at) (c .if2 .taken) in
+    (w, (left-little (a .pool .now) (a .line .now) (a .out .now) (a .at) (c .if2 .taken), inside (places (a .pool .now)) (a .line .now) w))
+
+line-number-requires : tie.Need-line-number-requires
+line-number-requires c κs = search needs
+
+put-number-requires : tie.Need-put-number-requires
+put-number-requires c κs =
+    let n = c .before .before in
+    (omega (arith, n .line-number .ensures, line-low (entry (n .before) .args .line .now)), room (n .before))
+
+same-length : tie.Need-same-length
+same-length c = search needs
+
+returns-3 : tie.Need-returns-3
+returns-3 c =
+    let p = c .before .before in
+    let t = p .before .before in
+    let n = t .before in
+    let a = entry (n .before) .args in
+    let w = other (a .pool .now) (a .line .now) (a .out .now) (a .at) (n .before .if2 .left) (n .line-number .ensures) (t .if3 .taken) (p .put-number .ensures) in
+    let same = left-other (a .pool .now) (a .line .now) (a .out .now) (a .at) (n .before .if2 .left) (omega (arith, n .line-number .ensures, t .if3 .taken)) in
+    (w, (same, inside (places (a .pool .now)) (a .line .now) w))
+
+fields-of-requires : tie.Need-fields-of-requires
+fields-of-requires c κs = omega (arith, long 0 (entry (roomy c) .args .line .now) (in-columns c))
+
+slice-aggregate-lower-block : tie.Need-slice-aggregate-lower-block
+slice-aggregate-lower-block c = search needs
+
+lower-block-requires : tie.Need-lower-block-requires
+lower-block-requires c κs = search needs
+
+put-number-requires-2 : tie.Need-put-number-requires-2
+put-number-requires-2 c κs =
+    let l = c .before .before .before .before .before in
+    let a = entry (roomy (ordered l)) .args in
+    (omega (arith, one l .number, block-low (places (a .pool .now)) (recordOf (a .line .now))), room (roomy (ordered l)))
+
+same-length-2 : tie.Need-same-length-2
+same-length-2 c = search needs
+
+same-length-3 : tie.Need-same-length-3
+same-length-3 c = search needs
+
+returns-4 : tie.Need-returns-4
+returns-4 c =
+    let p = c .before .before in
+    let t = p .before .before in
+    let l = t .before .before .before .before in
+    let q = ordered l in
+    let a = entry (roomy q) .args in
+    let w = refused (a .pool .now) (a .line .now) (a .out .now) (a .at) (roomy q .if2 .left) (in-columns q) (one l) (t .if4 .taken) (p .put-number2 .ensures) in
+    (w, (lowered-one (a .pool .now) (a .line .now) (a .out .now) (a .at) (roomy q .if2 .left) (in-columns q) (one l), inside (places (a .pool .now)) (a .line .now) w))
+
+array-read-get : tie.Need-array-read-get
+array-read-get c = search needs
+
+get-requires : tie.Need-get-requires
+get-requires c κs =
+    let l = lowered (c .before) in
+    omega (arith, low-d (entry (roomy (ordered l)) .args .line .now) (one l) (accepted (c .before)), d-is l)
+
+put-term-requires : tie.Need-put-term-requires
+put-term-requires c κs =
+    let g = c .before .before in
+    let l = lowered (g .before .before) in
+    let z = accepted (g .before .before) in
+    let line = entry (roomy (ordered l)) .args .line .now in
+    (one l .accepted z .checked, ((omega (arith, node-is g, node-under line (one l) z), registers line (one l) z), room (roomy (ordered l))))
+
+same-length-4 : tie.Need-same-length-4
+same-length-4 c = search needs
+
+same-length-5 : tie.Need-same-length-5
+same-length-5 c = search needs
+
+returns-5 : tie.Need-returns-5
+returns-5 c =
+    let p = c .before .before in
+    let g = p .before .before .before in
+    let l = lowered (g .before .before) in
+    let q = ordered l in
+    let a = entry (roomy q) .args in
+    let w = done (a .pool .now) (a .line .now) (a .out .now) (a .at) _ (roomy q .if2 .left) (in-columns q) (one l) (accepted (g .before .before)) (node-is g) (p .put-term .ensures) in
+    (w, (lowered-one (a .pool .now) (a .line .now) (a .out .now) (a .at) (roomy q .if2 .left) (in-columns q) (one l), inside (places (a .pool .now)) (a .line .now) w))
+
+pub answer-line-spec : {M : Type 1} → statement M
+answer-line-spec =
+    tie.close
+    (tie.spec
+    returns
+    sub-if2
+    returns-2
+    line-number-requires
+    put-number-requires
+    same-length
+    returns-3
+    fields-of-requires
+    slice-aggregate-lower-block
+    lower-block-requires
+    put-number-requires-2
+    same-length-2
+    same-length-3
+    returns-4
+    array-read-get
+    get-requires
+    put-term-requires
+    same-length-4
+    same-length-5
+    returns-5)

@@ -1,0 +1,90 @@
+use native.Mathlib.Omega.{arith}
+use Rattle.line_columns.specs.Columns.{fieldAt}
+use borrow.Author.Needs.{needs}
+use Rattle.line_columns.proofs.field.Statement.{statement}
+use Rattle.line_columns.proofs.field.Tie as tie
+
+shared-slice-read-digit : tie.Need-shared-slice-read-digit
+shared-slice-read-digit c = search needs
+
+digit-requires : tie.Need-digit-requires
+digit-requires c κs = search needs
+
+add-digit : tie.Need-add-digit
+add-digit c = search needs
+
+shared-slice-read-digit-2 : tie.Need-shared-slice-read-digit-2
+shared-slice-read-digit-2 c = search needs
+
+digit-requires-2 : tie.Need-digit-requires-2
+digit-requires-2 c κs = search needs
+
+add-digit-2 : tie.Need-add-digit-2
+add-digit-2 c = search needs
+
+shared-slice-read-digit-3 : tie.Need-shared-slice-read-digit-3
+shared-slice-read-digit-3 c = search needs
+
+digit-requires-3 : tie.Need-digit-requires-3
+digit-requires-3 c κs = search needs
+
+add-digit-3 : tie.Need-add-digit-3
+add-digit-3 c = search needs
+
+shared-slice-read-digit-4 : tie.Need-shared-slice-read-digit-4
+shared-slice-read-digit-4 c = search needs
+
+digit-requires-4 : tie.Need-digit-requires-4
+digit-requires-4 c κs = search needs
+
+mul-result : tie.Need-mul-result
+mul-result c = search needs
+
+mul-result-2 : tie.Need-mul-result-2
+mul-result-2 c = search needs
+
+add-result : tie.Need-add-result
+add-result c = search needs
+
+mul-result-3 : tie.Need-mul-result-3
+mul-result-3 c = search needs
+
+add-result-2 : tie.Need-add-result-2
+add-result-2 c = search needs
+
+add-result-3 : tie.Need-add-result-3
+add-result-3 c = search needs
+
+returns : tie.Need-returns
+unfolding fieldAt
+returns c =
+    let l-digit4 = c in
+    let l-digit3 = l-digit4 .before .before in
+    let l-digit2 = l-digit3 .before .before in
+    let l-digit = l-digit2 .before .before in (
+      cc (l-digit .digit .ensures .0, l-digit2 .digit2 .ensures .0, l-digit3 .digit3 .ensures .0, l-digit4 .digit4 .ensures .0),
+      omega (arith, l-digit .digit .ensures .1, l-digit2 .digit2 .ensures .1, l-digit3 .digit3 .ensures .1, l-digit4 .digit4 .ensures .1),
+    )
+
+pub field-spec : {M : Type 1} → statement M
+field-spec =
+    tie.close
+    (tie.spec
+    shared-slice-read-digit
+    digit-requires
+    add-digit
+    shared-slice-read-digit-2
+    digit-requires-2
+    add-digit-2
+    shared-slice-read-digit-3
+    digit-requires-3
+    add-digit-3
+    shared-slice-read-digit-4
+    digit-requires-4
+    mul-result
+    mul-result-2
+    add-result
+    mul-result-3
+    add-result-2
+    add-result-3
+    returns)

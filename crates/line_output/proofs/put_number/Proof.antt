@@ -1,0 +1,33 @@
+use native.Mathlib.Omega.{arith}
+use Rattle.text_digits.proofs.Laws.{wrote-then, wrote-length}
+use Rattle.line_output.proofs.Texts.{length-columns}
+use borrow.Author.Needs.{needs}
+use Rattle.line_output.proofs.put_number.Statement.{statement}
+use Rattle.line_output.proofs.put_number.Tie as tie
+
+put-columns-requires : tie.Need-put-columns-requires
+put-columns-requires c κs =
+    let st = c .before .before in
+    (st .pre .0, record { room = omega (arith, st .pre .1, length-columns (st .args .number) (st .pre .0)) })
+
+slice-aggregate-put : tie.Need-slice-aggregate-put
+slice-aggregate-put c = search needs
+
+put-requires : tie.Need-put-requires
+put-requires c κs =
+    let l-put-columns = c .before .before .before .before in
+    let st = l-put-columns .before .before .before in
+    record { room = omega (arith, st .pre .1, length-columns (st .args .number) (st .pre .0), l-put-columns .put-columns .ensures .next-is, wrote-length (l-put-columns .put-columns .ensures)) }
+
+same-length : tie.Need-same-length
+same-length c = search needs
+
+returns : tie.Need-returns
+returns c =
+    let l-put = c .before .before in
+    let l-put-columns = l-put .before .before .before .before .before in
+    wrote-then (l-put-columns .put-columns .ensures) (l-put .put .ensures)
+
+pub put-number-spec : {M : Type 1} → statement M
+put-number-spec =
+    tie.close (tie.spec put-columns-requires slice-aggregate-put put-requires same-length returns)

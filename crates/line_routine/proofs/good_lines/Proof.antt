@@ -1,0 +1,79 @@
+-- `line_routine::good_lines` meets its contract: after each turn the lines so far are in columns.
+use mathlib.Core.Bool.{true}
+use mathlib.Core.Logic.{⊎-elim}
+use mathlib.Core.Path.{_≡_, refl, sym, ap, _∙_, subst}
+use Prim.Native.Nat.{ℕ, _-_, _≤_, _<_}
+use native.Mathlib.Nat.{eq-or-lt-of-le}
+use native.Mathlib.Omega.{arith}
+use borrow.Author.Needs.{needs}
+use borrow.Author.Tests.{not-true, not-false}
+use Rattle.line_routine.specs.Routine.{lineCount, isLine}
+use Rattle.line_routine.proofs.good_lines.Statement.{statement}
+use Rattle.line_routine.proofs.good_lines.Tie as tie
+
+abbrev Inv-loop : tie.InvT-loop
+Inv-loop bytes count j₀ j = (count ≡ lineCount bytes) × (j ≤ count) × ((i : ℕ) → i < j → isLine bytes i ≡ true)
+
+abbrev μ-loop : tie.MeasureT-loop
+μ-loop bytes count j₀ j = count - j
+
+line-count-requires : tie.Need-line-count-requires Inv-loop μ-loop
+line-count-requires c κs = search needs
+
+loop-holds : tie.Need-loop-holds Inv-loop μ-loop
+loop-holds c = (c .line-count .ensures, omega arith, λ i h. absurd (omega arith))
+
+is-line-requires : tie.Need-is-line-requires Inv-loop μ-loop
+is-line-requires c κs = omega (arith, c .before .loop .inv .0, c .loop-test .taken)
+
+returns : tie.Need-returns Inv-loop μ-loop
+returns c =
+    let r = c .before in
+    let l = r .before .before in
+    record {
+      most = omega (arith, l .loop .inv .0, l .loop .inv .1);
+      before = l .loop .inv .2;
+      first = λ h. sym (r .is-line .ensures) ∙ not-true (r .is-line .result) (c .if1 .taken);
+    }
+
+add-j : tie.Need-add-j Inv-loop μ-loop
+add-j c =
+    let w = c .before .before in
+    omega (arith, w .loop-test .taken, w .before .loop .inv .0)
+
+loop-less : tie.Need-loop-less Inv-loop μ-loop
+loop-less c = omega (arith, c .before .before .loop-test .taken)
+
+loop-again : tie.Need-loop-again Inv-loop μ-loop
+loop-again c =
+    let r = c .before in
+    let w = r .before in
+    let l = w .before in
+    let bs = l .before .before .before .args .bytes .now in
+    let good : isLine bs (l .loop .j) ≡ true = sym (r .is-line .ensures) ∙ not-false (r .is-line .result) (c .if1 .left) in (
+      l .loop .inv .0,
+      omega (arith, w .loop-test .taken),
+      λ i h.
+          ⊎-elim (λ e. subst (λ (k : ℕ). isLine bs k ≡ true) (sym e) good) (λ s. l .loop .inv .2 i s) (eq-or-lt-of-le (let q : i ≤ l .loop .j = omega arith in q)),
+    )
+
+returns-2 : tie.Need-returns-2 Inv-loop μ-loop
+returns-2 c =
+    let l = c .before in
+    let e : l .loop .j ≡ lineCount (l .before .before .before .args .bytes .now) = omega (arith, l .loop .inv .0, l .loop .inv .1, c .loop-test .left) in
+    record { most = omega arith; before = λ i h. l .loop .inv .2 i (omega (arith, e, h)); first = λ h. absurd (omega arith) }
+
+pub good-lines-spec : {M : Type 1} → statement M
+good-lines-spec =
+    tie.close
+    (tie.spec
+    Inv-loop
+    μ-loop
+    line-count-requires
+    loop-holds
+    is-line-requires
+    returns
+    add-j
+    loop-less
+    loop-again
+    returns-2)

@@ -1,0 +1,28 @@
+-- source_bits is `kindBits`: twice a lane's bits where the kind narrows, else as many
+use Rattle.lower_kinds.proofs.Bits.{bits-narrowing, bits-same}
+use borrow.Author.Needs.{needs}
+use Rattle.lower_kinds.proofs.sources.source_bits.Statement.{statement}
+use Rattle.lower_kinds.proofs.sources.source_bits.Tie as tie
+
+narrowing-requires : tie.Need-narrowing-requires
+narrowing-requires c κs = search needs
+
+mul-result : tie.Need-mul-result
+mul-result c = search needs
+
+returns : tie.Need-returns
+returns c =
+    let l-if1 = c in
+    let l-narrowing = l-if1 .before in
+    let st = l-narrowing .before in
+    bits-narrowing (st .args .kind) (st .args .lane-bits) (l-narrowing .narrowing .ensures) (l-if1 .if1 .taken)
+
+returns-2 : tie.Need-returns-2
+returns-2 c =
+    let l-if1 = c in
+    let l-narrowing = l-if1 .before in
+    let st = l-narrowing .before in
+    bits-same (st .args .kind) (st .args .lane-bits) (l-narrowing .narrowing .ensures) (l-if1 .if1 .left)
+
+pub source-bits-spec : {M : Type 1} → statement M
+source-bits-spec = tie.close (tie.spec narrowing-requires mul-result returns returns-2)

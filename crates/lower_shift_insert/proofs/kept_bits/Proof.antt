@@ -1,0 +1,51 @@
+-- kept_bits is `keptBits`: the low bits, or all but the low ones
+use Rattle.lower_shift_insert.proofs.Inserting.{kept-left, kept-right, low-le}
+use borrow.Author.Needs.{needs}
+use Rattle.lower_shift_insert.proofs.kept_bits.Statement.{statement}
+use Rattle.lower_shift_insert.proofs.kept_bits.Tie as tie
+
+low-bits-requires : tie.Need-low-bits-requires
+low-bits-requires c κs = search needs
+
+returns : tie.Need-returns
+returns c =
+    let l-low-bits = c in
+    let l-if1 = l-low-bits .before in
+    let st = l-if1 .before in
+    kept-left (st .args .lane-bits) (st .args .shift) (l-if1 .if1 .taken) (l-low-bits .low-bits .ensures)
+
+unsigned-max-requires : tie.Need-unsigned-max-requires
+unsigned-max-requires c κs = search needs
+
+sub-low-bits : tie.Need-sub-low-bits
+sub-low-bits c = search needs
+
+low-bits-requires-2 : tie.Need-low-bits-requires-2
+low-bits-requires-2 c κs = search needs
+
+sub-result : tie.Need-sub-result
+sub-result c =
+    let l-low-bits2 = c in
+    let l-unsigned-max = l-low-bits2 .before in
+    let st = l-unsigned-max .before .before in
+    low-le (st .args .lane-bits) (st .args .shift) (l-unsigned-max .unsigned-max .ensures) (l-low-bits2 .low-bits2 .ensures)
+
+returns-2 : tie.Need-returns-2
+returns-2 c =
+    let l-low-bits2 = c in
+    let l-unsigned-max = l-low-bits2 .before in
+    let l-if1 = l-unsigned-max .before in
+    let st = l-if1 .before in
+    kept-right (st .args .lane-bits) (st .args .shift) (l-if1 .if1 .left) (l-unsigned-max .unsigned-max .ensures) (l-low-bits2 .low-bits2 .ensures)
+
+pub kept-bits-spec : {M : Type 1} → statement M
+kept-bits-spec =
+    tie.close
+    (tie.spec
+    low-bits-requires
+    returns
+    unsigned-max-requires
+    sub-low-bits
+    low-bits-requires-2
+    sub-result
+    returns-2)

@@ -1,0 +1,49 @@
+-- most_immediate is `most` of each operation with that code: the low bits say which of its four rows it is
+use native.Mathlib.Omega.{arith}
+use Rattle.neon.specs.Form.{form}
+use mathlib.Core.Path.{sym, _∙_}
+use Rattle.neon_form.proofs.Parts.{parts, most-none, most-left, most-right, most-element, quotient}
+use borrow.Author.Needs.{needs}
+use Rattle.neon_form.proofs.most_immediate.Statement.{statement}
+use Rattle.neon_form.proofs.most_immediate.Tie as tie
+
+sub-result : tie.Need-sub-result
+sub-result c = search needs
+
+div-result : tie.Need-div-result
+div-result c = search needs
+
+sub-result-2 : tie.Need-sub-result-2
+sub-result-2 c =
+    let st = c .before in
+    omega (arith, quotient (st .args .bits) (st .pre .0) (st .pre .1))
+
+returns : tie.Need-returns
+returns c =
+    let l-match = c in
+    let st = l-match .before in
+    λ o v h e. most-none (form o .immediate) (st .args .bits) (sym (parts (st .args .code) o v h e .row) ∙ l-match .match .keys1)
+
+returns-2 : tie.Need-returns-2
+returns-2 c =
+    let l-match = c in
+    let st = l-match .before in
+    λ o v h e. most-left (form o .immediate) (st .args .bits) (sym (parts (st .args .code) o v h e .row) ∙ l-match .match .keys2)
+
+returns-3 : tie.Need-returns-3
+returns-3 c =
+    let l-match = c in
+    let st = l-match .before in
+    λ o v h e. most-right (form o .immediate) (st .args .bits) (sym (parts (st .args .code) o v h e .row) ∙ l-match .match .keys3)
+
+returns-4 : tie.Need-returns-4
+returns-4 c =
+    let l-match = c in
+    let st = l-match .before in
+    λ o v h e.
+    let r = parts (st .args .code) o v h e .row in
+    most-element (form o .immediate) (st .args .bits) (omega (arith, r, l-match .match .rest)) (omega (arith, r, l-match .match .rest)) (omega (arith, r, l-match .match .rest))
+
+pub most-immediate-spec : {M : Type 1} → statement M
+most-immediate-spec =
+    tie.close (tie.spec sub-result div-result sub-result-2 returns returns-2 returns-3 returns-4)

@@ -1,0 +1,61 @@
+-- `mixed_lane` answers `mixedLaneZ` and `mixedBeyond`: the exact sum of a signed and an unsigned lane, clamped as d is read.
+use native.Mathlib.Omega.{arith}
+use Rattle.run_exact.proofs.Laws.{fitting}
+use borrow.Author.Needs.{needs}
+use Rattle.run_lanes.proofs.mixed_lane.Statement.{statement}
+use Rattle.run_lanes.proofs.mixed_lane.Tie as tie
+
+read-requires : tie.Need-read-requires
+read-requires c κs = search needs
+
+read-requires-2 : tie.Need-read-requires-2
+read-requires-2 c κs = search needs
+
+join-requires : tie.Need-join-requires
+join-requires c κs = search needs
+
+limit-requires : tie.Need-limit-requires
+limit-requires c κs = search needs
+
+returns : tie.Need-returns
+returns c =
+    let at-read = c .before .before in
+    let at-read2 = at-read .before in
+    let at-if = at-read2 .before in
+    rw (at-if .if1 .taken) (c .limit .ensures _ (fitting (omega arith)
+    (c .before .join .ensures 65 _ _ (omega arith) (at-read2 .read .ensures) (at-read .read2 .ensures))))
+
+read-requires-3 : tie.Need-read-requires-3
+read-requires-3 c κs = search needs
+
+read-requires-4 : tie.Need-read-requires-4
+read-requires-4 c κs = search needs
+
+join-requires-2 : tie.Need-join-requires-2
+join-requires-2 c κs = search needs
+
+limit-requires-2 : tie.Need-limit-requires-2
+limit-requires-2 c κs = search needs
+
+returns-2 : tie.Need-returns-2
+returns-2 c =
+    let at-read = c .before .before in
+    let at-read2 = at-read .before in
+    let at-if = at-read2 .before in
+    rw (at-if .if1 .left) (c .limit2 .ensures _ (fitting (omega arith)
+    (c .before .join2 .ensures 65 _ _ (omega arith) (at-read2 .read3 .ensures) (at-read .read4 .ensures))))
+
+pub mixed-lane-spec : {M : Type 1} → statement M
+mixed-lane-spec =
+    tie.close
+    (tie.spec
+    read-requires
+    read-requires-2
+    join-requires
+    limit-requires
+    returns
+    read-requires-3
+    read-requires-4
+    join-requires-2
+    limit-requires-2
+    returns-2)

@@ -1,0 +1,58 @@
+-- `put_2` writes `padded 2`: the digit of the tens and what is left.
+use native.Mathlib.Omega.{arith}
+use lib.ListN.{length-set}
+use Rattle.text_decimals.proofs.Digits.{first-2, length-2, wrote-last}
+use borrow.Author.Needs.{needs}
+use Rattle.text_decimals.proofs.put_2.Statement.{statement}
+use Rattle.text_decimals.proofs.put_2.Tie as tie
+
+place-of-requires : tie.Need-place-of-requires
+place-of-requires c κs = search needs
+
+figure-requires : tie.Need-figure-requires
+figure-requires c κs = search needs
+
+slice-write-buf : tie.Need-slice-write-buf
+slice-write-buf c =
+    let at3 = c .before .before .before in
+    let st = at3 in omega (arith, st .pre .1 .room, length-2 (st .args .x))
+
+figure-requires-2 : tie.Need-figure-requires-2
+figure-requires-2 c κs = search needs
+
+add-buf : tie.Need-add-buf
+add-buf c = search needs
+
+slice-write-buf-2 : tie.Need-slice-write-buf-2
+slice-write-buf-2 c =
+    let at-figure = c .before in
+    let at4 = at-figure .before .before .before in
+    let st = at4 in omega (arith, st .pre .1 .room, length-2 (st .args .x), length-set (st .args .buf .now) (st .args .at) (at-figure .figure .result))
+
+add-result : tie.Need-add-result
+add-result c = search needs
+
+same-length : tie.Need-same-length
+same-length c = search needs
+
+returns : tie.Need-returns
+returns c =
+    let at-figure = c .before in
+    let at-place-of = at-figure .before in
+    let st = at-place-of .before .before in
+    let p = at-place-of .place-of in
+    wrote-last (at-figure .figure .ensures) (c .figure2 .ensures) (first-2 (st .args .x) _ _ (p .ensures .0) (p .ensures .1))
+
+pub put-2-spec : {M : Type 1} → statement M
+put-2-spec =
+    tie.close
+    (tie.spec
+    place-of-requires
+    figure-requires
+    slice-write-buf
+    figure-requires-2
+    add-buf
+    slice-write-buf-2
+    add-result
+    same-length
+    returns)

@@ -1,0 +1,19 @@
+-- How long the decimal numbers are. Assumes nothing.
+use mathlib.Core.Path.{_≡_, ap, _∙_}
+use Prim.Native.Nat.{ℕ, _+_, _/_, _≤_, _<_}
+use native.Mathlib.Omega.{arith}
+use lib.ListN.{length}
+use Rattle.terms.specs.Display.{decimal}
+use Rattle.text_digits.proofs.Laws.{digits-one, length-more}
+
+pub decimal-one : (x : ℕ) → x < 10 → length (decimal x) ≡ 1
+unfolding decimal
+decimal-one x h = ap length (digits-one 10 x h)
+
+pub decimal-two : (x : ℕ) → 10 ≤ x → x < 100 → length (decimal x) ≡ 2
+unfolding decimal
+decimal-two x h l = length-more 10 x (omega arith) h ∙ ap (λ (n : ℕ). n + 1) (decimal-one (x / 10) (omega arith))
+
+pub decimal-three : (x : ℕ) → 100 ≤ x → x < 1000 → length (decimal x) ≡ 3
+unfolding decimal
+decimal-three x h l = length-more 10 x (omega arith) (omega arith) ∙ ap (λ (n : ℕ). n + 1) (decimal-two (x / 10) (omega arith) (omega arith))

@@ -1,0 +1,39 @@
+-- `bv_shl` gives `bvshl w`, 0 where the amount is not below the width.
+use borrow.Author.Tests.{ltb-true, ltb-false, not-true, not-false}
+use native.Mathlib.Omega.{arith}
+use mathlib.Core.Path.{_≡_, sym, ap, _∙_}
+use Prim.Native.Nat.{_<_}
+use Rattle.terms.specs.Value.{bvshl}
+use Rattle.wide.specs.Number.{num}
+use Rattle.wide_bit_vectors.proofs.Laws.{shl-at, shl-none, low-is, zero-is}
+use borrow.Author.Needs.{needs}
+use Rattle.wide_bit_vectors.proofs.bv_shl.Statement.{statement}
+use Rattle.wide_bit_vectors.proofs.bv_shl.Tie as tie
+
+below-requires : tie.Need-below-requires
+below-requires c κs = search needs
+
+returns : tie.Need-returns
+returns c = zero-is ∙ shl-none _ _ _ (omega arith) (ltb-false _ _ (sym (c .before .below .ensures) ∙ not-true _ (c .if1 .taken)))
+
+-- past the test the amount is one word, below the width
+small : (c : tie.Else1) → num (c .before .before .args .t) < c .before .before .args .w
+small c = ltb-true _ _ (sym (c .before .below .ensures) ∙ not-false _ (c .if1 .left))
+
+word : (c : tie.Else1) → c .before .before .args .t .low ≡ num (c .before .before .args .t)
+word c = low-is (c .before .before .args .t) (c .before .before .args .w) (omega arith) (small c)
+
+shl-requires : tie.Need-shl-requires
+shl-requires c κs = omega (arith, word c, small c)
+
+cut-requires : tie.Need-cut-requires
+cut-requires c κs = search needs
+
+returns-2 : tie.Need-returns-2
+returns-2 c =
+    let e = c .before .before in
+    let s = e .before .before in
+    c .cut .ensures ∙ rw (c .before .shl .ensures) (shl-at _ _ _ (omega arith) ∙ ap (bvshl (s .args .w) (num (s .args .a))) (word e))
+
+pub bv-shl-spec : {M : Type 1} → statement M
+bv-shl-spec = tie.close (tie.spec below-requires returns shl-requires cut-requires returns-2)
