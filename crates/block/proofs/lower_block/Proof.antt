@@ -1,3 +1,4 @@
+-- `lower_block` meets its contract: a refusal leaves the pool, and an accepted block is the registers and then its records.
 use native.Mathlib.Omega.{arith}
 use mathlib.Core.Path.{_≡_, refl, ap}
 use Rattle.block_map.specs.declared.RegisterMap.{RegisterMap}

@@ -1,3 +1,4 @@
+-- `run_records` meets its contract: after j turns pool and map are those of the first j records.
 use native.Mathlib.Omega.{arith}
 use mathlib.Core.Path.{_≡_, refl}
 use Prim.Native.Nat.{_-_, _/_, _≤_, _<_}

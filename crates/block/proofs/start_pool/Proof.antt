@@ -1,3 +1,4 @@
+-- `start_pool` meets its contract: after r turns nodes 0 to r - 1 are the first r registers.
 use native.Mathlib.Omega.{arith}
 use mathlib.Core.Path.{_≡_, subst}
 use Prim.Native.Nat.{ℕ, _-_, _≤_}

@@ -1,3 +1,4 @@
+-- `lower_record` meets its contract: the reads, the form and the widening are the step of `Steps`.
 use native.Mathlib.Omega.{arith}
 use mathlib.Core.Path.{_≡_, refl, _∙_}
 use Prim.Native.Nat.{_+_, _<_}

@@ -1,3 +1,4 @@
+-- `chosen_ok` meets its contract: both its tests are those of `chosenOk`.
 use borrow.Author.Tests.{lt-ltb, le-ltb}
 use native.Mathlib.Omega.{arith}
 use borrow.Author.Needs.{needs}

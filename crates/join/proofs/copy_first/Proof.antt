@@ -1,3 +1,4 @@
+-- `copy_first` meets its contract: after i turns i words are the first pool's, and the others are as they were.
 use Rattle.join.proofs.Checks.{half-none, half-more}
 use Rattle.join.specs.Join.{Half}
 use Prim.Native.Nat.{_≤_, _-_, _*_}

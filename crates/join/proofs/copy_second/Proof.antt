@@ -1,3 +1,4 @@
+-- `copy_second` meets its contract: before node m the words are those of `joinWord`.
 use Rattle.join.proofs.Copies.{start-at, second-at, from-half, word-small}
 use Rattle.join.specs.Join.{SecondAt}
 use lib.ListN.{length}

@@ -1,3 +1,4 @@
+-- `join` meets its contract: a refusal writes nothing, and past it every word is that of `joinWord`.
 use native.Mathlib.Omega.{arith}
 use mathlib.Core.Path.{_≡_}
 use borrow.Author.Needs.{needs}

@@ -1,3 +1,4 @@
+-- `join_number` meets its contract: what holds past each test, and the number that each test gives.
 use mathlib.Core.Bool.{true, _&&_}
 use mathlib.Core.Path.{_≡_, sym, _∙_}
 use native.Mathlib.Omega.{arith}

@@ -1,3 +1,4 @@
+-- `move_one` meets its contract: the four words of one node of the second pool, renumbered.
 use Rattle.join.specs.Join.{movedWord}
 use Rattle.pool.specs.Node.{writeNode, wordAt}
 use lib.ListN.{getD}

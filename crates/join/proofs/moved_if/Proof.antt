@@ -1,3 +1,4 @@
+-- `moved_if` meets its contract: a register keeps its number, another operand rises by the first pool's nodes.
 use Rattle.join.proofs.Checks.{moved-there, moved-not}
 use native.Mathlib.Omega.{arith}
 use borrow.Author.Needs.{needs}

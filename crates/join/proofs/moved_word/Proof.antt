@@ -1,3 +1,4 @@
+-- `moved_word` meets its contract: each of the three operands that the kind has is renumbered.
 use mathlib.Core.Bool.{Bool}
 use mathlib.Core.Path.{ap, _∙_}
 use Rattle.pool.specs.Node.{aOf, bOf, cOf, operandWord}

@@ -1,3 +1,4 @@
+-- `put_eq` meets its contract: the Eq's words, with the registers of both terms.
 use Rattle.pool.specs.Node.{operandWord, kindWord}
 use lib.Bits.{bitOr, or-lt}
 use mathlib.Core.Path.{ap₂}

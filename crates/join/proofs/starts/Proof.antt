@@ -1,3 +1,4 @@
+-- `starts` meets its contract: after n turns the first n nodes keep `varRule`.
 use Rattle.join.proofs.Checks.{rules-none, rules-more, rules-bad, not-ok, too-few, not-var, all-good}
 use Rattle.join.specs.Starts.{varRules}
 use Rattle.pool.specs.Rules.{okPool}

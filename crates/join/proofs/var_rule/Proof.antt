@@ -1,3 +1,4 @@
+-- `var_rule` meets its contract: below 32 Var n, from 32 on no Var.
 use borrow.Author.Tests.{lt-ltb, le-ltb}
 use native.Mathlib.Omega.{arith}
 use borrow.Author.Needs.{needs}

@@ -1,3 +1,4 @@
+-- `field` meets its contract: the number that four characters show.
 use native.Mathlib.Omega.{arith}
 use Rattle.line_columns.specs.Columns.{fieldAt}
 use borrow.Author.Needs.{needs}

@@ -1,3 +1,4 @@
+-- `put_columns` meets its contract: the four characters of `written` are put.
 use mathlib.Core.Path.{sym}
 use Rattle.text_digits.proofs.Laws.{room-as, wrote-as}
 use borrow.Author.Needs.{needs}

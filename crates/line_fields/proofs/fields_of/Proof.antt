@@ -1,3 +1,4 @@
+-- `fields_of` meets its contract: each of the six numbers is that of its four columns.
 use borrow.Author.Needs.{needs}
 use Rattle.line_fields.proofs.fields_of.Statement.{statement}
 use Rattle.line_fields.proofs.fields_of.Tie as tie

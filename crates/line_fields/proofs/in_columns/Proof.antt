@@ -1,3 +1,4 @@
+-- `in_columns` meets its contract: 24 characters, and six fields that are in columns.
 use mathlib.Core.Path.{sym}
 use borrow.Author.Tests.{eq-eqb, ne-eqb}
 use Rattle.line_fields.specs.Fields.{inColumns}

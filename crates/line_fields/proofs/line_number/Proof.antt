@@ -1,3 +1,4 @@
+-- `line_number` meets its contract: 10 exactly for a line that is not in columns.
 use mathlib.Core.Path.{sym}
 use Rattle.line_fields.specs.Fields.{lineNumber}
 use borrow.Author.Needs.{needs}

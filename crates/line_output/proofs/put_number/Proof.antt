@@ -1,3 +1,4 @@
+-- `put_number` meets its contract: four columns and a newline.
 use native.Mathlib.Omega.{arith}
 use Rattle.text_digits.proofs.Laws.{wrote-then, wrote-length}
 use Rattle.line_output.proofs.Texts.{length-columns}

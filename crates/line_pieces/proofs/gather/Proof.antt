@@ -1,3 +1,4 @@
+-- `gather` meets its contract: at each turn what is held and what is left of the piece are what there was.
 use Prim.Native.Nat.{_+_, _-_}
 use Rattle.line_pieces.proofs.Gathering.{Same, drop-next, same-start, at-end, at-newline, same-held, same-full}
 use native.Mathlib.Omega.{arith}

@@ -1,3 +1,4 @@
+-- `multiply_high_lane` meets its contract: its builders, call by call, make the tree of the doubled product's high half.
 use native.Mathlib.Omega.{arith}
 use Rattle.facts.proofs.Numbers.{half-fits}
 use Rattle.pool.specs.Growth.{Room}

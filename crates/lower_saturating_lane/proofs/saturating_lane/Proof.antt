@@ -1,3 +1,4 @@
+-- `saturating_lane` meets its contract: each kind's builder makes the tree of that kind.
 use native.Mathlib.Omega.{arith}
 use mathlib.Core.Path.{subst}
 use Rattle.trees.specs.declared.SaturatingKind.{SaturatingKind}

@@ -1,3 +1,4 @@
+-- `neon_lower_instruction` meets its contract: it hands on what `lower_instruction` promises.
 use borrow.Author.Needs.{needs}
 use Rattle.neon_terms.proofs.neon_lower_instruction.Statement.{statement}
 use Rattle.neon_terms.proofs.neon_lower_instruction.Tie as tie

@@ -1,3 +1,4 @@
+-- `push` meets its contract: the four words are written at the node's place, and nothing else.
 use lib.ListN.{length-set}
 use native.Mathlib.Omega.{arith}
 use borrow.Author.Needs.{needs}

@@ -1,3 +1,4 @@
+-- `left` meets its contract: the second operand of an Ite, else the first.
 use mathlib.Core.Path.{_∙_, sym}
 use borrow.Author.Tests.{eq-eqb, ne-eqb}
 use borrow.Author.Needs.{needs}

@@ -1,3 +1,4 @@
+-- `right` meets its contract: the third operand of an Ite, else the second.
 use mathlib.Core.Path.{_∙_, sym}
 use borrow.Author.Tests.{eq-eqb, ne-eqb}
 use borrow.Author.Needs.{needs}

@@ -1,3 +1,4 @@
+-- `bv` meets its contract: the words of an operator's node, and its term.
 use Rattle.pool_nodes.proofs.Nodes.{bv-built}
 use borrow.Author.Needs.{needs}
 use Rattle.pool_nodes.proofs.bv.Statement.{statement}

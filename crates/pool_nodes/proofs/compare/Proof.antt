@@ -1,3 +1,4 @@
+-- `compare` meets its contract: the words of a comparison's node, and its term.
 use Rattle.pool_nodes.proofs.Nodes.{compare-built}
 use borrow.Author.Needs.{needs}
 use Rattle.pool_nodes.proofs.compare.Statement.{statement}

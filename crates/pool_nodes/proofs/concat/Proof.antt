@@ -1,3 +1,4 @@
+-- `concat` meets its contract: the words of a Concat, as wide as both operands, and its term.
 use Rattle.pool_nodes.proofs.Nodes.{concat-built}
 use borrow.Author.Needs.{needs}
 use Rattle.pool_nodes.proofs.concat.Statement.{statement}

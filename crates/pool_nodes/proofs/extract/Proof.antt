@@ -1,3 +1,4 @@
+-- `extract` meets its contract: the words of an Extract of hi - lo + 1 bits, and its term.
 use Rattle.pool_nodes.proofs.Nodes.{extract-built}
 use borrow.Author.Needs.{needs}
 use Rattle.pool_nodes.proofs.extract.Statement.{statement}

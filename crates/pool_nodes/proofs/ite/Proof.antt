@@ -1,3 +1,4 @@
+-- `ite` meets its contract: the words of an Ite, with the registers of all three operands, and its term.
 use native.Mathlib.Omega.{arith}
 use mathlib.Core.Path.{ap₂}
 use lib.Bits.{bitOr, or-lt}

@@ -1,3 +1,4 @@
+-- `konst` meets its contract: the words of a Const, and its term.
 use Rattle.pool_nodes.proofs.Nodes.{const-built}
 use borrow.Author.Needs.{needs}
 use Rattle.pool_nodes.proofs.konst.Statement.{statement}

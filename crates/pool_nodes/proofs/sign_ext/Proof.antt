@@ -1,3 +1,4 @@
+-- `sign_ext` meets its contract: the words of a SignExtend, and its term.
 use Rattle.pool_nodes.proofs.Nodes.{sext-built}
 use borrow.Author.Needs.{needs}
 use Rattle.pool_nodes.proofs.sign_ext.Statement.{statement}

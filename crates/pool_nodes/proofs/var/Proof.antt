@@ -1,3 +1,4 @@
+-- `var` meets its contract: the words of a Var, whose set is its own register, and its term.
 use lib.Pow.{pow-lt}
 use Rattle.facts.proofs.Numbers.{shifted}
 use native.Mathlib.Omega.{arith}

@@ -1,3 +1,4 @@
+-- `zero_ext` meets its contract: the words of a ZeroExtend, and its term.
 use Rattle.pool_nodes.proofs.Nodes.{zext-built}
 use borrow.Author.Needs.{needs}
 use Rattle.pool_nodes.proofs.zero_ext.Statement.{statement}

@@ -1,3 +1,4 @@
+-- `buffers` is safe and ends: six buffers are tried, and the lent one keeps its length.
 use borrow.Author.Needs.{needs}
 use mathlib.Core.Path.{_≡_}
 use Prim.Native.Nat.{_-_}

@@ -1,3 +1,4 @@
+-- `build` is safe and ends: the node number stays between 1 and 65,535.
 use borrow.Author.Needs.{needs}
 use Prim.Native.Nat.{_≤_, _-_}
 use Rattle.test_extremes.proofs.build.Statement.{statement}

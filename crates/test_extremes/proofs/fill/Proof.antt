@@ -1,3 +1,4 @@
+-- `fill` is safe and ends: every byte is written once.
 use borrow.Author.Needs.{needs}
 use native.Mathlib.Omega.{arith}
 use Prim.Native.Nat.{_≤_, _-_}

@@ -1,3 +1,4 @@
+-- `main` is safe and ends: the turns are counted down.
 use borrow.Author.Needs.{needs}
 use Rattle.test_extremes.proofs.main.Statement.{statement}
 use Rattle.test_extremes.proofs.main.Tie as tie

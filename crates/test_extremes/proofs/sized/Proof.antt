@@ -1,3 +1,4 @@
+-- `sized` is safe: the part of the buffer that it lends is in it.
 use mathlib.Core.Path.{sym}
 use native.Mathlib.Omega.{arith}
 use lib.Seq.{length-take-le}

@@ -1,3 +1,4 @@
+-- `sum` is safe and ends: both sums stay below 65,521.
 use borrow.Author.Needs.{needs}
 use Prim.Native.Nat.{_≤_, _<_, _-_}
 use lib.ListN.{length}

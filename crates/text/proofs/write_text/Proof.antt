@@ -1,3 +1,4 @@
+-- `write_text` meets its contract: what holds past each test, and the number, the length and the buffer at each return.
 use mathlib.Core.Bool.{true}
 use mathlib.Core.Path.{_≡_, sym, _∙_}
 use Prim.Native.Nat.{_≤_, _<_}

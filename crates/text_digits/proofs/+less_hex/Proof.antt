@@ -1,3 +1,4 @@
+-- `less_hex` meets its contract: the number falls at each call, by one digit.
 use mathlib.Core.Path.{sym, _∙_}
 use native.Mathlib.Omega.{arith}
 use borrow.Author.Needs.{needs}

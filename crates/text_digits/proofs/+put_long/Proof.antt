@@ -1,3 +1,4 @@
+-- `put_long` meets its contract: the number falls at each call, and its last digit is written after the others.
 use mathlib.Core.Path.{_≡_, ap}
 use native.Mathlib.Omega.{arith}
 use borrow.Author.Needs.{needs}

@@ -1,3 +1,4 @@
+-- `put_sixteens` meets its contract: the number falls at each call, and its last digit is written after the others.
 use mathlib.Core.Path.{_≡_, sym, _∙_, subst}
 use native.Mathlib.Omega.{arith}
 use lib.ListN.{length, set, length-set}

@@ -1,3 +1,4 @@
+-- `decimal_digit` meets its contract: the character of a digit below 10.
 use borrow.Author.Needs.{needs}
 use borrow.Author.Tests.{lt-ltb}
 use Rattle.text_digits.proofs.decimal_digit.Statement.{statement}

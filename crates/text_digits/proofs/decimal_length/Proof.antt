@@ -1,3 +1,4 @@
+-- `decimal_length` meets its contract: one, two or three digits.
 use native.Mathlib.Omega.{arith}
 use mathlib.Core.Logic.{⊎-elim}
 use Rattle.text_digits.proofs.Lengths.{decimal-one, decimal-two, decimal-three}

@@ -1,3 +1,4 @@
+-- `hex_digit` meets its contract: 0 to 9, then a to f.
 use borrow.Author.Needs.{needs}
 use borrow.Author.Tests.{le-ltb}
 use Rattle.text_digits.proofs.hex_digit.Statement.{statement}

@@ -1,3 +1,4 @@
+-- `one_digit` meets its contract: the high word is 0 and the low one below 16.
 use Prim.Native.Nat.{ℕ}
 use mathlib.Core.Path.{_≡_, refl, sym}
 use mathlib.Core.Bool.{Bool, true, false, _&&_}

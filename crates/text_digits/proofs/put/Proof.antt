@@ -1,3 +1,4 @@
+-- `put` meets its contract: after j turns the first j bytes are written.
 use mathlib.Core.List.{List}
 use native.Mathlib.Numerals.{add-one}
 use lib.Seq.{take-suc, take-all, length-take-le}

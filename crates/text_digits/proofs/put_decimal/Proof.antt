@@ -1,3 +1,4 @@
+-- `put_decimal` meets its contract: one digit here, more in `put_tens`.
 use mathlib.Core.Path.{ap}
 use native.Mathlib.Omega.{arith}
 use lib.ListN.{length}

@@ -1,3 +1,4 @@
+-- `less_node` meets its contract: the node number falls at every call, and the lengths of the parts are taken off in turn.
 use mathlib.Core.Bool.{true, false}
 use mathlib.Core.List.{List}
 use mathlib.Core.Logic.{⊎-elim}

@@ -1,3 +1,4 @@
+-- `length_to` meets its contract: what was taken off the ceiling and one is the length.
 use native.Mathlib.Omega.{arith}
 use borrow.Author.Needs.{needs}
 use Rattle.text_length.proofs.length_to.Statement.{statement}

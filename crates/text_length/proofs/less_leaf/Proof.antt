@@ -1,3 +1,4 @@
+-- `less_leaf` meets its contract: the length of a Var's or a Const's text is taken off.
 use native.Mathlib.Omega.{arith}
 use Rattle.text_parts.proofs.Operands.{is-const, register-small, width-small}
 use Rattle.text_length.proofs.Sizes.{size-var, size-const}

@@ -1,3 +1,4 @@
+-- `less_single` meets its contract: the length of what stands after an only operand is taken off.
 use native.Mathlib.Omega.{arith}
 use Rattle.text_parts.proofs.Operands.{is-single, from-18, range-small, width-small}
 use Rattle.text_length.proofs.Sizes.{about-extract, about-extend}

@@ -1,3 +1,4 @@
+-- `node_number` meets its contract: 1, then 5, then 0.
 use mathlib.Core.Path.{_≡_, sym, _∙_}
 use borrow.Author.Tests.{not-true, not-false}
 use Rattle.text_length.proofs.Answers.{bad-pool, bad-node, good-node}

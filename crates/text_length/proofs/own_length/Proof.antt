@@ -1,3 +1,4 @@
+-- `own_length` meets its contract: the characters of a node that are not its operands'.
 use mathlib.Core.Path.{_≡_, ap}
 use native.Mathlib.Omega.{arith}
 use lib.ListN.{length}

@@ -1,3 +1,4 @@
+-- `text_length` meets its contract: the number, and the length where nothing is refused.
 use mathlib.Core.Path.{_≡_, sym, _∙_}
 use native.Mathlib.Omega.{arith}
 use Rattle.text_length.specs.Answer.{nodeNumber}

@@ -1,3 +1,4 @@
+-- `operator_length` meets its contract: three, four or five characters, by the kind.
 use native.Mathlib.Omega.{arith}
 use mathlib.Core.Path.{sym}
 use Rattle.text_operators.proofs.Lengths.{operator-three, operator-shl, operator-shr, operator-compare}

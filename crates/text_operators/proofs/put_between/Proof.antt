@@ -1,3 +1,4 @@
+-- `put_between` meets its contract: each kind's operator, or the comma of an Ite or a Concat.
 use Prim.Native.Nat.{ℕ, _≤_}
 use mathlib.Core.Path.{_≡_}
 use mathlib.Core.Logic.{⊎-elim}

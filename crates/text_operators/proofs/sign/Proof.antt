@@ -1,3 +1,4 @@
+-- `sign` meets its contract: the operator's one character, by the kind.
 use mathlib.Core.Path.{_≡_}
 use native.Mathlib.Omega.{arith}
 use Rattle.pool.specs.Node.{kindAt, kinds}

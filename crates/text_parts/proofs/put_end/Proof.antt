@@ -1,3 +1,4 @@
+-- `put_end` meets its contract: the bits of an Extract, or the width of an extension.
 use mathlib.Core.Path.{_≡_}
 use Rattle.text_digits.specs.Writing.{Room}
 use Rattle.text_digits.proofs.Laws.{room-front, room-step, room-as, wrote-then, wrote-as}

@@ -1,3 +1,4 @@
+-- `put_leaf` meets its contract: the text of a Var or of a Const.
 use mathlib.Core.Path.{_≡_, refl}
 use Prim.Native.Nat.{ℕ}
 use Rattle.terms.specs.Expr.{Var, Const}

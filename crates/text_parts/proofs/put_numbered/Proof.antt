@@ -1,3 +1,4 @@
+-- `put_numbered` meets its contract: a character and a decimal number.
 use Rattle.text_digits.proofs.Laws.{room-step, wrote-byte, wrote-then, wrote-length}
 use borrow.Author.Needs.{needs}
 use Rattle.text_parts.proofs.put_numbered.Statement.{statement}

@@ -1,3 +1,4 @@
+-- `put_value` meets its contract: 0x and the hexadecimal digits.
 use Rattle.text_digits.proofs.Laws.{wrote-then}
 use borrow.Author.Needs.{needs}
 use Rattle.text_parts.proofs.put_value.Statement.{statement}

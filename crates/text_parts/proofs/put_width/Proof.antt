@@ -1,3 +1,4 @@
+-- `put_width` meets its contract: a comma, the width, a closing bracket.
 use Rattle.text_digits.proofs.Laws.{room-front, room-step, wrote-then}
 use borrow.Author.Needs.{needs}
 use Rattle.text_parts.proofs.put_width.Statement.{statement}

@@ -1,3 +1,4 @@
+-- `RegisterMap::initial` meets its contract: after r turns the first r registers have the nodes of their own numbers.
 use native.Mathlib.Omega.{arith}
 use mathlib.Core.Path.{_≡_, refl, ap, _∙_}
 use mathlib.Core.List.{List}

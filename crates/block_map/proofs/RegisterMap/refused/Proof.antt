@@ -1,3 +1,4 @@
+-- `RegisterMap::refused` meets its contract: it is `noMap`.
 use borrow.Author.Needs.{needs}
 use Rattle.block_map.proofs.RegisterMap.refused.Statement.{statement}
 use Rattle.block_map.proofs.RegisterMap.refused.Tie as tie

@@ -1,3 +1,4 @@
+-- `narrowed` meets its contract: without saturation the low bits, else the clamp.
 use Rattle.lower_saturating_lane.proofs.Narrowing.{narrowed-never, narrowed-into}
 use borrow.Author.Needs.{needs}
 use Rattle.lower_saturating_lane.proofs.narrow.narrowed.Statement.{statement}

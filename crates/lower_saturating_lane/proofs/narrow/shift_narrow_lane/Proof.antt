@@ -1,3 +1,4 @@
+-- `shift_narrow_lane` meets its contract: the shift at the wide width, then the narrowing.
 use native.Mathlib.Omega.{arith}
 use Prim.Native.Nat.{_+_, _*_}
 use Rattle.lower_saturating_lane.proofs.Narrowing.{shift-narrow}

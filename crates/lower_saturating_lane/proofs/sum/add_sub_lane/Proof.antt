@@ -1,3 +1,4 @@
+-- `add_sub_lane` meets its contract: both operands extended, the sum or difference, the clamp.
 use Rattle.lower_saturating_lane.proofs.Adding.{add-sub}
 use borrow.Author.Needs.{needs}
 use Rattle.lower_saturating_lane.proofs.sum.add_sub_lane.Statement.{statement}

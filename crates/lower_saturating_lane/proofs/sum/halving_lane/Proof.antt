@@ -1,3 +1,4 @@
+-- `halving_lane` meets its contract: the sum with a bit more, the rounding, the shift, the low bits.
 use native.Mathlib.Omega.{arith}
 use Prim.Native.Nat.{_+_}
 use Rattle.lower_saturating_lane.proofs.Adding.{one-fits, halving}

@@ -1,3 +1,4 @@
+-- `negated` meets its contract: 0 less the value, chosen by the value's sign where the kind is SQABS.
 use Rattle.lower_saturating_lane.proofs.Adding.{opposite, absolute}
 use borrow.Author.Needs.{needs}
 use Rattle.lower_saturating_lane.proofs.unary.negated.Statement.{statement}

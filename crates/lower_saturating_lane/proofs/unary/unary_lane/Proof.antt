@@ -1,3 +1,4 @@
+-- `unary_lane` meets its contract: the extended value, negated, then the clamp.
 use Rattle.lower_saturating_lane.proofs.Adding.{unary}
 use borrow.Author.Needs.{needs}
 use Rattle.lower_saturating_lane.proofs.unary.unary_lane.Statement.{statement}

@@ -1,3 +1,4 @@
+-- `width_of` meets its contract: the bits 16 to 31 of word 0.
 use Prim.Native.Nat.{_*_}
 use mathlib.Core.Path.{refl}
 use native.Mathlib.Omega.{arith}
