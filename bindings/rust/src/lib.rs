@@ -27,10 +27,10 @@ mod value;
 mod words;
 
 pub use canonical::Term;
-pub use words_encoding::Block;
+pub use encoding::Block;
 pub use operation::{Arrangement, Operation};
 pub use registers::Registers;
-pub use trees_value::Value;
+pub use value::Value;
 pub use words::{Kind, Node, Nodes, RegisterSet, View};
 
 use std::fmt;
