@@ -1,4 +1,4 @@
-//! Times the library's operations: `bench ROUNDS ORACLE LANES FORMS`, the best of ROUNDS passes each, as `oracle-bench bench`
+//! Times the library's operations: `bench ROUNDS ORACLE LANES FORMS RUN SCRIPT`, the best of ROUNDS passes each, as `oracle-bench bench`
 //! takes it, of blocks and of the programs of a quarter as many. Writes a line `name value` for each figure; bench/run makes the table.
 
 #[path = "../tests/rust/native.rs"]
@@ -380,4 +380,8 @@ fn main() {
     }
     println!("program {:.0}\nprogram-rust {:.0}", ours / 1000.0, rust / 1000.0);
     println!("listing {:.0}", program(rounds.div_ceil(4), &[&arguments[3]], &[]) / 1000.0);
+    // one block of as many records as a block may have, from all over the list
+    let block: Vec<u8> = list.chunks(25).step_by(all.len() / MOST_RECORDS).take(MOST_RECORDS).flatten().copied().collect();
+    println!("run-program {:.0}", program(rounds.div_ceil(4), &[&arguments[4], "examples/start.txt"], &block) / 1000.0);
+    println!("script-program {:.0}", program(rounds.div_ceil(4), &[&arguments[5], "0", "1"], &block) / 1000.0);
 }
