@@ -2,17 +2,16 @@
 use mathlib.Core.List.{List}
 use mathlib.Core.Path.{_≡_}
 use Prim.Native.Nat.{ℕ, zero, suc, _≤_}
-use lib.Dec.{ltb, leb}
+use lib.Dec.{leb}
 use Rattle.facts.specs.Refuse.{unless}
-use Rattle.pool.specs.Rules.{poolOk}
+use Rattle.pool.specs.Rules.{nodeNumber}
 use Rattle.wide.specs.Number.{words}
 use Rattle.evaluate.specs.declared.Evaluated.{Evaluated}
 use Rattle.evaluate.specs.Visits.{valueAt, visitsAt}
 
 -- 11 where the definition's visits are more than the allowance
 abbrev pub evaluateNumber : List ℕ → List ℕ → (count n allowance : ℕ) → ℕ
-evaluateNumber ws regs count n allowance =
-    unless (poolOk ws count) 1 (unless (ltb n count) 5 (unless (leb (visitsAt ws regs n) allowance) 11 0))
+evaluateNumber ws regs count n allowance = nodeNumber ws count n (unless (leb (visitsAt ws regs n) allowance) 11 0)
 
 -- what comes back, by the number: 0 with a refusal
 abbrev pub byNumber : (number x : ℕ) → ℕ

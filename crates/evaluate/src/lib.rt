@@ -2,7 +2,7 @@
 use pool::Node;
 use pool::words::kind_of;
 use pool::words::width_of;
-use pool_check::pool_check;
+use pool_check::node_number;
 use pool_fields::first;
 use pool_fields::high;
 use pool_fields::low;
@@ -225,11 +225,9 @@ pub fn evaluate(
 ) -> Evaluated
     ensures { λ r. ⌜ Answered (now (pool .entry)) (now (start .entry)) count node allowance r ⌝ }
 {
-    if !pool_check(pool, count) {
-        return refused(1);
-    }
-    if count <= node {
-        return refused(5);
+    let number = node_number(pool, count, node);
+    if 0 < number {
+        return refused(number);
     }
     words_of(start);
     let mut out = [0; 3];
@@ -238,7 +236,7 @@ pub fn evaluate(
         return refused(11);
     }
     Evaluated {
-        number: 0,
+        number,
         low: out[0],
         high: out[1],
         top: out[2],

@@ -5,6 +5,7 @@ use mathlib.Core.Path.{_≡_}
 use Prim.Native.Nat.{ℕ, zero, suc, _+_, _-_, _^_}
 use lib.Dec.{ltb, leb, eqb}
 use lib.Bits.{bitOr}
+use Rattle.facts.specs.Refuse.{unless}
 use Rattle.pool.specs.Node.{Kind, bad, var, const, bv, compare, ite, extract, concat, zext, sext, Cell, cellAt, widthAt, setAt, wide, places}
 
 -- 1 to 129, the widths of a vector term
@@ -72,3 +73,7 @@ Valid ws count = okPool ws count ≡ true
 -- the answer of the pool check
 abbrev pub poolOk : List ℕ → ℕ → Bool
 poolOk ws count = leb count (places ws) && okPool ws count
+
+-- what is asked of a node: 1 for a bad pool, 5 for a node not below the count; else what follows
+abbrev pub nodeNumber : List ℕ → (count n rest : ℕ) → ℕ
+nodeNumber ws count n rest = unless (poolOk ws count) 1 (unless (ltb n count) 5 rest)

@@ -1,4 +1,4 @@
-// The pool check of document 01: whether every node below the count keeps the pool's rules.
+// The pool check of document 01: whether every node below the count keeps the pool's rules; and the numbers 1 and 5 of what is asked of a node.
 use pool::Node;
 use pool::words::kind_of;
 use pool_rules::const_ok;
@@ -11,7 +11,7 @@ ghost use mathlib.Core.Path.{_≡_};
 ghost use Prim.Native.Nat.{_+_, _*_, _<_};
 ghost use lib.ListN.{length};
 ghost use Rattle.pool.specs.Node.{none};
-ghost use Rattle.pool.specs.Rules.{okNode, poolOk};
+ghost use Rattle.pool.specs.Rules.{okNode, poolOk, nodeNumber};
 
 // Whether node n obeys the rules.
 fn node_ok(pool: &[u64], n: Node) -> bool
@@ -58,4 +58,17 @@ pub fn pool_check(pool: &[u64], count: usize) -> bool
         n += 1;
     }
     true
+}
+
+// 1 for a bad pool, 5 for a node that it has not, else 0.
+pub fn node_number(pool: &[u64], count: usize, node: usize) -> u64
+    ensures { λ r. ⌜ r ≡ nodeNumber (now (pool .entry)) count node 0 ⌝ }
+{
+    if !pool_check(pool, count) {
+        return 1;
+    }
+    if count <= node {
+        return 5;
+    }
+    0
 }

@@ -1,5 +1,5 @@
 -- The set in a valid node's word 0 is what the walk over its tree finds. Assumes nothing.
-use mathlib.Core.Path.{_≡_, refl, ap, ap₂, _∙_}
+use mathlib.Core.Path.{_≡_, refl, sym, ap, ap₂, _∙_}
 use mathlib.Core.List.{List}
 use Prim.Native.Nat.{ℕ, zero, suc, _+_, _*_, _≤_, _<_}
 use native.Mathlib.Omega.{arith}
@@ -8,13 +8,13 @@ use mathlib.Core.Bool.{true, false, false≢true}
 use lib.Dec.{ltb, leb}
 use lib.ListN.{length}
 use lib.Bits.{bitOr}
-use borrow.Author.Tests.{lt-ltb, le-ltb, leb-true}
+use borrow.Author.Tests.{lt-ltb, leb-true}
 use Rattle.facts.proofs.Tests.{and-both}
 use Rattle.terms.specs.Expr.{Expr}
 use Rattle.terms.specs.Registers.{registers}
 use Rattle.pool.specs.Node.{Kind, bad, var, const, bv, compare, ite, extract, concat, zext, sext, Cell, cellAt, setAt, decode, places}
-use Rattle.pool.specs.Rules.{okKind, widthBefore, setOver, setBefore, okPool, poolOk, Valid}
-use Rattle.pool_registers.specs.Answer.{Named}
+use Rattle.pool.specs.Rules.{okKind, widthBefore, setOver, setBefore, okPool, poolOk, nodeNumber, Valid}
+use Rattle.pool_registers.specs.Answer.{setBy, Named}
 use Rattle.pool.specs.Unfold.{shapeOf, earlier, unfoldTo, unfoldAt}
 use Rattle.pool.proofs.Facts.{valid-node, valid-set}
 use Rattle.pool_rules.proofs.Kept.{bv-tests, compare-tests, ite-tests, extract-tests, concat-tests, zext-tests}
@@ -51,18 +51,19 @@ module _ (ws : List ℕ) (count : ℕ) (v : Valid ws count) where
 
 -- ---- what `registers_of` answers, by the way that it took
 module _ (ws : List ℕ) (count n : ℕ) where
-  pub refused-pool : poolOk ws count ≡ false → Named ws count n 1 0
-  refused-pool h = record { number-is = rw h; set-is = rw h }
-
-  pub refused-node : poolOk ws count ≡ true → count ≤ n → Named ws count n 5 0
-  refused-node h l = record { number-is = rw (h, le-ltb n count l); set-is = rw (h, le-ltb n count l) }
+  pub refused : (k : ℕ) → k ≡ nodeNumber ws count n 0 → 0 < k → Named ws count n k 0
+  refused k e h = record { number-is = e; set-is = rw (← e) (none k _ h) }
+    where
+      none : (k s : ℕ) → 0 < k → 0 ≡ setBy k s
+      none zero s h = absurd (omega (arith, h))
+      none (suc k) s h = refl
 
   pub inside : poolOk ws count ≡ true → n < count → 4 * n + 3 < length ws
   inside h l =
       let m : count ≤ places ws = leb-true _ _ (and-both (leb count (places ws)) (okPool ws count) h .0) in
       omega arith
 
-  pub told : {s : ℕ} → poolOk ws count ≡ true → n < count → s ≡ setAt ws n → Named ws count n 0 s
-  told h l e =
+  pub told : {k s : ℕ} → k ≡ nodeNumber ws count n 0 → k ≡ 0 → poolOk ws count ≡ true → n < count → s ≡ setAt ws n → Named ws count n k s
+  told i z h l e =
       let v : Valid ws count = and-both (leb count (places ws)) (okPool ws count) h .1 in
-      record { number-is = rw (h, lt-ltb n count l); set-is = rw (h, lt-ltb n count l) (e ∙ walk-is ws count v n l) }
+      record { number-is = i; set-is = rw (sym i ∙ z) (e ∙ walk-is ws count v n l) }

@@ -2,14 +2,9 @@
 use mathlib.Core.List.{List}
 use mathlib.Core.Path.{_≡_}
 use Prim.Native.Nat.{ℕ, zero, suc}
-use lib.Dec.{ltb}
-use Rattle.facts.specs.Refuse.{unless}
 use Rattle.terms.specs.Registers.{registers}
-use Rattle.pool.specs.Rules.{poolOk}
+use Rattle.pool.specs.Rules.{nodeNumber}
 use Rattle.pool.specs.Unfold.{unfoldAt}
-
-abbrev pub setNumber : List ℕ → (count n : ℕ) → ℕ
-setNumber ws count n = unless (poolOk ws count) 1 (unless (ltb n count) 5 0)
 
 -- the empty set comes back with a refusal
 abbrev pub setBy : (number set : ℕ) → ℕ
@@ -17,5 +12,5 @@ setBy zero s = s
 setBy (suc k) s = 0
 
 pub record Named (ws : List ℕ) (count n : ℕ) (number set : ℕ) : Type 0 where
-  pub number-is : number ≡ setNumber ws count n
-  pub set-is : set ≡ setBy (setNumber ws count n) (registers (unfoldAt ws n))
+  pub number-is : number ≡ nodeNumber ws count n 0
+  pub set-is : set ≡ setBy (nodeNumber ws count n 0) (registers (unfoldAt ws n))

@@ -1,7 +1,7 @@
 // Which registers a term reads (document 02, S-4): past the pool check one word of one node.
 use pool::Node;
 use pool::words::set_of;
-use pool_check::pool_check;
+use pool_check::node_number;
 ghost use Rattle.pool_registers.specs.Answer.{Named};
 
 // The number, and the registers beneath the node, bit r for register r.
@@ -14,14 +14,12 @@ pub struct RegisterSet {
 pub fn registers_of(pool: &[u64], count: usize, node: usize) -> RegisterSet
     ensures { λ r. ⌜ Named (now (pool .entry)) count node (r .number) (r .set) ⌝ }
 {
-    if !pool_check(pool, count) {
-        return RegisterSet { number: 1, set: 0 };
-    }
-    if count <= node {
-        return RegisterSet { number: 5, set: 0 };
+    let number = node_number(pool, count, node);
+    if 0 < number {
+        return RegisterSet { number, set: 0 };
     }
     RegisterSet {
-        number: 0,
+        number,
         set: set_of(pool, Node(node)),
     }
 }

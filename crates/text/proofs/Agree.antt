@@ -4,9 +4,10 @@ use mathlib.Core.List.{List, _++_}
 use Prim.Native.Nat.{ℕ, _+_, min, _≤_, _<_}
 use native.Mathlib.Omega.{arith}
 use lib.ListN.{length, drop}
+use Rattle.pool.specs.Rules.{nodeNumber}
+use Rattle.pool_check.proofs.Number.{good-node, accepted}
 use Rattle.text_parts.specs.Text.{text}
-use Rattle.text_length.specs.Answer.{nodeNumber, lengthBy, Measured}
-use Rattle.text_length.proofs.Answers.{good-node, accepted}
+use Rattle.text_length.specs.Answer.{lengthBy, Measured}
 use Rattle.text.specs.Answer.{textNumber, bufferBy}
 use Rattle.text.specs.Agree.{WrittenMeasured, MeasuredWritten, ShorterRefused}
 use Rattle.text.proofs.Answers.{short, fits}

@@ -10,11 +10,11 @@ use lib.ListN.{length, drop}
 use lib.Seq.{sets-eq}
 use borrow.Author.Tests.{le-leb, lt-leb}
 use Rattle.facts.specs.Refuse.{unless}
-use Rattle.pool.specs.Rules.{poolOk}
+use Rattle.pool.specs.Rules.{poolOk, nodeNumber}
+use Rattle.pool_check.proofs.Number.{good-node, first-refusal}
 use Rattle.text_digits.specs.Writing.{Wrote}
 use Rattle.text_parts.specs.Text.{text}
-use Rattle.text_length.specs.Answer.{nodeNumber}
-use Rattle.text_length.proofs.Answers.{good-node, no-length}
+use Rattle.text_length.proofs.Answers.{no-length}
 use Rattle.text.specs.Answer.{textNumber, bufferBy, Answered}
 
 none : {A : Type 0} → 0 < 0 → A
@@ -25,12 +25,6 @@ pub no-text : (number : ℕ) (s old : List ℕ) → 0 < number → bufferBy numb
 no-text zero s old h = none h
 no-text (suc k) s old h = refl
 
--- a bad pool and a bad node are refused whatever follows
-first-refusal : (good inside : Bool) (rest : ℕ) → 0 < unless good 1 (unless inside 5 0) → unless good 1 (unless inside 5 0) ≡ unless good 1 (unless inside 5 rest)
-first-refusal false inside rest h = refl
-first-refusal true false rest h = refl
-first-refusal true true rest h = none h
-
 -- a text at the front of a buffer, and the bytes after it
 pub in-front : {old new s : List ℕ} {end : ℕ} → Wrote old 0 s end new → length s ≤ length old → new ≡ s ++ drop (length s) old
 in-front {old} {new} {s} w h =
@@ -38,7 +32,7 @@ in-front {old} {new} {s} w h =
 
 module _ (ws : List ℕ) (count n : ℕ) where
   pub bad : (room : ℕ) → 0 < nodeNumber ws count n 0 → nodeNumber ws count n 0 ≡ textNumber ws count n room
-  bad room h = first-refusal (poolOk ws count) (ltb n count) (unless (leb (length (text ws n)) room) 9 0) h
+  bad room h = first-refusal ws count n (unless (leb (length (text ws n)) room) 9 0) h
 
   pub short : (room : ℕ) → poolOk ws count ≡ true → n < count → room < length (text ws n) → textNumber ws count n room ≡ 9
   short room h l s = good-node ws count n _ h l ∙ rw (lt-leb (length (text ws n)) room s)

@@ -5,8 +5,9 @@ use Prim.Native.Nat.{ℕ, zero, suc}
 use lib.Dec.{leb}
 use lib.ListN.{length, drop}
 use Rattle.facts.specs.Refuse.{unless}
+use Rattle.pool.specs.Rules.{nodeNumber}
 use Rattle.text_parts.specs.Text.{text}
-use Rattle.text_length.specs.Answer.{nodeNumber, lengthBy}
+use Rattle.text_length.specs.Answer.{lengthBy}
 
 -- 9 for a text longer than the buffer
 abbrev pub textNumber : List ℕ → (count n room : ℕ) → ℕ

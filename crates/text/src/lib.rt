@@ -1,8 +1,8 @@
 // The text of a node of a pool: 1, 5 and 9, or the bytes. The length is known before the first byte is written, so that a refusal
 // writes nothing.
 use pool::Node;
+use pool_check::node_number;
 use text_length::measure;
-use text_length::node_number;
 use text_write::write_node;
 ghost use Rattle.text_digits.specs.Writing.{Room, Wrote};
 ghost use Rattle.text_parts.specs.Text.{text, Ready};

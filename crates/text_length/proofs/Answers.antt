@@ -1,18 +1,18 @@
 -- What `text_length` answers, by the way that it took. Assumes nothing.
-use mathlib.Core.Bool.{true, false}
+use mathlib.Core.Bool.{true}
 use mathlib.Core.List.{List}
-use mathlib.Core.Path.{_≡_, refl, sym, ap, _∙_}
+use mathlib.Core.Path.{_≡_, refl, sym, _∙_}
 use Prim.Native.Nat.{ℕ, zero, suc, _+_, min, _≤_, _<_}
 use native.Mathlib.Omega.{arith}
-use lib.Dec.{leb, ltb}
+use lib.Dec.{leb}
 use lib.ListN.{length}
-use borrow.Author.Tests.{lt-ltb, le-ltb, leb-true, ltb-true}
-use Rattle.facts.proofs.Tests.{and-both, passed}
+use borrow.Author.Tests.{leb-true}
+use Rattle.facts.proofs.Tests.{and-both}
 use Rattle.pool.specs.Node.{places}
-use Rattle.pool.specs.Rules.{okPool, poolOk}
+use Rattle.pool.specs.Rules.{okPool, poolOk, nodeNumber}
 use Rattle.text_parts.specs.Text.{text, Ready}
 use Rattle.text_parts.proofs.Operands.{ready-of}
-use Rattle.text_length.specs.Answer.{nodeNumber, lengthBy, Measured}
+use Rattle.text_length.specs.Answer.{lengthBy, Measured}
 
 not-zero : {k : ℕ} → 0 < k → k ≡ 0 → ⊥
 not-zero h e = omega arith
@@ -28,22 +28,6 @@ module _ (ws : List ℕ) (count n : ℕ) where
       let p = and-both (leb count (places ws)) (okPool ws count) h in
       let m : count ≤ places ws = leb-true _ _ (p .0) in
       ready-of ws count n (p .1) l (omega arith)
-
-  pub bad-pool : (rest : ℕ) → poolOk ws count ≡ false → nodeNumber ws count n rest ≡ 1
-  bad-pool rest h = rw h
-
-  pub bad-node : (rest : ℕ) → poolOk ws count ≡ true → count ≤ n → nodeNumber ws count n rest ≡ 5
-  bad-node rest h l = rw (h, le-ltb n count l)
-
-  pub good-node : (rest : ℕ) → poolOk ws count ≡ true → n < count → nodeNumber ws count n rest ≡ rest
-  good-node rest h l = rw (h, lt-ltb n count l)
-
-  -- a pool and a node that are not refused
-  pub accepted : (rest : ℕ) → nodeNumber ws count n rest ≡ 0 → (poolOk ws count ≡ true) × (n < count) × (rest ≡ 0)
-  accepted rest e =
-      let p = passed (poolOk ws count) (not-zero (omega arith)) e in
-      let q = passed (ltb n count) (not-zero (omega arith)) (p .1) in
-      (p .0, ltb-true _ _ (q .0), q .1)
 
   pub unmeasured : (ceiling : ℕ) {number : ℕ} → number ≡ nodeNumber ws count n 0 → 0 < number → Measured ws count n ceiling number 0
   unmeasured ceiling e h = record { number-is = e; length-is = sym (no-length _ _ (rw e at h)) }

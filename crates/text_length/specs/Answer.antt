@@ -2,15 +2,9 @@
 use mathlib.Core.List.{List}
 use mathlib.Core.Path.{_≡_}
 use Prim.Native.Nat.{ℕ, zero, suc, _+_, min}
-use lib.Dec.{ltb}
 use lib.ListN.{length}
-use Rattle.facts.specs.Refuse.{unless}
-use Rattle.pool.specs.Rules.{poolOk}
+use Rattle.pool.specs.Rules.{nodeNumber}
 use Rattle.text_parts.specs.Text.{text}
-
--- 1 for a bad pool, 5 for a node not below the count; else what follows
-abbrev pub nodeNumber : List ℕ → (count n rest : ℕ) → ℕ
-nodeNumber ws count n rest = unless (poolOk ws count) 1 (unless (ltb n count) 5 rest)
 
 -- a length that comes back, by the number: 0 with a refusal
 abbrev pub lengthBy : (number length : ℕ) → ℕ

@@ -2,7 +2,7 @@
 use pool::Node;
 use pool::words::kind_of;
 use pool::words::width_of;
-use pool_check::pool_check;
+use pool_check::node_number;
 use pool_fields::first;
 use pool_fields::high;
 use pool_fields::left;
@@ -21,7 +21,7 @@ ghost use lib.ListN.{length, getD};
 ghost use Rattle.pool.specs.Node.{kindNumber};
 ghost use Rattle.text_operators.specs.Between.{Joined, betweenText};
 ghost use Rattle.text_parts.specs.Text.{text, Ready, openText, endText, single};
-ghost use Rattle.text_length.specs.Answer.{nodeNumber, Measured};
+ghost use Rattle.text_length.specs.Answer.{Measured};
 ghost use Rattle.text_length.specs.Known.{Known};
 
 // From this number of characters on a length is summed up node by node.
@@ -178,19 +178,6 @@ pub fn length_to(p: &[u64], n: Node, ceiling: u32) -> u64
     let most = (ceiling as usize) + 1;
     let left = less_any(p, n, most);
     (most - left) as u64
-}
-
-// 1 for a bad pool, 5 for a node that it has not, else 0.
-pub fn node_number(pool: &[u64], count: usize, node: usize) -> u64
-    ensures { λ r. ⌜ r ≡ nodeNumber (now (pool .entry)) count node 0 ⌝ }
-{
-    if !pool_check(pool, count) {
-        return 1;
-    }
-    if count <= node {
-        return 5;
-    }
-    0
 }
 
 // A number of document 01, and the text's length up to a ceiling.

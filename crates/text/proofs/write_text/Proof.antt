@@ -5,8 +5,9 @@ use Prim.Native.Nat.{_≤_, _<_}
 use native.Mathlib.Omega.{arith}
 use lib.ListN.{length}
 use Rattle.pool.specs.Rules.{poolOk}
+use Rattle.pool_check.proofs.Number.{accepted}
 use Rattle.text_parts.specs.Text.{text, Ready}
-use Rattle.text_length.proofs.Answers.{ready, accepted}
+use Rattle.text_length.proofs.Answers.{ready}
 use Rattle.text.proofs.Answers.{bad, short, fits, refused, written, in-front}
 use borrow.Author.Needs.{needs}
 use Rattle.text.proofs.write_text.Statement.{statement}

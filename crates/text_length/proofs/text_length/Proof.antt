@@ -1,8 +1,8 @@
 -- `text_length` meets its contract: the number, and the length where nothing is refused.
 use mathlib.Core.Path.{_≡_, sym, _∙_}
 use native.Mathlib.Omega.{arith}
-use Rattle.text_length.specs.Answer.{nodeNumber}
-use Rattle.text_length.proofs.Answers.{ready, accepted, unmeasured, measured}
+use Rattle.pool_check.proofs.Number.{accepted}
+use Rattle.text_length.proofs.Answers.{ready, unmeasured, measured}
 use borrow.Author.Needs.{needs}
 use Rattle.text_length.proofs.text_length.Statement.{statement}
 use Rattle.text_length.proofs.text_length.Tie as tie

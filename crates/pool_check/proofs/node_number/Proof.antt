@@ -1,10 +1,10 @@
 -- `node_number` meets its contract: 1, then 5, then 0.
 use mathlib.Core.Path.{_≡_, sym, _∙_}
 use borrow.Author.Tests.{not-true, not-false}
-use Rattle.text_length.proofs.Answers.{bad-pool, bad-node, good-node}
+use Rattle.pool_check.proofs.Number.{bad-pool, bad-node, good-node}
 use borrow.Author.Needs.{needs}
-use Rattle.text_length.proofs.node_number.Statement.{statement}
-use Rattle.text_length.proofs.node_number.Tie as tie
+use Rattle.pool_check.proofs.node_number.Statement.{statement}
+use Rattle.pool_check.proofs.node_number.Tie as tie
 
 pool-check-requires : tie.Need-pool-check-requires
 pool-check-requires c κs = search needs
