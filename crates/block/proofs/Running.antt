@@ -14,7 +14,7 @@ use Rattle.neon.specs.declared.Instruction.{Instruction}
 use Rattle.neon.specs.Refusal.{reserve, Legal, AllLegal, blockRefusal}
 use Rattle.trees.specs.Block.{treeStep, treeRun}
 use Rattle.pool.specs.declared.Built.{Built}
-use Rattle.pool.specs.Node.{Cell, decode, kindAt, kinds, none, places}
+use Rattle.pool.specs.Node.{Cell, kindAt, kinds, none, places}
 use Rattle.pool.specs.Rules.{Valid, okPool}
 use Rattle.pool.specs.Growth.{Room, Grown}
 use Rattle.pool_nodes.specs.Builders.{MadeVar}
@@ -136,7 +136,6 @@ start-more {w0} {w1} {w2} {k} {b} l m s d =
 
 -- the registers' nodes have their terms
 pub start-is : {old new : List ℕ} → Started old new 32 → MapIs new firstMap Var
-unfolding decode
 start-is {new = new} s r h =
     rw (first-is r h)
     (record { under = h; wide = ap (λ (c : Cell). c .width) (s .vars r h); tree = unfold-step new r _ (s .vars r h) })

@@ -10,7 +10,7 @@ use borrow.Author.Tests.{lt-ltb, le-leb, eq-eqb}
 use Rattle.terms.specs.Expr.{Expr, Var, Const, Bv, Compare, Ite, Extract, Concat, ZeroExtend, SignExtend, width}
 use Rattle.terms.specs.Rules.{Good}
 use Rattle.terms.specs.Registers.{registers}
-use Rattle.pool.specs.Node.{Cell, cellAt, widthAt, setAt, decode}
+use Rattle.pool.specs.Node.{Cell, cellAt, widthAt, setAt}
 use Rattle.pool.specs.Rules.{wideOk, widthBefore, setBefore, setRule, okCell, okNode, okPool, Valid}
 use Rattle.canonical.specs.Order.{parts, place}
 use Rattle.canonical.specs.Words.{cellIn, canonical}
@@ -114,7 +114,6 @@ module _ (l : List Expr) (ws : List ℕ) (i : ℕ) (sets : (p : Expr) → place 
 module _ (l : List Expr) (c : Closed l) (g : All Good l) (ws : List ℕ) (cells : (i : ℕ) → i < length l → cellAt ws i ≡ cellIn l (at l i))
     (sets : (i : ℕ) → i < length l → setAt ws i ≡ registers (at l i)) where
   width-at : (i : ℕ) → i < length l → widthAt ws i ≡ width (at l i)
-  unfolding decode
   width-at i h = ap (λ (k : Cell). k .width) (cells i h) ∙ cell-width l (at l i)
 
   ok-at : (i : ℕ) → i < length l → okNode ws i ≡ true

@@ -11,7 +11,7 @@ use borrow.Author.Tests.{lt-ltb, eqb-true}
 use Rattle.facts.proofs.Tests.{and-both}
 use Rattle.terms.specs.Expr.{Expr, width}
 use Rattle.terms.specs.Registers.{registers}
-use Rattle.pool.specs.Node.{Kind, bad, var, const, bv, compare, ite, extract, concat, zext, sext, kindAt, codeOf, Cell, cellAt, decode, wide, widthAt, setAt, kindWord, kindNumber}
+use Rattle.pool.specs.Node.{Kind, bad, var, const, bv, compare, ite, extract, concat, zext, sext, kindAt, codeOf, Cell, cellAt, wide, widthAt, setAt, kindWord, kindNumber}
 use Rattle.pool.specs.Rules.{wideOk, okKind, widthBefore, Valid}
 use Rattle.pool.specs.Unfold.{shapeOf, unfoldAt}
 use Rattle.pool.proofs.Facts.{kind-code, valid-node}
@@ -112,7 +112,6 @@ pub record NodeRead (ws : List ℕ) (n : ℕ) : Type 0 where
 
 module _ (ws : List ℕ) (count : ℕ) (v : Valid ws count) (words : (i : ℕ) → getD ws i 0 < 18446744073709551616) where
   pub node-read : (n : ℕ) → n < count → NodeRead ws n
-  unfolding decode
   node-read n h =
       let k = cellAt ws n in
       let κ = k .kind in
@@ -156,7 +155,7 @@ module _ (ws : List ℕ) (count : ℕ) (v : Valid ws count) (words : (i : ℕ) �
 
     -- m and n may have operands below N only
     pub key-tree : (m n : ℕ) → m < count → n < count → m ≤ N → n ≤ N → keyOf ws class m ≡ keyOf ws class n → unfoldAt ws m ≡ unfoldAt ws n
-    unfolding keyOf decode
+    unfolding keyOf
     key-tree m n hm hn lm ln e =
         let rm = node-read m hm in
         let rn = node-read n hn in
@@ -190,7 +189,7 @@ module _ (ws : List ℕ) (count : ℕ) (v : Valid ws count) (words : (i : ℕ) �
         ∙ sym (rn .tree)
 
     pub tree-key : (m n : ℕ) → m < count → n < count → m ≤ N → n ≤ N → unfoldAt ws m ≡ unfoldAt ws n → keyOf ws class m ≡ keyOf ws class n
-    unfolding keyOf decode
+    unfolding keyOf
     tree-key m n hm hn lm ln e =
         let rm = node-read m hm in
         let rn = node-read n hn in

@@ -9,7 +9,7 @@ use lib.Dec.{ltb, eqb}
 use lib.ListN.{length, getD, set, length-set}
 use lib.Seq.{getD-set-same, getD-set-other}
 use borrow.Author.Tests.{ltb-true, ltb-false, eqb-true, eqb-false}
-use Rattle.pool.specs.Node.{cellAt, decode, kindNumber}
+use Rattle.pool.specs.Node.{cellAt, kindNumber}
 use Rattle.pool.specs.Rules.{Valid, okPool, okNode}
 use Rattle.facts.proofs.Tests.{and-both}
 use Rattle.pool.specs.Unfold.{unfoldAt}
@@ -55,7 +55,7 @@ module _ (ws : List ℕ) (count : ℕ) (v : Valid ws count) (words : (i : ℕ) �
   module _ (n : ℕ) (here : n < count) (class slots : List ℕ) (K : Kept ws n class slots) where
     -- what stands at n does not matter to the keys up to n
     key-stays : (x m : ℕ) → m ≤ n → keyOf ws (set class n x) m ≡ keyOf ws class m
-    unfolding keyOf decode
+    unfolding keyOf
     key-stays x m h =
         let r = node-read ws count v words m (omega arith) in
         let k = cellAt ws m in

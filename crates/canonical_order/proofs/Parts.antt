@@ -9,7 +9,7 @@ use lib.Dec.{eqb}
 use lib.ListN.{getD}
 use borrow.Author.Tests.{eqb-true, eqb-false}
 use Rattle.terms.specs.Expr.{Expr}
-use Rattle.pool.specs.Node.{Kind, bad, var, const, bv, compare, ite, extract, concat, zext, sext, codeOf, Cell, cellAt, decode, kindNumber}
+use Rattle.pool.specs.Node.{Kind, bad, var, const, bv, compare, ite, extract, concat, zext, sext, codeOf, Cell, cellAt, kindNumber}
 use Rattle.pool.specs.Unfold.{shapeOf, unfoldAt}
 use Rattle.canonical.specs.Order.{parts, walk, add, AllIn}
 use Rattle.canonical.proofs.Lists.{Kept, all-kept, in-all, all-old}
@@ -169,7 +169,7 @@ module _ (ws class number : List ℕ) (root : ℕ) (C : Classes ws (root + 1) cl
       }
 
   pub turned : Turned ws class number l n (nextOpen ws class number n)
-  unfolding nextOpen decode
+  unfolding nextOpen
   turned =
       let k = cellAt ws n in
       let κ = kindIn ws n in
@@ -215,7 +215,6 @@ module _ (ws class number : List ℕ) (root : ℕ) (C : Classes ws (root + 1) cl
 
   -- all beneath the operands of a node that is ready
   pub ready-parts : Ready ws class number n → All (Beneath l) (parts (unfoldAt ws n))
-  unfolding decode
   ready-parts d =
       let k = cellAt ws n in
       subst (All (Beneath l)) (sym (ap parts (r .tree)))

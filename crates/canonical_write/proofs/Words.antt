@@ -8,7 +8,7 @@ use lib.Dec.{ltb}
 use lib.ListN.{length, getD, length-set}
 use Rattle.terms.specs.Expr.{Expr, Var, Const, Bv, Compare, Ite, Extract, Concat, ZeroExtend, SignExtend, width}
 use Rattle.terms.specs.Registers.{registers}
-use Rattle.pool.specs.Node.{Kind, bad, var, const, bv, compare, ite, extract, concat, zext, sext, kindWord, operandWord, codeOf, Cell, cellAt, decode, widthAt, kindNumber, wordAt}
+use Rattle.pool.specs.Node.{Kind, bad, var, const, bv, compare, ite, extract, concat, zext, sext, kindWord, operandWord, codeOf, Cell, cellAt, widthAt, kindNumber, wordAt}
 use Rattle.pool.specs.Node.{aOf, bOf, cOf, writeNode}
 use Rattle.pool.specs.Rules.{Valid}
 use Rattle.pool.specs.Unfold.{shapeOf, unfoldAt}
@@ -133,7 +133,7 @@ module _ (ws class : List ℕ) (root : ℕ) (v : Valid ws (root + 1)) (bounded :
   if-same false x y f = refl
 
   pub new-operands : newOperands ws class number n ≡ word1 (cellIn L (at L j))
-  unfolding newOperands decode
+  unfolding newOperands
   new-operands =
       let c = cellAt ws n in
       let kn = kindNumber ws n in
@@ -162,11 +162,9 @@ module _ (ws class : List ℕ) (root : ℕ) (v : Valid ws (root + 1)) (bounded :
       word-parts (getD ws (4 * n) 0) ∙ (λ i. kindWord (e i) (w i) (read .set-is i)) ∙ ap (λ (s : Expr). word0 (cellIn L s) (registers s)) (sym tree-is)
 
   pub new-word2 : getD ws (4 * n + 2) 0 ≡ cellIn L (at L j) .x
-  unfolding decode
   new-word2 = read .x-is ∙ sym (x-any L (unfoldAt ws n)) ∙ ap (λ (s : Expr). cellIn L s .x) (sym tree-is)
 
   pub new-word3 : getD ws (4 * n + 3) 0 ≡ cellIn L (at L j) .y
-  unfolding decode
   new-word3 = read .y-is ∙ sym (y-any L (unfoldAt ws n)) ∙ ap (λ (s : Expr). cellIn L s .y) (sym tree-is)
 
 -- ---- four words written

@@ -12,7 +12,7 @@ use Rattle.terms.specs.declared.CmpOp.the-variants.{Eq, Ult, Slt}
 use Rattle.terms.specs.declared.CmpOp.{CmpOp}
 use Rattle.terms.specs.Expr.{Expr, Var, Const, Bv, Compare, Ite, Extract, Concat, ZeroExtend, SignExtend, width}
 use Rattle.terms.specs.Value.{value, ite, bit, holds}
-use Rattle.pool.specs.Node.{Kind, kinds, kindAt, decode, cellAt, widthAt, kindNumber}
+use Rattle.pool.specs.Node.{Kind, kinds, kindAt, cellAt, widthAt, kindNumber}
 use Rattle.pool.specs.Unfold.{shapeOf, earlier, unfoldAt}
 use Rattle.pool.proofs.Laws.{unfold-step}
 use Rattle.pool_rules.proofs.Numbers.{within}
@@ -33,7 +33,6 @@ module _ (ws regs : List ℕ) (n : ℕ) where
   shaped κ = shapeOf κ (cellAt ws n) (operandTree ws n (opA ws n)) (operandTree ws n (opB ws n)) (operandTree ws n (opC ws n))
 
   unfolds : unfoldAt ws n ≡ shaped (kindAt (kindNumber ws n))
-  unfolding decode
   unfolds = unfold-step ws n (cellAt ws n) refl
 
   found-value : {m : ℕ} → m < n → value (registersOf regs) (operandTree ws n m) ≡ valueAt ws regs m
@@ -121,7 +120,7 @@ module _ (ws regs : List ℕ) (n : ℕ) (r : Ready ws n) (k : ℕ) (is-k : k ≡
   pub flat-value : widthAt ws n ≡ 0 → valueAt ws regs n ≤ 1
   unfolding valueAt kinds
   flat-value z =
-      rw (unfolds ws regs n, ← is-k)
+      subst (λ (t : Expr). value (registersOf regs) t ≤ 1) (sym (unfolds ws regs n ∙ ap (λ (j : ℕ). shaped ws regs n (kindAt j)) (sym is-k)))
       (within (λ κ. value (registersOf regs) (shaped ws regs n κ) ≤ 1) 12 3
       (compare-one (registersOf regs) Eq _ _, (compare-one (registersOf regs) Ult _ _, (compare-one (registersOf regs) Slt _ _, tt))) k (pair .0) (pair .1))
     where

@@ -12,7 +12,7 @@ use borrow.Author.Tests.{lt-ltb}
 use Rattle.terms.specs.Expr.{Expr, Var, Const, Bv, Compare, Ite, Extract, Concat, ZeroExtend, SignExtend, width}
 use Rattle.terms.specs.Value.{value}
 use Rattle.terms.specs.Rules.{Good}
-use Rattle.pool.specs.Node.{Kind, bad, var, const, bv, compare, ite, extract, concat, zext, sext, kinds, kindAt, decode, Cell, cellAt, widthAt, wordAt, kindNumber, wide}
+use Rattle.pool.specs.Node.{Kind, bad, var, const, bv, compare, ite, extract, concat, zext, sext, kinds, kindAt, Cell, cellAt, widthAt, wordAt, kindNumber, wide}
 use Rattle.pool.specs.Unfold.{shapeOf, earlier, unfoldAt}
 use Rattle.pool.proofs.Laws.{unfold-step}
 use Rattle.pool_check.proofs.Sound.{sound}
@@ -141,7 +141,6 @@ module _ (ws regs : List ℕ) (n : ℕ) (r : Ready ws n) (k : ℕ) (is-k : k ≡
   shaped κ = shapeOf (kindAt κ) (cellAt ws n) (operandTree ws n (opA ws n)) (operandTree ws n (opB ws n)) (operandTree ws n (opC ws n))
 
   tree : unfoldAt ws n ≡ shaped k
-  unfolding decode
   tree = unfold-step ws n (cellAt ws n) refl ∙ ap shaped (sym is-k)
 
   good : Good (shaped k)
@@ -155,15 +154,15 @@ module _ (ws regs : List ℕ) (n : ℕ) (r : Ready ws n) (k : ℕ) (is-k : k ≡
   value-of {m} l = rw (lt-ltb m n l)
 
   pub leaf-var : k ≡ 1 → valueAt ws regs n ≡ registersOf regs (wordAt ws n 2)
-  unfolding valueAt value kindAt kinds decode
+  unfolding valueAt value kindAt kinds
   leaf-var e = ap (value (registersOf regs)) (tree ∙ ap shaped e)
 
   pub leaf-register : k ≡ 1 → wordAt ws n 2 < 32
-  unfolding Good kindAt kinds decode
+  unfolding Good kindAt kinds
   leaf-register e = subst (λ (j : ℕ). Good (shaped j)) e good
 
   pub leaf-const : k ≡ 2 → valueAt ws regs n ≡ wide (wordAt ws n 2) (wordAt ws n 3)
-  unfolding valueAt value kindAt kinds decode
+  unfolding valueAt value kindAt kinds
   leaf-const e = ap (value (registersOf regs)) (tree ∙ ap shaped e)
 
   abbrev start : ℕ → ℕ
@@ -180,7 +179,7 @@ module _ (ws regs : List ℕ) (n : ℕ) (r : Ready ws n) (k : ℕ) (is-k : k ≡
 
   module _ (h : InWords regs) where
     pub one-is : single k ≡ true → (x : ℕ) → valueAt ws regs n ≡ appliedAt ws n (valueAt ws regs (opA ws n)) x
-    unfolding valueAt decode
+    unfolding valueAt
     one-is e x =
         let s = is-single k e in
         let l = single-a ws n r k is-k s .before in
@@ -188,7 +187,7 @@ module _ (ws regs : List ℕ) (n : ℕ) (r : Ready ws n) (k : ℕ) (is-k : k ≡
         (ap (value start) tree ∙ one-value start (start-bits regs h) (cellAt ws n) a b c (kindAt k) (one-kind s (to-nineteen ws n r k is-k)) (cond (single k) 0 (widthAt ws (opB ws n))) x)
 
     pub one-ok : single k ≡ true → (x : ℕ) → OperandsAt ws n (valueAt ws regs (opA ws n)) x
-    unfolding valueAt decode
+    unfolding valueAt
     one-ok e x =
         let s = is-single k e in
         let l = single-a ws n r k is-k s .before in
@@ -209,13 +208,13 @@ module _ (ws regs : List ℕ) (n : ℕ) (r : Ready ws n) (k : ℕ) (is-k : k ≡
       second-is = rw (← is-k, e) (sym (wide-of lb))
 
       pub two-is : valueAt ws regs n ≡ appliedAt ws n (valueAt ws regs (opA ws n)) (valueAt ws regs (opB ws n))
-      unfolding valueAt decode
+      unfolding valueAt
       two-is =
           rw (second-is, ← wide-of la, ← value-of la, ← value-of lb, ← is-k)
           (ap (value start) tree ∙ two-value start (start-bits regs h) (cellAt ws n) a b c (kindAt k) (two-kind pair))
 
       pub two-ok : OperandsAt ws n (valueAt ws regs (opA ws n)) (valueAt ws regs (opB ws n))
-      unfolding valueAt decode
+      unfolding valueAt
       two-ok =
           rw (second-is, ← wide-of la, ← value-of la, ← value-of lb, ← is-k)
           (two-operands start (start-bits regs h) (cellAt ws n) a b c (kindAt k) (two-kind pair) good)

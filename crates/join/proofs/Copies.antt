@@ -8,7 +8,7 @@ use lib.Dec.{ltb, leb, eqb}
 use lib.ListN.{length, getD, length-set}
 use borrow.Author.Tests.{lt-ltb, le-ltb, ltb-true, ltb-false, eqb-true}
 use Rattle.facts.proofs.Tests.{and-both}
-use Rattle.pool.specs.Node.{Kind, bad, var, const, bv, compare, ite, extract, concat, zext, sext, Cell, cellAt, decode, wordAt, writeNode, wide}
+use Rattle.pool.specs.Node.{Kind, bad, var, const, bv, compare, ite, extract, concat, zext, sext, Cell, cellAt, wordAt, writeNode, wide}
 use Rattle.pool.specs.Rules.{wideOk, okKind, widthBefore, Valid}
 use Rattle.pool.proofs.Facts.{valid-node}
 use Rattle.pool_rules.proofs.Kept.{ite-tests}
@@ -128,7 +128,6 @@ module _ (n : ℕ) (k : Cell) (A B C : ℕ) where
       omega (arith, eqb-true (k .c) 0 (pick4 (wideOk (k .width) && ltb (k .a) n && eqb (k .b) 0) (eqb (k .c) 0) (eqb (k .x) 0) (eqb (k .y) 0) (leb 1 A) (leb A (k .width)) h))
 
 pub word-small : (ws : List ℕ) (count n : ℕ) → Valid ws count → n < count → n < 65536 → wordAt ws n 1 < 281474976710656
-unfolding decode
 word-small ws count n v h l =
     let k = cellAt ws n in
     let s : k .c < 65536 = third-small n k (widthBefore ws n (k .a)) (widthBefore ws n (k .b)) (widthBefore ws n (k .c)) (k .kind) (valid-node ws count n v h) l in

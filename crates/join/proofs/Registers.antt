@@ -9,7 +9,7 @@ use lib.Dec.{ltb, leb, eqb}
 use lib.ListN.{length}
 use borrow.Author.Tests.{lt-ltb, ltb-true, ltb-false, leb-true, eqb-true}
 use Rattle.facts.proofs.Tests.{and-both}
-use Rattle.pool.specs.Node.{Kind, var, kinds, kindAt, codeOf, Cell, cellAt, decode, wordAt, kindNumber, setAt, places}
+use Rattle.pool.specs.Node.{Kind, var, kinds, kindAt, codeOf, Cell, cellAt, wordAt, kindNumber, setAt, places}
 use Rattle.pool.specs.Rules.{okKind, okPool, widthBefore, setRule, Valid, poolOk}
 use Rattle.pool.proofs.Facts.{kind-code, valid-node, valid-set}
 use Rattle.join.specs.Starts.{varRule, varRules, startsWithRegisters}
@@ -61,7 +61,7 @@ var-cell k r A B C κ e h =
     λ i. record { kind = κ i; width = w i; a = a i; b = b i; c = c i; x = e i; y = y i }
 
 pub var-at : (ws : List ℕ) (c : ℕ) → Starts ws c → (r : ℕ) → r < 32 → cellAt ws r ≡ varCell r
-unfolding decode kindAt kinds
+unfolding kindAt kinds
 var-at ws c S r h =
     let rule : (eqb (kindNumber ws r) 1 && eqb (wordAt ws r 2) r) ≡ true = rw (lt-ltb r 32 h) at (S .rule r (omega (arith, S .enough))) in
     let p = and-both (eqb (kindNumber ws r) 1) (eqb (wordAt ws r 2) r) rule in
@@ -77,7 +77,6 @@ register-set ws c S r h = valid-set ws c r (S .valid) (omega (arith, S .enough))
 
 -- the number of a node's kind, in a valid pool
 pub code-at : (ws : List ℕ) (c n : ℕ) → Valid ws c → n < c → kindNumber ws n ≡ codeOf (kindAt (kindNumber ws n))
-unfolding decode
 code-at ws c n v h =
     let k = cellAt ws n in
     ⊎-elim

@@ -6,7 +6,7 @@ use Prim.Native.Nat.{ℕ, zero, suc, _<_}
 use native.Mathlib.Omega.{arith}
 use lib.Dec.{ltb}
 use borrow.Author.Tests.{lt-ltb, eq-eqb}
-use Rattle.pool.specs.Node.{codeOf, Kind, Cell, cellAt, decode, setAt}
+use Rattle.pool.specs.Node.{codeOf, Kind, Cell, cellAt, setAt}
 use Rattle.pool.specs.Rules.{okKind, okCell, okNode, widthBefore, setBefore, setOver, setRule, Valid}
 use Rattle.pool.specs.Unfold.{shapeOf, earlier, unfoldAt}
 use Rattle.pool.proofs.Facts.{valid-node, valid-set}
@@ -54,7 +54,6 @@ module _ (ws : List ℕ) (count : ℕ) (v : Valid ws count) (new : List ℕ) (f 
 
   -- a copy sees the widths that the node saw
   width-copy : (n m q : ℕ) → n < count → m < n → q ≡ f m → (ltb q (f n) ≡ ltb m n) × (widthBefore new (f n) q ≡ widthBefore ws n m)
-  unfolding decode
   width-copy n m q h l e =
       let a : ltb (f m) (f n) ≡ true = lt-ltb (f m) (f n) (rising m n l) in
       let b : ltb m n ≡ true = lt-ltb m n l in
@@ -62,7 +61,6 @@ module _ (ws : List ℕ) (count : ℕ) (v : Valid ws count) (new : List ℕ) (f 
 
   -- and keeps the rule of its kind
   cell-copy : (n : ℕ) → n < count → okCell new (f n) (cellAt new (f n)) ≡ true
-  unfolding decode
   cell-copy n h =
       let k = cellAt ws n in
       let l = cellAt new (f n) in

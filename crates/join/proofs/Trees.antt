@@ -90,7 +90,6 @@ module _ (first : List ℕ) (c : ℕ) (second : List ℕ) (d x y : ℕ) (F : Sta
   if-is false m q e h = absurd (false≢true h)
 
   second-high : (m : ℕ) → 32 ≤ m → m < d → CopyOf (moved c) (cellAt second m) (cellAt new (m + c - 32))
-  unfolding decode
   second-high m h l =
       let n = m + c - 32 in
       let k = cellAt second m in
@@ -211,7 +210,6 @@ module _ (first : List ℕ) (c : ℕ) (second : List ℕ) (d x y : ℕ) (F : Sta
       second-ok m h = copy-ok second d (S .valid) new (moved c) moved-rises second-copies second-sets m h
 
       eq-ok : okNode new (c + d - 32) ≡ true
-      unfolding decode
       eq-ok =
           let n = c + d - 32 in
           let ly : moved c y < n = by-half (λ a. a < n) y (λ l. omega (arith, F .enough, S .enough)) (λ l. omega (arith, F .enough)) in

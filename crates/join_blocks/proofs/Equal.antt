@@ -9,7 +9,7 @@ use native.Mathlib.Nat.{le-of-lt}
 use borrow.Author.Tests.{lt-ltb, le-ltb, le-leb, eq-eqb, ne-eqb}
 use Rattle.facts.proofs.Numbers.{before-or-from}
 use Rattle.neon.specs.declared.Instruction.{Instruction}
-use Rattle.pool.specs.Node.{bad, var, codeOf, Cell, decode, kindNumber, wordAt, places}
+use Rattle.pool.specs.Node.{bad, var, codeOf, Cell, kindNumber, wordAt, places}
 use Rattle.pool.specs.Rules.{poolOk}
 use Rattle.pool.proofs.Facts.{kind-code}
 use Rattle.terms.specs.Expr.{Var}
@@ -26,7 +26,6 @@ use Rattle.join_blocks.specs.Demand.{BlocksJoin, EqualWhenEqHolds}
 -- ---- the pool of an accepted block begins with the registers and has no further Var
 
 var-number : (ws : List ℕ) (r : ℕ) → VarAt ws r → kindNumber ws r ≡ 1
-unfolding decode
 var-number ws r v =
     let κ = ap (λ (k : Cell). k .kind) v in
     ⊎-elim (λ e. absurd (no (sym κ ∙ e))) (λ e. sym e ∙ ap codeOf κ) (kind-code (kindNumber ws r))
@@ -35,7 +34,6 @@ var-number ws r v =
     no e = let z : codeOf var ≡ codeOf bad = ap codeOf e in omega arith
 
 var-word : (ws : List ℕ) (r : ℕ) → VarAt ws r → wordAt ws r 2 ≡ r
-unfolding decode
 var-word ws r v = ap (λ (k : Cell). k .x) v
 
 module _ {old : List ℕ} {cs : List Instruction} {new : List ℕ} {m : RegisterMap} (A : Accepted old cs new m) where

@@ -16,7 +16,7 @@ use Rattle.neon.specs.Op.{isOperation, opAt, isArrangement, arrangementAt, lane
 use Rattle.neon.specs.Form.{hasForm, least, most}
 use Rattle.neon.specs.Refusal.{Refusal, refusal, reserve, mostRecords, registersOk, recordNumber, recordsRefusal, sizeNumber, blockRefusal}
 use Rattle.neon.proofs.Legal.{accepted}
-use Rattle.pool.specs.Node.{bad, var, codeOf, Cell, decode, kindNumber, places}
+use Rattle.pool.specs.Node.{bad, var, codeOf, Cell, kindNumber, places}
 use Rattle.pool.proofs.Facts.{kind-code}
 use Rattle.text_digits.specs.Writing.{Wrote}
 use Rattle.text_parts.specs.Text.{text}
@@ -100,7 +100,6 @@ module _ (p : ℕ) (line : List ℕ) where
 
 -- the first 32 nodes of an accepted block's pool are registers
 var-low : (ws : List ℕ) (r : ℕ) → VarAt ws r → kindNumber ws r < 3
-unfolding decode
 var-low ws r v =
     let κ = ap (λ (k : Cell). k .kind) v in
     ⊎-elim (λ e. absurd (no (sym κ ∙ e))) (λ e. omega (arith, sym e ∙ ap codeOf κ)) (kind-code (kindNumber ws r))

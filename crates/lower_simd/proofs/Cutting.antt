@@ -12,7 +12,7 @@ use Rattle.facts.proofs.Tests.{and-both}
 use Rattle.terms.specs.Expr.{Expr, Extract}
 use Rattle.pool.specs.declared.Node.{Node}
 use Rattle.pool.specs.declared.Built.{Built}
-use Rattle.pool.specs.Node.{Kind, bad, var, const, bv, compare, ite, extract, concat, zext, sext, kinds, kindAt, codeOf, Cell, decode, cellAt, wordAt, kindNumber, widthAt}
+use Rattle.pool.specs.Node.{Kind, bad, var, const, bv, compare, ite, extract, concat, zext, sext, kinds, kindAt, codeOf, Cell, cellAt, wordAt, kindNumber, widthAt}
 use Rattle.pool_fields.specs.Fields.{opA}
 use Rattle.pool.specs.Rules.{Valid, widthBefore}
 use Rattle.pool.specs.Unfold.{shapeOf, unfoldAt}
@@ -40,7 +40,6 @@ most-of n k A B C small zext = most-zext n k A B C small
 most-of n k A B C small sext = most-zext n k A B C small
 
 width-to : (ws : List ℕ) (k : ℕ) → Valid ws k → (f n : ℕ) → n < f → n < k → widthAt ws n ≤ 129
-unfolding decode
 width-to ws k v zero n l h = absurd (not-suc-le-zero l)
 width-to ws k v (suc f) n l h =
     let c = cellAt ws n in
@@ -89,7 +88,7 @@ rising ws n hi e =
 
 module _ {ws : List ℕ} {v hi n by : ℕ} (q : Kept ws v hi n by) where
   step : Rises ws n (hi + by) → {k : ℕ} {t : Expr} → Valid ws k → Reached ws v hi n by k t → Reached ws v hi (opA ws n) (by + wordAt ws n 3) k t
-  unfolding decode kindAt kinds
+  unfolding kindAt kinds
   step r {k} {t} val s =
       let c = cellAt ws n in
       let kind : c .kind ≡ extract = ap kindAt (r .code) in
@@ -136,7 +135,6 @@ extract-code n e =
 
 module _ {ws : List ℕ} {v hi n by : ℕ} (q : Kept ws v hi n by) where
   ended : risesAt ws n (hi + by) ≡ false → {k : ℕ} {t : Expr} → Valid ws k → Reached ws v hi n by k t → Source ws k t hi n by
-  unfolding decode
   ended e {k} {t} val s =
       let c = cellAt ws n in
       let no : c .kind ≡ extract → ⊥ = λ kind.

@@ -1,7 +1,7 @@
 -- Laws of a pool: what growth keeps, what four words written make, and the term of a node by those of its operands. Assumes nothing.
 use Prim.Native.Nat.{ℕ, zero, suc, _+_, _*_, _/_, _%_, _≤_, _<_}
-use mathlib.Core.Path.{_≡_, refl, sym, ap, _∙_, subst}
-use mathlib.Core.Bool.{Bool, true, false}
+use mathlib.Core.Path.{_≡_, refl, sym, ap, ap₂, _∙_, subst}
+use mathlib.Core.Bool.{Bool, true, false, _&&_}
 use mathlib.Core.List.{List, [], _∷_, List·Memᴰ, List·Memᴰ·head, List·Memᴰ·tail}
 use mathlib.Core.Logic.{⊎-elim, _⊎_, inl, inr}
 use native.Mathlib.Omega.{arith}
@@ -9,7 +9,7 @@ use native.Mathlib.Nat.{lt-of-lt-of-le, lt-of-le-of-lt, lt-trans, le-trans, le-o
 use native.Mathlib.Numerals.{add-one}
 use lib.ListN.{length, getD, set, length-set}
 use lib.Seq.{getD-set-same, getD-set-other}
-use lib.Dec.{ltb}
+use lib.Dec.{ltb, eqb}
 use borrow.Author.Tests.{ltb-true, eq-eqb}
 use Rattle.facts.proofs.Numbers.{before-or-from}
 use Rattle.terms.specs.Expr.{Expr}
@@ -103,7 +103,10 @@ module _ {a b : List ℕ} {k k′ : ℕ} (g : Grown a k b k′) where
   unfolding unfoldTo
   to-kept zero n l = refl
   to-kept (suc f) n l =
-      rw (cell-kept n l)
+      subst
+      (λ (c : Cell).
+      shape c (earlier (ltb (c .a) n) (unfoldTo f b (c .a))) (earlier (ltb (c .b) n) (unfoldTo f b (c .b))) (earlier (ltb (c .c) n) (unfoldTo f b (c .c))) ≡ unfoldTo (suc f) a n)
+      (sym (cell-kept n l))
       (shape-same (cellAt a n)
       (earlier-same _ n _ _ (λ h. to-kept f (cellAt a n .a) (lt-trans h l)))
       (earlier-same _ n _ _ (λ h. to-kept f (cellAt a n .b) (lt-trans h l)))
@@ -141,14 +144,16 @@ module _ {a b : List ℕ} {k k′ : ℕ} (g : Grown a k b k′) where
   unfolding okPool
   ok-kept zero l = refl
   ok-kept (suc n) l =
-      rw (ok-kept n (le-of-lt l), cell-kept n l, cell-ok-kept n (cellAt a n) (le-of-lt l), set-kept n l, rule-kept n (cellAt a n) (le-of-lt l))
+      let e = cell-kept n l in
+      ap₂ _&&_ (ok-kept n (le-of-lt l))
+      (ap₂ _&&_ (ap (okCell b n) e ∙ cell-ok-kept n (cellAt a n) (le-of-lt l))
+      (ap₂ eqb (set-kept n l) (ap (setRule b n) e ∙ rule-kept n (cellAt a n) (le-of-lt l))))
 
 -- ---- four words written
 
 -- the cell that packed words decode to
 pub packed : (code w s i j l x y : ℕ) → code < 65536 → w < 65536 → i < 65536 → j < 65536
     → decode (kindWord code w s) (operandWord i j l) x y ≡ record { kind = kindAt code; width = w; a = i; b = j; c = l; x = x; y = y }
-unfolding decode
 packed code w s i j l x y p t q r =
     let e0 : (code + 65536 * w + 4294967296 * s) % 65536 ≡ code = omega arith in
     let q1 : (code + 65536 * w + 4294967296 * s) / 65536 ≡ w + 65536 * s = omega arith in
@@ -262,10 +267,11 @@ module _ {old new : List ℕ} {k s : ℕ} (cell : Cell) (g : Grown old k new (k 
   valid-more : Valid old k → okCell old k cell ≡ true → s ≡ setRule old k cell → Valid new (k + 1)
   unfolding okPool
   valid-more v o q =
-      rw (add-one k, ok-kept g k (le-refl k), v, e, cell-ok-kept g k cell (le-refl k), o, f, rule-kept g k cell (le-refl k), q) (eq-eqb (setRule old k cell) (setRule old k cell) refl)
+      let kept : okCell new k (cellAt new k) ≡ true = ap (okCell new k) e ∙ cell-ok-kept g k cell (le-refl k) ∙ o in
+      let set : setAt new k ≡ setRule new k (cellAt new k) = f ∙ q ∙ sym (ap (setRule new k) e ∙ rule-kept g k cell (le-refl k)) in
+      rw (add-one k) (ap₂ _&&_ (ok-kept g k (le-refl k) ∙ v) (ap₂ _&&_ kept (eq-eqb (setAt new k) _ set)))
 
   wide-is : widthAt new k ≡ cell .width
-  unfolding decode
   wide-is = ap (λ (c : Cell). c .width) e
 
   made-at : Valid old k → okCell old k cell ≡ true → s ≡ setRule old k cell → AllBelow k (operands cell) → Made old k new k (k + 1) (cell .width) (termOf old k cell) (operands cell)

@@ -97,7 +97,7 @@ pub record Cell : Type 0 where
   pub x : ℕ
   pub y : ℕ
 
-unfoldable pub decode : ℕ → ℕ → ℕ → ℕ → Cell
+abbrev pub decode : ℕ → ℕ → ℕ → ℕ → Cell
 decode w0 w1 w2 w3 = record { kind = kindAt (kindOf w0); width = widthOf w0; a = aOf w1; b = bOf w1; c = cOf w1; x = w2; y = w3 }
 
 abbrev pub cellAt : List ℕ → ℕ → Cell
@@ -107,7 +107,7 @@ abbrev pub kindNumber : List ℕ → ℕ → ℕ
 kindNumber ws n = kindOf (getD ws (4 * n) 0)
 
 abbrev pub widthAt : List ℕ → ℕ → ℕ
-widthAt ws n = widthOf (getD ws (4 * n) 0)
+widthAt ws n = cellAt ws n .width
 
 -- the set of the registers beneath node n
 abbrev pub setAt : List ℕ → ℕ → ℕ

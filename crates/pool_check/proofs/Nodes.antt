@@ -6,7 +6,7 @@ use mathlib.Core.List.{List}
 use mathlib.Core.Logic.{⊎-elim}
 use native.Mathlib.Nat.{eq-or-lt-of-le, le-of-suc-le-suc, not-suc-le-zero}
 use native.Mathlib.Numerals.{add-one}
-use Rattle.pool.specs.Node.{zext, kinds, kindAt, kindNumber, decode}
+use Rattle.pool.specs.Node.{zext, kinds, kindAt, kindNumber}
 use Rattle.pool.specs.Rules.{okNode, okPool}
 use Rattle.pool_rules.specs.Rule.{okAs}
 use Rattle.pool_rules.proofs.Numbers.{within, is-bad}
@@ -26,7 +26,6 @@ some-bad ws n (suc c) l h =
 
 -- the rules of the kind that the node's number names
 pub by-number : (ws : List ℕ) (n : ℕ) {k : ℕ} {r : Bool} → k ≡ kindNumber ws n → r ≡ okAs (kindAt k) ws n → r ≡ okNode ws n
-unfolding decode
 by-number ws n e h = h ∙ rw e
 
 -- both extensions have one rule

@@ -9,7 +9,7 @@ use lib.Dec.{ltb}
 use borrow.Author.Tests.{lt-ltb}
 use Rattle.terms.specs.Expr.{Expr, width}
 use Rattle.terms.specs.Rules.{Good}
-use Rattle.pool.specs.Node.{Kind, bad, var, const, bv, compare, ite, extract, concat, zext, sext, Cell, cellAt, widthAt, decode}
+use Rattle.pool.specs.Node.{Kind, bad, var, const, bv, compare, ite, extract, concat, zext, sext, Cell, cellAt, widthAt}
 use Rattle.pool.specs.Rules.{okKind, widthBefore, Valid}
 use Rattle.pool.specs.Unfold.{shapeOf, earlier, unfoldTo, unfoldAt}
 use Rattle.pool.proofs.Facts.{valid-node}
@@ -81,7 +81,7 @@ module _ (ws : List ℕ) (count : ℕ) (v : Valid ws count) where
   operand f n m h s = rw (lt-ltb m n h) s
 
   sound-to : (f n : ℕ) → n < f → n < count → Sound (unfoldTo f ws n) (widthAt ws n)
-  unfolding unfoldTo decode
+  unfolding unfoldTo
   sound-to zero n l h = absurd (omega (arith, l))
   sound-to (suc f) n l h =
       let k = cellAt ws n in

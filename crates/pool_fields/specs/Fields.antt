@@ -1,19 +1,18 @@
 -- A node's operands, as numbers.
 use mathlib.Core.Bool.{cond}
 use mathlib.Core.List.{List}
-use Prim.Native.Nat.{ℕ, _+_, _*_}
+use Prim.Native.Nat.{ℕ}
 use lib.Dec.{eqb}
-use lib.ListN.{getD}
-use Rattle.pool.specs.Node.{kindNumber, aOf, bOf, cOf}
+use Rattle.pool.specs.Node.{Cell, cellAt, kindNumber}
 
 abbrev pub opA : List ℕ → ℕ → ℕ
-opA ws n = aOf (getD ws (4 * n + 1) 0)
+opA ws n = cellAt ws n .a
 
 abbrev pub opB : List ℕ → ℕ → ℕ
-opB ws n = bOf (getD ws (4 * n + 1) 0)
+opB ws n = cellAt ws n .b
 
 abbrev pub opC : List ℕ → ℕ → ℕ
-opC ws n = cOf (getD ws (4 * n + 1) 0)
+opC ws n = cellAt ws n .c
 
 -- the two operands that an operator or a comma stands between in the text: of an Ite those after its condition
 abbrev pub leftOf : List ℕ → ℕ → ℕ

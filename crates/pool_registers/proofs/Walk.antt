@@ -12,7 +12,7 @@ use borrow.Author.Tests.{lt-ltb, leb-true}
 use Rattle.facts.proofs.Tests.{and-both}
 use Rattle.terms.specs.Expr.{Expr}
 use Rattle.terms.specs.Registers.{registers}
-use Rattle.pool.specs.Node.{Kind, bad, var, const, bv, compare, ite, extract, concat, zext, sext, Cell, cellAt, setAt, decode, places}
+use Rattle.pool.specs.Node.{Kind, bad, var, const, bv, compare, ite, extract, concat, zext, sext, Cell, cellAt, setAt, places}
 use Rattle.pool.specs.Rules.{okKind, widthBefore, setOver, setBefore, okPool, poolOk, nodeNumber, Valid}
 use Rattle.pool_registers.specs.Answer.{setBy, Named}
 use Rattle.pool.specs.Unfold.{shapeOf, earlier, unfoldTo, unfoldAt}
@@ -36,7 +36,7 @@ module _ (n : ℕ) (k : Cell) (A B C SA SB SC : ℕ) (a b c : Expr) (sa : k .a <
 
 module _ (ws : List ℕ) (count : ℕ) (v : Valid ws count) where
   walk-to : (f n : ℕ) → n < f → n < count → setAt ws n ≡ registers (unfoldTo f ws n)
-  unfolding unfoldTo decode
+  unfolding unfoldTo
   walk-to zero n l h = absurd (omega (arith, l))
   walk-to (suc f) n l h =
       let k = cellAt ws n in

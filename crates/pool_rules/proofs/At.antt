@@ -8,7 +8,7 @@ use lib.Bits.{bitOr}
 use lib.Dec.{ltb, leb, eqb}
 use lib.ListN.{getD}
 use borrow.Author.Tests.{lt-ltb, le-ltb, lt-leb}
-use Rattle.pool.specs.Node.{Kind, var, const, ite, extract, zext, cellAt, decode, widthAt, setAt, wordAt, aOf, bOf, cOf}
+use Rattle.pool.specs.Node.{Kind, var, const, ite, extract, zext, cellAt, widthAt, setAt, wordAt, aOf, bOf, cOf}
 use Rattle.pool.specs.Rules.{widthBefore, setBefore}
 use Rattle.pool_fields.specs.Fields.{opA, opB, opC}
 use Rattle.pool_rules.specs.Rule.{okAs}
@@ -53,7 +53,6 @@ module _ (ws : List ℕ) (n : ℕ) where
 
   pub ite-at : {w x y s A B C SA SB SC : ℕ} → Own w x y s → opA ws n < n → opB ws n < n → opC ws n < n → A ≡ wA → B ≡ wB → C ≡ wC → SA ≡ sA → SB ≡ sB → SC ≡ sC
       → (leb 1 w && leb w 129 && eqb x 0 && eqb y 0 && eqb A 0 && eqb B w && eqb C w && eqb s (bitOr (bitOr SA SB) SC)) ≡ okAs ite ws n
-  unfolding decode
   ite-at own a b c eA eB eC fA fB fC =
       rw (own .width-is, own .x-is, own .y-is, own .set-is, eA, eB, eC, fA, fB, fC) (ite-is n (cellAt ws n) wA wB wC (setAt ws n) sA sB sC a b c)
 
@@ -64,7 +63,6 @@ module _ (ws : List ℕ) (n : ℕ) where
     pub no-c : opC ws n ≡ 0
 
   pub extract-at : {w x y s A SA : ℕ} → Own w x y s → Alone → y ≤ x → x < A → A ≡ wA → SA ≡ sA → (eqb w (x - y + 1) && eqb s SA) ≡ okAs extract ws n
-  unfolding decode
   extract-at {w} {x} {y} own e lo hi eA fA =
       let lo′ : wordAt ws n 3 ≤ wordAt ws n 2 = omega (arith, own .x-is, own .y-is) in
       let hi′ : wordAt ws n 2 < wA = omega (arith, own .x-is, eA) in
@@ -72,38 +70,31 @@ module _ (ws : List ℕ) (n : ℕ) where
 
   pub extend-at : {w x y s A SA : ℕ} → Own w x y s → Alone → A ≡ wA → SA ≡ sA
       → (leb 1 w && leb w 129 && eqb x 0 && eqb y 0 && leb 1 A && leb A w && eqb s SA) ≡ okAs zext ws n
-  unfolding decode
   extend-at own e eA fA =
       rw (own .width-is, own .x-is, own .y-is, own .set-is, eA, fA) (extend-is n (cellAt ws n) wA wB wC (setAt ws n) sA sB sC (e .less-a) (e .no-b) (e .no-c))
 
   pub var-at : {w x y s w1 t : ℕ} → Own w x y s → x < 32 → w1 ≡ wordAt ws n 1 → t ≡ 2 ^ x → (eqb w 128 && eqb w1 0 && eqb y 0 && eqb s t) ≡ okAs var ws n
-  unfolding decode
   var-at {w} {x} own l e t =
       let l′ : wordAt ws n 2 < 32 = omega (arith, own .x-is) in
       rw (t, own .width-is, own .x-is, own .y-is, own .set-is, e, unused (wordAt ws n 1)) (var-is n (cellAt ws n) wA wB wC (setAt ws n) sA sB sC l′)
 
   pub const-at : {w x y s w1 : ℕ} {b : Bool} → Own w x y s → w1 ≡ wordAt ws n 1 → b ≡ ltb (x + 18446744073709551616 * y) (2 ^ w)
       → (leb 1 w && leb w 129 && eqb w1 0 && b && eqb s 0) ≡ okAs const ws n
-  unfolding decode
   const-at own e f =
       rw (f, own .width-is, own .x-is, own .y-is, own .set-is, e, unused (wordAt ws n 1)) (const-is n (cellAt ws n) wA wB wC (setAt ws n) sA sB sC)
 
   -- ---- what refuses a node
 
   pub var-late : 32 ≤ wordAt ws n 2 → false ≡ okAs var ws n
-  unfolding decode
   var-late h = simp (le-ltb (wordAt ws n 2) 32 h, and-false)
 
   pub ite-late-a : n ≤ opA ws n → false ≡ okAs ite ws n
-  unfolding decode
   ite-late-a h = simp (le-ltb (opA ws n) n h, and-false)
 
   pub ite-late-b : n ≤ opB ws n → false ≡ okAs ite ws n
-  unfolding decode
   ite-late-b h = simp (le-ltb (opB ws n) n h, and-false)
 
   pub ite-late-c : n ≤ opC ws n → false ≡ okAs ite ws n
-  unfolding decode
   ite-late-c h = simp (le-ltb (opC ws n) n h, and-false)
 
   -- word 1 is the operand alone, where it is a smaller number
@@ -117,17 +108,13 @@ module _ (ws : List ℕ) (n : ℕ) where
   not-late l e = omega (arith, e .0, e .1, e .2)
 
   pub extract-late : n ≤ wordAt ws n 1 → false ≡ okAs extract ws n
-  unfolding decode
   extract-late l = never _ (λ h. not-late l (extract-alone n (cellAt ws n) wA wB wC (setAt ws n) sA sB sC h))
 
   pub extend-late : n ≤ wordAt ws n 1 → false ≡ okAs zext ws n
-  unfolding decode
   extend-late l = never _ (λ h. not-late l (extend-alone n (cellAt ws n) wA wB wC (setAt ws n) sA sB sC h))
 
   pub reversed : wordAt ws n 2 < wordAt ws n 3 → false ≡ okAs extract ws n
-  unfolding decode
   reversed h = simp (lt-leb (wordAt ws n 3) (wordAt ws n 2) h, and-false)
 
   pub too-high : wA ≤ wordAt ws n 2 → false ≡ okAs extract ws n
-  unfolding decode
   too-high h = simp (le-ltb (wordAt ws n 2) wA h, and-false)

@@ -11,7 +11,7 @@ use Rattle.terms.specs.declared.BinOp.{BinOp}
 use Rattle.terms.specs.declared.BinOp.the-variants.{Add, Sub, Mul, And, Or, Xor, Shl, LShr, AShr}
 use Rattle.terms.specs.declared.CmpOp.{CmpOp}
 use Rattle.terms.specs.declared.CmpOp.the-variants.{Eq, Ult, Slt}
-use Rattle.pool.specs.Node.{Kind, bv, compare, concat, kinds, kindAt, cellAt, decode, setAt, wordAt}
+use Rattle.pool.specs.Node.{Kind, bv, compare, concat, kinds, kindAt, cellAt, setAt, wordAt}
 use Rattle.pool_fields.specs.Fields.{opA, opB, opC}
 use Rattle.pool_rules.specs.Rule.{okAs, widthOver}
 use Rattle.pool_rules.proofs.Keeps.{never}
@@ -53,7 +53,6 @@ module _ (ws : List ℕ) (n : ℕ) where
 
   module _ (less-a : opA ws n < n) (less-b : opB ws n < n) (no-c : opC ws n ≡ 0) where
     tests : (j : ℕ) → IsPair j → PairTest (eqb (wA ws n) (wB ws n) || eqb j 17) (widthOver j (wA ws n) (wB ws n)) ≡ okAs (kindAt j) ws n
-    unfolding decode
     tests j h =
         by-number (λ κ. PairTest (eqb (wA ws n) (wB ws n) || eqb j 17) (widthOver j (wA ws n) (wB ws n)) ≡ okAs κ ws n) j h
         (λ l o.
@@ -68,13 +67,11 @@ module _ (ws : List ℕ) (n : ℕ) where
 
     pub pair-at : {w x y s A B SA SB v : ℕ} (j : ℕ) → IsPair j → Own ws n w x y s → A ≡ wA ws n → B ≡ wB ws n → SA ≡ sA ws n → SB ≡ sB ws n → v ≡ widthOver j A B
         → (leb 1 A && leb 1 B && (eqb A B || eqb j 17) && eqb w v && leb w 129 && eqb x 0 && eqb y 0 && eqb s (bitOr SA SB)) ≡ okAs (kindAt j) ws n
-    unfolding decode
     pair-at j h own eA eB fA fB e = rw (e, own .width-is, own .x-is, own .y-is, own .set-is, eA, eB, fA, fB) (tests j h)
 
   -- ---- what refuses such a node
 
   pub late-a : (j : ℕ) → IsPair j → n ≤ opA ws n → false ≡ okAs (kindAt j) ws n
-  unfolding decode
   late-a j h l =
       by-number (λ κ. false ≡ okAs κ ws n) j h (λ m o. simp (le-ltb (opA ws n) n l, and-false)) (λ m i o. simp (le-ltb (opA ws n) n l, and-false))
       (λ e. simp (le-ltb (opA ws n) n l, and-false))
@@ -84,7 +81,6 @@ module _ (ws : List ℕ) (n : ℕ) where
   late l b c = omega (arith, l, b, c)
 
   pub late-rest : (j : ℕ) → IsPair j → n ≤ wordAt ws n 1 / 65536 → false ≡ okAs (kindAt j) ws n
-  unfolding decode
   late-rest j h l =
       by-number (λ κ. false ≡ okAs κ ws n) j h
       (λ m o.

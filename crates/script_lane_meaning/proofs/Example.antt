@@ -3,7 +3,7 @@ use mathlib.Core.Path.{_≡_, refl}
 use mathlib.Core.List.{List, _++_}
 use Prim.Native.Nat.{ℕ}
 use Rattle.terms.specs.Display.{bytes, decimal, digitsTo}
-use Rattle.pool.specs.Node.{kindAt, kinds, decode}
+use Rattle.pool.specs.Node.{kindAt, kinds}
 use Rattle.script_meaning.specs.Sexp.{show, showLines}
 use Rattle.script_meaning.specs.Script.{binary, declarations}
 use Rattle.script_meaning.proofs.Example.{pool}
@@ -72,5 +72,5 @@ written =
     ++ bytes "(check-sat)\n"
 
 example : laneScriptOf pool 44 43 0 127 120 ≡ written
-unfolding pool laneScriptOf laneCommands declarations equations showLines show binary decimal digitsTo kindAt kinds decode
+unfolding pool laneScriptOf laneCommands declarations equations showLines show binary decimal digitsTo kindAt kinds
 example = refl

@@ -4,7 +4,7 @@ use mathlib.Core.List.{List, [], _∷_, _++_, append-assoc}
 use Prim.Native.Nat.{ℕ, zero, suc, _+_}
 use native.Mathlib.Nat.{add-zero, zero-add, add-suc, suc-add}
 use Rattle.terms.specs.Display.{bytes}
-use Rattle.pool.specs.Node.{Kind, widthAt, kindAt, kindNumber, cellAt, decode}
+use Rattle.pool.specs.Node.{Kind, widthAt, kindAt, kindNumber, cellAt}
 use Rattle.text_series.specs.Series.{upTo}
 use Rattle.script_meaning.specs.Sexp.{Sexp, Items, stop, _⨾_, show, showLines}
 use Rattle.script_meaning.specs.Script.{nodeName, sortBy, termOf, definedBy, declarations, checkSat}
@@ -30,11 +30,11 @@ lanes-are ws x y hi lo = simp append-assoc
 
 module _ (ws : List ℕ) (n : ℕ) where
   pub no-lines : kindNumber ws n ≡ 1 → linesAt ws n ≡ []
-  unfolding decode linesAt
+  unfolding linesAt
   no-lines e = ap (λ (κ : Kind). lineBy κ (show (constant ws n) ++ bytes "\n") ++ lineBy κ (equationLine ws n)) (kind-one (kindNumber ws n) e)
 
   pub lines-with : (k w : ℕ) → k ≡ kindNumber ws n → (k ≡ 1 → ⊥) → w ≡ widthAt ws n → linesAt ws n ≡ constantLine n w ++ equationLine ws n
-  unfolding decode linesAt
+  unfolding linesAt
   lines-with k w q f e =
       let v = not-one (kindNumber ws n) (λ z. f (q ∙ z)) in
       let κ = kindAt (kindNumber ws n) in

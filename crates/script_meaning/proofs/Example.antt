@@ -4,7 +4,7 @@ use mathlib.Core.Bool.{true}
 use mathlib.Core.List.{List, [], _∷_, _++_}
 use Prim.Native.Nat.{ℕ}
 use Rattle.terms.specs.Display.{bytes, decimal, digitsTo}
-use Rattle.pool.specs.Node.{kindAt, kinds, decode}
+use Rattle.pool.specs.Node.{kindAt, kinds}
 use Rattle.pool.specs.Rules.{okPool, poolOk}
 use Rattle.script_meaning.specs.Sexp.{show, showLines}
 use Rattle.script_meaning.specs.Script.{binary, declarations, definitions, commandsOf, scriptOf}
@@ -26,7 +26,7 @@ pool =
 
 -- it passes the pool check
 fine : poolOk pool 44 ≡ true
-unfolding pool okPool kindAt kinds decode
+unfolding pool okPool kindAt kinds
 fine = refl
 
 -- cuts, a shift, a comparison, choices, extensions, constants, an equation
@@ -81,5 +81,5 @@ written =
     ++ bytes "(check-sat)\n"
 
 example : scriptOf pool 44 43 0 ≡ written
-unfolding pool scriptOf commandsOf declarations definitions showLines show binary decimal digitsTo kindAt kinds decode
+unfolding pool scriptOf commandsOf declarations definitions showLines show binary decimal digitsTo kindAt kinds
 example = refl

@@ -10,7 +10,7 @@ use Rattle.terms.specs.declared.BinOp.the-variants.{Add, Sub, Mul, And, Or, Xor
 use Rattle.terms.specs.declared.CmpOp.{CmpOp}
 use Rattle.terms.specs.declared.CmpOp.the-variants.{Eq, Ult, Slt}
 use Rattle.terms.specs.Display.{bytes, decimal}
-use Rattle.pool.specs.Node.{Kind, bad, var, const, bv, compare, ite, extract, concat, zext, sext, Cell, cellAt, widthAt, wide, decode}
+use Rattle.pool.specs.Node.{Kind, bad, var, const, bv, compare, ite, extract, concat, zext, sext, Cell, cellAt, widthAt, wide}
 use Rattle.pool.specs.Rules.{widthBefore, okKind, Valid}
 use Rattle.pool.proofs.Facts.{valid-node}
 use Rattle.script_meaning.specs.Sexp.{Sexp, word, list, Items, stop, _⨾_}
@@ -85,7 +85,6 @@ module _ (ws : List ℕ) (count : ℕ) (valid : Valid ws count) where
   -- a node's command is fine where its term is
   pub fine-command : (n : ℕ) (d : Sexp) (xs : Items) → n < count → (fine (termOf ws n) ≡ true → fine d ≡ true) → fineAll xs ≡ true
       → fineAll (definedBy (cellAt ws n .kind) d xs) ≡ true
-  unfolding decode
   fine-command n d xs h f g =
       let c = cellAt ws n in
       fine-term n c (widthBefore ws n (c .a)) (widthBefore ws n (c .b)) (widthBefore ws n (c .c)) (widthAt ws (c .a)) (nameOf ws (c .a)) (nameOf ws (c .b)) (nameOf ws (c .c))

@@ -11,7 +11,7 @@ use lib.Dec.{ltb}
 use borrow.Author.Tests.{lt-ltb}
 use Rattle.terms.specs.Expr.{Expr, Var}
 use Rattle.terms.specs.Value.{value}
-use Rattle.pool.specs.Node.{Kind, bad, var, const, bv, compare, ite, extract, concat, zext, sext, Cell, cellAt, widthAt, decode}
+use Rattle.pool.specs.Node.{Kind, bad, var, const, bv, compare, ite, extract, concat, zext, sext, Cell, cellAt, widthAt}
 use Rattle.pool.specs.Rules.{widthBefore, okKind, Valid}
 use Rattle.pool.specs.Unfold.{shapeOf, earlier, unfoldAt}
 use Rattle.pool.proofs.Facts.{valid-node}
@@ -53,7 +53,6 @@ module _ (ws : List ℕ) (count : ℕ) (valid : Valid ws count) (regs : ℕ → 
   operand env n m h d l = rw (lt-ltb m n l) (record { is = atom-is env m (d m l); wide-is = sound ws count valid m (omega arith) .wide })
 
   pub term-reads : (env : Names) (n : ℕ) → n < count → Before env n → isVar (cellAt ws n .kind) ≡ false → term (termOf ws n) env ≡ some (meaningAt n)
-  unfolding decode
   term-reads env n h d v =
       let k = cellAt ws n in
       by-kind env regs n k (widthBefore ws n (k .a)) (widthBefore ws n (k .b)) (widthBefore ws n (k .c)) (widthAt ws (k .a)) (nameOf ws (k .a)) (nameOf ws (k .b)) (nameOf ws (k .c))
@@ -70,7 +69,6 @@ module _ (ws : List ℕ) (count : ℕ) (valid : Valid ws count) (regs : ℕ → 
     pub tree : unfoldAt ws n ≡ Var (cellAt ws n .x)
 
   pub is-register : (n : ℕ) → n < count → cellAt ws n .kind ≡ var → IsRegister n
-  unfolding decode
   is-register n h e =
       let k = cellAt ws n in
       let A = widthBefore ws n (k .a) in

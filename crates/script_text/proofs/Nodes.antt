@@ -14,7 +14,7 @@ use Rattle.terms.specs.declared.BinOp.the-variants.{Add, Sub, Mul, And, Or, Xor
 use Rattle.terms.specs.declared.CmpOp.{CmpOp}
 use Rattle.terms.specs.declared.CmpOp.the-variants.{Eq, Ult, Slt}
 use Rattle.pool.specs.Node.{Kind, bad, var, const, bv, compare, ite, extract, concat, zext, sext}
-use Rattle.pool.specs.Node.{kindAt, kinds, bvCode, compareCode, kindNumber, widthAt, wordAt, wide, codeOf, Cell, cellAt, decode}
+use Rattle.pool.specs.Node.{kindAt, kinds, bvCode, compareCode, kindNumber, widthAt, wordAt, wide, codeOf, Cell, cellAt}
 use Rattle.pool.specs.Rules.{okKind, widthBefore, ifEarlier}
 use Rattle.pool.proofs.Facts.{kind-code, valid-node}
 use Rattle.pool_rules.proofs.Kept.{wide-most, const-wide, bv-tests, compare-tests, ite-tests, extract-tests, concat-tests, zext-tests}
@@ -78,11 +78,9 @@ module _ (ws : List ℕ) (n : ℕ) (r : Ready ws n) (k : ℕ) (is-k : k ≡ kind
   spelt κ = termBy κ cell (widthAt ws (cell .a)) (nameOf ws (cell .a)) (nameOf ws (cell .b)) (nameOf ws (cell .c))
 
   ok : okKind (kindAt k) n cell A B C ≡ true
-  unfolding decode
   ok = subst (λ (j : ℕ). okKind (kindAt j) n cell A B C ≡ true) (sym is-k) (valid-node ws (n + 1) n (r .valid) (omega arith))
 
   term-at : termOf ws n ≡ spelt (kindAt k)
-  unfolding decode
   term-at = ap (λ (j : ℕ). spelt (kindAt j)) (sym is-k)
 
   at-kind : (j : ℕ) (κ : Kind) → k ≡ j → kindAt j ≡ κ → (okKind κ n cell A B C ≡ true) × (termOf ws n ≡ spelt κ)
@@ -91,23 +89,22 @@ module _ (ws : List ℕ) (n : ℕ) (r : Ready ws n) (k : ℕ) (is-k : k ≡ kind
       (subst (λ (κ : Kind). okKind κ n cell A B C ≡ true) p ok, term-at ∙ ap spelt p)
 
   pub constant : k ≡ 2 → (widthAt ws n ≤ 129) × (show (termOf ws n) ≡ bytes "#b" ++ binary (widthAt ws n) (wide (wordAt ws n 2) (wordAt ws n 3)))
-  unfolding decode kindAt kinds show
+  unfolding kindAt kinds show
   constant e =
       let h = at-kind 2 const e refl in
       (wide-most _ (const-wide n cell A B C (h .0)), ap show (h .1))
 
   pub three-of : k ≡ 15 → (opA ws n < n) × (opB ws n < n) × (opC ws n < n) × (termOf ws n ≡ apply3 (bytes "ite") (nameOf ws (opA ws n)) (nameOf ws (opB ws n)) (nameOf ws (opC ws n)))
-  unfolding decode kindAt kinds
+  unfolding kindAt kinds
   three-of e = let h = at-kind 15 ite e refl in let t = ite-tests n cell A B C (h .0) in (t .1, t .2, t .3, h .1)
 
   pub cut-of : k ≡ 16 → (opA ws n < n) × (termOf ws n ≡ apply1 (index2 (bytes "extract") (wordAt ws n 2) (wordAt ws n 3)) (nameOf ws (opA ws n)))
-  unfolding decode kindAt kinds
+  unfolding kindAt kinds
   cut-of e = let h = at-kind 16 extract e refl in let t = extract-tests n cell A B C (h .0) in (t .0, h .1)
 
   -- the kinds of two operands
   by-two : (κ : Kind) → okKind κ n cell A B C ≡ true → 3 ≤ codeOf κ → codeOf κ ≤ 17 → (codeOf κ ≡ 15 → ⊥) → (codeOf κ ≡ 16 → ⊥)
       → Two n (opA ws n) (opB ws n) (spelt κ) (apply2 (functionOf κ) (nameOf ws (opA ws n)) (nameOf ws (opB ws n)))
-  unfolding decode
   by-two bad h l m f g = absurd (false≢true h)
   by-two var h l m f g = absurd (omega (arith, l))
   by-two const h l m f g = absurd (omega (arith, l))
@@ -134,7 +131,6 @@ module _ (ws : List ℕ) (n : ℕ) (r : Ready ws n) (k : ℕ) (is-k : k ≡ kind
     pub term-is : spelt κ ≡ apply1 (index1 (functionOf κ) (widthAt ws n - widthAt ws (opA ws n))) (nameOf ws (opA ws n))
 
   by-extension : (κ : Kind) → okKind κ n cell A B C ≡ true → 18 ≤ codeOf κ → Extends κ
-  unfolding decode
   by-extension bad h l = absurd (false≢true h)
   by-extension var h l = absurd (omega (arith, l))
   by-extension const h l = absurd (omega (arith, l))

@@ -7,7 +7,7 @@ use Prim.Native.Nat.{ℕ, suc, _+_, _*_, _≤_, _<_}
 use native.Mathlib.Nat.{eq-or-lt-of-le}
 use native.Mathlib.Omega.{arith}
 use Rattle.terms.specs.Display.{bytes}
-use Rattle.pool.specs.Node.{Kind, bad, var, const, bv, compare, ite, extract, concat, zext, sext, widthAt, kindAt, kinds, kindNumber, wordAt, codeOf, Cell, cellAt, decode}
+use Rattle.pool.specs.Node.{Kind, bad, var, const, bv, compare, ite, extract, concat, zext, sext, widthAt, kindAt, kinds, kindNumber, wordAt, codeOf, Cell, cellAt}
 use Rattle.pool.proofs.Facts.{kind-code}
 use Rattle.script_meaning.specs.Sexp.{show}
 use Rattle.script_meaning.specs.Script.{registerName, nodeName, nameBy, nameOf, sortBy, termOf, definition}
@@ -31,11 +31,9 @@ not-one k f = go (isVar (kindAt k)) refl
 
 module _ (ws : List ℕ) (n : ℕ) where
   pub register-named : kindNumber ws n ≡ 1 → nameOf ws n ≡ registerName (wordAt ws n 2)
-  unfolding decode
   register-named e = ap (λ (κ : Kind). nameBy κ (cellAt ws n) n) (kind-one (kindNumber ws n) e)
 
   pub node-named : (kindNumber ws n ≡ 1 → ⊥) → nameOf ws n ≡ nodeName n
-  unfolding decode
   node-named f = name-other (cellAt ws n .kind) (cellAt ws n) n (not-one (kindNumber ws n) f)
 
 pub above : (k j : ℕ) → j ≤ k → (k ≡ j → ⊥) → suc j ≤ k
@@ -60,12 +58,12 @@ line-other sext s h = refl
 
 module _ (ws : List ℕ) (n : ℕ) where
   pub no-line : kindNumber ws n ≡ 1 → lineAt ws n ≡ []
-  unfolding decode lineAt
+  unfolding lineAt
   no-line e = ap (λ (κ : Kind). lineBy κ (show (definition ws n) ++ bytes "\n")) (kind-one (kindNumber ws n) e)
 
   pub line-of : (kindNumber ws n ≡ 1 → ⊥)
       → lineAt ws n ≡ bytes "(define-fun " ++ (nodeName n ++ (bytes " () " ++ (show (sortBy (widthAt ws n)) ++ (bytes " " ++ (show (termOf ws n) ++ bytes ")\n")))))
-  unfolding decode lineAt
+  unfolding lineAt
   line-of f =
       line-other (kindAt (kindNumber ws n)) (show (definition ws n) ++ bytes "\n") (not-one (kindNumber ws n) f)
       ∙ line (nodeName n) (sortBy (widthAt ws n)) (termOf ws n)

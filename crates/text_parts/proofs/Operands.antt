@@ -12,7 +12,7 @@ use borrow.Author.Tests.{lt-ltb, ltb-true, ltb-false, leb-true, leb-false, eqb-t
 use Rattle.terms.specs.declared.BinOp.the-variants.{Add, Sub, Mul, And, Or, Xor, Shl, LShr, AShr}
 use Rattle.terms.specs.declared.CmpOp.the-variants.{Eq, Ult, Slt}
 use Rattle.facts.proofs.Tests.{and-both}
-use Rattle.pool.specs.Node.{bad, kinds, kindAt, decode, Cell, cellAt, widthAt, wordAt, kindNumber}
+use Rattle.pool.specs.Node.{bad, kinds, kindAt, Cell, cellAt, widthAt, wordAt, kindNumber}
 use Rattle.pool.specs.Rules.{widthBefore, okKind, okPool, Valid}
 use Rattle.pool.proofs.Facts.{valid-node}
 use Rattle.pool_rules.proofs.Numbers.{within, is-bad}
@@ -47,7 +47,6 @@ wc ws n = widthBefore ws n (opC ws n)
 -- the rules of node n, by its kind
 rules : (ws : List ℕ) (n : ℕ) → Ready ws n
     → okKind (kindAt (kindNumber ws n)) n (cellAt ws n) (wa ws n) (wb ws n) (wc ws n) ≡ true
-unfolding decode
 rules ws n r = valid-node ws (n + 1) n (r .valid) (omega arith)
 
 -- the width of an earlier node is read
@@ -112,7 +111,6 @@ kind-above ws n r = go (ltb 0 (kindNumber ws n)) refl
 
 -- no width is above 129
 most : (ws : List ℕ) (f n : ℕ) → n < f → Ready ws n → widthAt ws n ≤ 129
-unfolding decode
 most ws zero n l r = absurd (not-suc-le-zero l)
 most ws (suc f) n l r =
     most-of n (cellAt ws n) (wa ws n) (wb ws n) (wc ws n)
@@ -124,7 +122,6 @@ width-most ws n r = most ws (suc n) n (omega arith) r
 
 -- a node with no width is a comparison
 pub condition-kind : (ws : List ℕ) (n : ℕ) → Ready ws n → widthAt ws n ≡ 0 → (12 ≤ kindNumber ws n) × (kindNumber ws n < 15)
-unfolding decode
 condition-kind ws n r z = (go (ltb (kindNumber ws n) 12) refl, up (ltb (kindNumber ws n) 15) refl)
   where
     go : (t : Bool) → ltb (kindNumber ws n) 12 ≡ t → 12 ≤ kindNumber ws n
@@ -208,7 +205,7 @@ module _ (ws : List ℕ) (n : ℕ) (r : Ready ws n) (k : ℕ) (is-k : k ≡ kind
   compare-high z = omega (arith, condition-kind ws n r z .1)
 
   at-kind : (κ : ℕ) → k ≡ κ → Ok n (cellAt ws n) (wa ws n) (wb ws n) (wc ws n) (kindAt κ)
-  at-kind κ h = let q : kindNumber ws n ≡ κ = sym is-k ∙ h in rw q at (rules ws n r)
+  at-kind κ h = subst (λ (m : ℕ). Ok n (cellAt ws n) (wa ws n) (wb ws n) (wc ws n) (kindAt m)) (sym is-k ∙ h) (rules ws n r)
 
   three : k ≡ 15 → Three n (cellAt ws n) (wa ws n) (wb ws n) (wc ws n)
   unfolding kindAt kinds
@@ -229,29 +226,23 @@ module _ (ws : List ℕ) (n : ℕ) (r : Ready ws n) (k : ℕ) (is-k : k ≡ kind
       (single-kinds s)
 
   pub ite-a : k ≡ 15 → Condition ws n (opA ws n)
-  unfolding decode
   ite-a h =
       let t = three h in
       record { before = t .less-a; ready = ready-less (t .less-a) r; flat = sym (seen ws n (opA ws n) (t .less-a)) ∙ t .cond-a }
 
   pub ite-b : k ≡ 15 → Term ws n (opB ws n)
-  unfolding decode
   ite-b h = term (three h .less-b) (three h .term-b)
 
   pub ite-c : k ≡ 15 → Term ws n (opC ws n)
-  unfolding decode
   ite-c h = term (three h .less-c) (three h .term-c)
 
   pub pair-a : Pair k → Term ws n (opA ws n)
-  unfolding decode
   pair-a b = term (two b .less-a) (two b .term-a)
 
   pub pair-b : Pair k → Term ws n (opB ws n)
-  unfolding decode
   pair-b b = term (two b .less-b) (two b .term-b)
 
   pub single-a : Single k → Term ws n (opA ws n)
-  unfolding decode
   single-a s = term (one s .less-a) (one s .term-a)
 
   -- of any kind but an Ite
@@ -264,11 +255,11 @@ module _ (ws : List ℕ) (n : ℕ) (r : Ready ws n) (k : ℕ) (is-k : k ≡ kind
 
   -- numbers that are written in decimal
   pub register-small : k ≡ 1 → wordAt ws n 2 < 1000
-  unfolding kindAt kinds decode
+  unfolding kindAt kinds
   register-small h = omega (arith, register n (cellAt ws n) (wa ws n) (wb ws n) (wc ws n) (at-kind 1 h))
 
   pub range-small : k ≡ 16 → (wordAt ws n 2 < 1000) × (wordAt ws n 3 < 1000)
-  unfolding kindAt kinds decode
+  unfolding kindAt kinds
   range-small h =
       let o = extract-one n (cellAt ws n) (wa ws n) (wb ws n) (wc ws n) (at-kind 16 h) in
       let t = extract-range n (cellAt ws n) (wa ws n) (wb ws n) (wc ws n) (at-kind 16 h) in

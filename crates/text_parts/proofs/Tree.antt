@@ -8,7 +8,7 @@ use lib.Dec.{ltb}
 use borrow.Author.Tests.{lt-ltb}
 use Rattle.terms.specs.Expr.{Expr, Var, Const}
 use Rattle.terms.specs.Display.{bytes, display}
-use Rattle.pool.specs.Node.{Kind, kinds, kindAt, decode, Cell, cellAt, widthAt, wordAt, wide, kindNumber}
+use Rattle.pool.specs.Node.{Kind, kinds, kindAt, Cell, cellAt, widthAt, wordAt, wide, kindNumber}
 use Rattle.pool.specs.Unfold.{shapeOf, earlier, unfoldAt}
 use Rattle.pool.proofs.Laws.{unfold-step}
 use Rattle.pool_rules.proofs.Numbers.{within}
@@ -76,7 +76,7 @@ operandTree ws n m = earlier (ltb m n) (unfoldAt ws m)
 
 text-is : (ws : List ℕ) (n : ℕ)
     → text ws n ≡ display (shapeOf (kindAt (kindNumber ws n)) (cellAt ws n) (operandTree ws n (opA ws n)) (operandTree ws n (opB ws n)) (operandTree ws n (opC ws n)))
-unfolding text decode
+unfolding text
 text-is ws n = ap display (unfold-step ws n (cellAt ws n) refl)
 
 found : (ws : List ℕ) (n m : ℕ) → m < n → display (operandTree ws n m) ≡ text ws m
@@ -89,11 +89,11 @@ module _ (ws : List ℕ) (n : ℕ) (r : Ready ws n) (k : ℕ) (is-k : k ≡ kind
   tree κ e = text-is ws n ∙ rw (← is-k, e)
 
   pub whole-var : {x : ℕ} → k ≡ 1 → x ≡ wordAt ws n 2 → text ws n ≡ display (Var x)
-  unfolding kindAt kinds decode
+  unfolding kindAt kinds
   whole-var h e = rw e (tree 1 h)
 
   pub whole-const : {x y w : ℕ} → k ≡ 2 → x ≡ wordAt ws n 2 → y ≡ wordAt ws n 3 → w ≡ widthAt ws n → text ws n ≡ display (Const (wide x y) w)
-  unfolding kindAt kinds decode
+  unfolding kindAt kinds
   whole-const h ex ey ew = rw (ex, ey, ew) (tree 2 h)
 
   pub whole-ite : k ≡ 15
@@ -113,7 +113,7 @@ module _ (ws : List ℕ) (n : ℕ) (r : Ready ws n) (k : ℕ) (is-k : k ≡ kind
       rw (← fa, ← fb) (tree k refl ∙ shape-pair _ _ _ _ b)
 
   pub whole-single : Single k → text ws n ≡ openText k ++ (text ws (opA ws n) ++ endText ws n)
-  unfolding openText endText decode
+  unfolding openText endText
   whole-single s =
       let fa = found ws n (opA ws n) (single-a ws n r k is-k s .before) in
       rw (← fa, ← is-k) (tree k refl ∙ shape-single _ _ _ _ s (to-nineteen ws n r k is-k))
