@@ -1,19 +1,15 @@
 -- The nodes of a joined pool one after the other. Assumes nothing.
 use mathlib.Core.Path.{_≡_, refl, sym, ap, _∙_}
-use mathlib.Core.Bool.{Bool, true, false, _&&_, false≢true}
+use mathlib.Core.Bool.{Bool, true, false}
 use mathlib.Core.List.{List}
-use Prim.Native.Nat.{ℕ, _+_, _-_, _*_, _^_, _≤_, _<_}
+use Prim.Native.Nat.{ℕ, _+_, _-_, _*_, _≤_, _<_}
 use native.Mathlib.Omega.{arith}
-use lib.Dec.{ltb, leb, eqb}
+use lib.Dec.{ltb}
 use lib.ListN.{length, getD, length-set}
-use borrow.Author.Tests.{lt-ltb, le-ltb, ltb-true, ltb-false, eqb-true}
-use Rattle.facts.proofs.Tests.{and-both}
-use Rattle.pool.specs.Node.{Kind, bad, var, const, bv, compare, ite, extract, concat, zext, sext, Cell, cellAt, wordAt, writeNode, wide}
-use Rattle.pool.specs.Rules.{wideOk, okKind, widthBefore, Valid}
-use Rattle.pool.proofs.Facts.{valid-node}
-use Rattle.pool_rules.proofs.Kept.{ite-tests}
+use borrow.Author.Tests.{lt-ltb, le-ltb, ltb-true, ltb-false}
+use Rattle.pool.specs.Node.{wordAt, kindNumber, writeNode}
 use Rattle.pool_operands.proofs.Written.{other, f0, f1, f2, f3, four}
-use Rattle.join.specs.Join.{joinCount, joinWord, joinNumber, Half, SecondAt, Answered, writeMoved, writeEq}
+use Rattle.join.specs.Join.{movedWord, movedParts, joinCount, joinWord, joinNumber, Half, SecondAt, Answered, writeMoved, writeEq}
 
 module _ (first : List ℕ) (c : ℕ) (second : List ℕ) (d x y : ℕ) (hc : 32 ≤ c) (hd : 32 ≤ d) (old : List ℕ) where
   abbrev At : List ℕ → ℕ → Type 0
@@ -58,9 +54,13 @@ module _ (first : List ℕ) (c : ℕ) (second : List ℕ) (d x y : ℕ) (hc : 32
           let s : m ≡ n = omega arith in
           rw s (four Word a b p q j g)
 
-  pub second-at : (mid new : List ℕ) (m : ℕ) → 32 ≤ m → m < d → 4 * (m + c - 32 + 1) ≤ length mid → new ≡ writeMoved c second m mid → At mid (m + c - 32) → At new (m + 1 + c - 32)
+  pub second-at : (mid new : List ℕ) (m : ℕ) → 32 ≤ m → m < d → 4 * (m + c - 32 + 1) ≤ length mid
+      → movedParts c (wordAt second m 1) ≡ movedWord c (kindNumber second m) (wordAt second m 1)
+      → new ≡ writeMoved c second m mid
+      → At mid (m + c - 32)
+      → At new (m + 1 + c - 32)
   unfolding joinWord
-  second-at mid new m h l room e A =
+  second-at mid new m h l room parts e A =
       let n = m + c - 32 in
       let s : n + 32 - c ≡ m = omega arith in
       let next : m + 1 + c - 32 ≡ n + 1 = omega arith in
@@ -68,7 +68,7 @@ module _ (first : List ℕ) (c : ℕ) (second : List ℕ) (d x y : ℕ) (hc : 32
       let b : ltb n (c + d - 32) ≡ true = lt-ltb n (c + d - 32) (omega arith) in
       let z : 4 * m + 0 ≡ 4 * m = omega arith in
       rw next
-      (node-at mid new n _ _ _ _ room e (sym (rw (a, b, s, z)), sym (rw (a, b, s)), sym (rw (a, b, s)), sym (rw (a, b, s))) A)
+      (node-at mid new n _ _ _ _ room e (sym (rw (a, b, s, z)), parts ∙ sym (rw (a, b, s)), sym (rw (a, b, s)), sym (rw (a, b, s))) A)
 
   pub eq-at : (mid new : List ℕ) → 4 * joinCount c d ≤ length mid → new ≡ writeEq first c second d x y mid → At mid (c + d - 32) → At new (joinCount c d)
   unfolding joinWord
@@ -88,50 +88,6 @@ pub from-half : (first : List ℕ) (c : ℕ) (second : List ℕ) (d x y : ℕ) (
     → SecondAt first c second d x y old new n
 from-half first c second d x y old mid new n h H A =
     record { long = A .long ∙ H .long; words = A .words; past = λ i g. A .past i g ∙ H .past i (omega arith) }
-
--- ---- word 1 of a node has no bit above the third operand
-
-pick4 : (p q x y g i : Bool) → (p && q && x && y && g && i) ≡ true → q ≡ true
-pick4 p q x y g i h =
-    let r = and-both (p && q) x (and-both (p && q && x) y (and-both (p && q && x && y) g (and-both (p && q && x && y && g) i h .0) .0) .0) in
-    and-both p q (r .0) .1
-
-module _ (n : ℕ) (k : Cell) (A B C : ℕ) where
-  third-small : (κ : Kind) → okKind κ n k A B C ≡ true → n < 65536 → k .c < 65536
-  third-small bad h l = absurd (false≢true h)
-  third-small var h l =
-      let p = and-both (eqb (k .width) 128 && eqb (k .a) 0 && eqb (k .b) 0 && eqb (k .c) 0 && ltb (k .x) 32) (eqb (k .y) 0) h in
-      let q = and-both (eqb (k .width) 128 && eqb (k .a) 0 && eqb (k .b) 0 && eqb (k .c) 0) (ltb (k .x) 32) (p .0) in
-      let r = and-both (eqb (k .width) 128 && eqb (k .a) 0 && eqb (k .b) 0) (eqb (k .c) 0) (q .0) in
-      omega (arith, eqb-true (k .c) 0 (r .1))
-  third-small const h l =
-      let p = and-both (wideOk (k .width) && eqb (k .a) 0 && eqb (k .b) 0 && eqb (k .c) 0) (ltb (wide (k .x) (k .y)) (2 ^ k .width)) h in
-      let r = and-both (wideOk (k .width) && eqb (k .a) 0 && eqb (k .b) 0) (eqb (k .c) 0) (p .0) in
-      omega (arith, eqb-true (k .c) 0 (r .1))
-  third-small (bv o) h l =
-      omega (arith, eqb-true (k .c) 0 (pick4 (wideOk (k .width) && ltb (k .a) n && ltb (k .b) n) (eqb (k .c) 0) (eqb (k .x) 0) (eqb (k .y) 0) (eqb A (k .width)) (eqb B (k .width)) h))
-  third-small (compare o) h l =
-      omega (arith, eqb-true (k .c) 0 (pick4 (eqb (k .width) 0 && ltb (k .a) n && ltb (k .b) n) (eqb (k .c) 0) (eqb (k .x) 0) (eqb (k .y) 0) (leb 1 A) (eqb B A) h))
-  third-small ite h l = omega (arith, ite-tests n k A B C h .3)
-  third-small extract h l =
-      let p = and-both (ltb (k .a) n && eqb (k .b) 0 && eqb (k .c) 0 && leb (k .y) (k .x) && ltb (k .x) A) (eqb (k .width) (k .x - k .y + 1)) h in
-      let q = and-both (ltb (k .a) n && eqb (k .b) 0 && eqb (k .c) 0 && leb (k .y) (k .x)) (ltb (k .x) A) (p .0) in
-      let r = and-both (ltb (k .a) n && eqb (k .b) 0 && eqb (k .c) 0) (leb (k .y) (k .x)) (q .0) in
-      let s = and-both (ltb (k .a) n && eqb (k .b) 0) (eqb (k .c) 0) (r .0) in
-      omega (arith, eqb-true (k .c) 0 (s .1))
-  third-small concat h l =
-      let p = and-both (wideOk (k .width) && ltb (k .a) n && ltb (k .b) n && eqb (k .c) 0 && eqb (k .x) 0 && eqb (k .y) 0 && leb 1 A && leb 1 B) (eqb (k .width) (A + B)) h in
-      omega (arith, eqb-true (k .c) 0 (pick4 (wideOk (k .width) && ltb (k .a) n && ltb (k .b) n) (eqb (k .c) 0) (eqb (k .x) 0) (eqb (k .y) 0) (leb 1 A) (leb 1 B) (p .0)))
-  third-small zext h l =
-      omega (arith, eqb-true (k .c) 0 (pick4 (wideOk (k .width) && ltb (k .a) n && eqb (k .b) 0) (eqb (k .c) 0) (eqb (k .x) 0) (eqb (k .y) 0) (leb 1 A) (leb A (k .width)) h))
-  third-small sext h l =
-      omega (arith, eqb-true (k .c) 0 (pick4 (wideOk (k .width) && ltb (k .a) n && eqb (k .b) 0) (eqb (k .c) 0) (eqb (k .x) 0) (eqb (k .y) 0) (leb 1 A) (leb A (k .width)) h))
-
-pub word-small : (ws : List ℕ) (count n : ℕ) → Valid ws count → n < count → n < 65536 → wordAt ws n 1 < 281474976710656
-word-small ws count n v h l =
-    let k = cellAt ws n in
-    let s : k .c < 65536 = third-small n k (widthBefore ws n (k .a)) (widthBefore ws n (k .b)) (widthBefore ws n (k .c)) (k .kind) (valid-node ws count n v h) l in
-    omega (arith, s)
 
 -- ---- the answer
 

@@ -3,6 +3,7 @@ pub mod ByKind
 pub mod Renamed
 pub mod Registers
 pub mod Refusals
+pub mod Unused
 pub mod Copies
 pub mod Trees
 pub mod Meaning

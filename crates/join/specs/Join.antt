@@ -65,6 +65,10 @@ pub record Answered (first : List ℕ) (c : ℕ) (second : List ℕ) (d x y : �
 
 -- ---- the parts
 
+-- word 1 of a node of the second pool, whatever its kind. In a valid pool it is movedWord: an operand that the kind has not is 0.
+abbrev pub movedParts : ℕ → ℕ → ℕ
+movedParts c w1 = operandWord (moved c (aOf w1)) (moved c (bOf w1)) (moved c (cOf w1))
+
 -- the first pool's words are copied, up to word i
 pub record Half (first : List ℕ) (old new : List ℕ) (i : ℕ) : Type 0 where
   pub long : length new ≡ length old
@@ -79,7 +83,7 @@ pub record SecondAt (first : List ℕ) (c : ℕ) (second : List ℕ) (d x y : �
 
 abbrev pub writeMoved : ℕ → List ℕ → ℕ → List ℕ → List ℕ
 writeMoved c second m out =
-    writeNode out (m + c - 32) (getD second (4 * m) 0) (movedWord c (kindNumber second m) (wordAt second m 1)) (wordAt second m 2) (wordAt second m 3)
+    writeNode out (m + c - 32) (getD second (4 * m) 0) (movedParts c (wordAt second m 1)) (wordAt second m 2) (wordAt second m 3)
 
 abbrev pub writeEq : (first : List ℕ) (c : ℕ) (second : List ℕ) (d x y : ℕ) → List ℕ → List ℕ
 writeEq first c second d x y out = writeNode out (c + d - 32) (kindWord 12 0 (eqSet first second x y)) (operandWord x (moved c y) 0) 0 0

@@ -6,18 +6,16 @@ use pool::words::kind_of;
 use pool::words::kind_word;
 use pool::words::set_of;
 use pool::words::width_of;
-use pool_check::pool_check;
-use pool_operands::has_a;
-use pool_operands::has_b;
-use pool_operands::has_c;
-ghost use mathlib.Core.Bool.{_&&_};
+use pool_check::check_plain;
+ghost use mathlib.Core.Bool.{cond, _&&_};
 ghost use mathlib.Core.Path.{_≡_};
 ghost use Prim.Native.Nat.{_+_, _-_, _*_, _≤_, _<_};
+ghost use lib.Dec.{ltb};
 ghost use lib.ListN.{length};
 ghost use Rattle.pool.specs.Node.{places, wordAt};
 ghost use Rattle.pool.specs.Rules.{poolOk, Valid};
 ghost use Rattle.join.specs.Starts.{varRule, startsWithRegisters};
-ghost use Rattle.join.specs.Join.{moved, movedIf, movedWord, joinCount, chosenOk, joinNumber, Answered, Half, SecondAt, writeMoved, writeEq};
+ghost use Rattle.join.specs.Join.{movedParts, joinCount, chosenOk, joinNumber, Answered, Half, SecondAt, writeMoved, writeEq};
 
 // The number of document 02, the Eq, and how many nodes there are with it.
 pub struct Joined {
@@ -26,32 +24,28 @@ pub struct Joined {
     pub count: usize,
 }
 
-// Whether node n is Var n, or, from 32 on, no Var.
-fn var_rule(pool: &[u64], n: usize) -> bool
-    requires { ⌜ 4 * n + 3 < length (now pool) ⌝ }
+// Whether node n, one of the first 32, is Var n.
+fn is_register(pool: &[u64], n: usize) -> bool
+    requires { ⌜ (4 * n + 3 < length (now pool)) × (n < 32) ⌝ }
     ensures { λ r. ⌜ r ≡ varRule (now (pool .entry)) n ⌝ }
 {
-    let is_var = kind_of(pool, Node(n)) == 1;
     let x = pool[4 * n + 2];
-    if n < 32 {
-        return is_var & (x == n as u64);
-    }
-    !is_var
+    (kind_of(pool, Node(n)) == 1) & (x == n as u64)
 }
 
 // Whether the pool passes the check, begins with the registers and has no further Var.
 fn starts(pool: &[u64], count: usize) -> bool
     ensures { λ r. ⌜ r ≡ (poolOk (now (pool .entry)) count && startsWithRegisters (now (pool .entry)) count) ⌝ }
 {
-    if !pool_check(pool, count) {
+    if !check_plain(pool, count, 32) {
         return false;
     }
     if count < 32 {
         return false;
     }
     let mut n = 0;
-    while n < count {
-        if !var_rule(pool, n) {
+    while n < 32 {
+        if !is_register(pool, n) {
             return false;
         }
         n += 1;
@@ -70,26 +64,27 @@ fn chosen_ok(pool: &[u64], count: usize, n: usize) -> bool
     false
 }
 
-// The number of the second pool's node m, where it is an operand; the first pool has c nodes.
-fn moved_if(there: bool, c: u64, m: u64) -> u64
-    requires { ⌜ (32 ≤ c) × (c ≤ 65535) × (m < 65536) ⌝ }
-    ensures { λ r. ⌜ (r ≡ movedIf there c m) × (r < 131072) ⌝ }
+// What the number of the second pool's node m grows by; its registers keep theirs.
+fn raised(by: u64, m: u64) -> u64
+    ensures { λ r. ⌜ (r ≡ cond (ltb m 32) 0 by) × (r ≤ by) ⌝ }
 {
-    if there & (32 <= m) {
-        return m + c - 32;
+    if 32 <= m {
+        return by;
     }
-    m
+    0
 }
 
-// Word 1 of a node of the second pool, with its operands under their new numbers.
-fn moved_word(c: u64, kind: u64, w1: u64) -> u64
+// Word 1 of a node of the second pool, with its operands under their new numbers; the first pool has c nodes. The kind is not asked: a part that
+// it does not use is 0, and stays 0.
+fn moved_word(c: u64, w1: u64) -> u64
     requires { ⌜ (32 ≤ c) × (c ≤ 65535) × (w1 < 281474976710656) ⌝ }
-    ensures { λ r. ⌜ r ≡ movedWord c kind w1 ⌝ }
+    ensures { λ r. ⌜ r ≡ movedParts c w1 ⌝ }
 {
-    let m0 = moved_if(has_a(kind), c, w1 % 65536);
-    let m1 = moved_if(has_b(kind), c, w1 / 65536 % 65536);
-    let m2 = moved_if(has_c(kind), c, w1 / 4294967296);
-    m0 + 65536 * m1 + 4294967296 * m2
+    let by = c - 32;
+    w1
+        + raised(by, w1 % 65536)
+        + 65536 * raised(by, w1 / 65536 % 65536)
+        + 4294967296 * raised(by, w1 / 4294967296)
 }
 
 // Copies the first pool's nodes.
@@ -112,7 +107,7 @@ fn move_one(second: &[u64], c: usize, m: usize, out: &mut [u64])
     ensures { λ r. ⌜ now (out .exit) ≡ writeMoved c (now (second .entry)) m (now (out .entry)) ⌝ }
 {
     let at = 4 * m;
-    let w1 = moved_word(c as u64, kind_of(second, Node(m)), second[at + 1]);
+    let w1 = moved_word(c as u64, second[at + 1]);
     push(
         out,
         m + c - 32,
@@ -154,7 +149,7 @@ fn put_eq(first: &[u64], c: usize, second: &[u64], d: usize, x: usize, y: usize,
     ensures { λ r. ⌜ now (out .exit) ≡ writeEq (now (first .entry)) c (now (second .entry)) d x y (now (out .entry)) ⌝ }
 {
     let set = set_of(first, Node(x)) | set_of(second, Node(y));
-    let b = moved_if(true, c as u64, y as u64);
+    let b = y as u64 + raised(c as u64 - 32, y as u64);
     push(
         out,
         c + d - 32,

@@ -7,26 +7,24 @@ use pool_rules::extract_ok;
 use pool_rules::ite_ok;
 use pool_rules::pair_ok;
 use pool_rules::var_ok;
+ghost use mathlib.Core.Bool.{_&&_};
 ghost use mathlib.Core.Path.{_≡_};
-ghost use Prim.Native.Nat.{_+_, _*_, _<_};
+ghost use Prim.Native.Nat.{_+_, _*_, _≤_, _<_};
+ghost use lib.Dec.{eqb};
 ghost use lib.ListN.{length};
 ghost use Rattle.pool.specs.Node.{none};
-ghost use Rattle.pool.specs.Rules.{okNode, poolOk, nodeNumber};
+ghost use Rattle.pool.specs.Rules.{okNode, okPool, poolOk, nodeNumber};
+ghost use Rattle.pool_check.specs.Plain.{plainAt, plainFrom};
 
-// Whether node n obeys the rules.
-fn node_ok(pool: &[u64], n: Node) -> bool
+// Whether node n obeys the rules, and is no Var from node `plain` on. Kinds that are rarer than those of two operands are asked for one by
+// one: of a pool in random order the processor then guesses a kind wrong at most once.
+fn node_ok(pool: &[u64], n: Node, plain: usize) -> bool
     requires { ⌜ (4 * n .0 + 3 < length (now pool)) × (n .0 < none) ⌝ }
-    ensures { λ r. ⌜ r ≡ okNode (now (pool .entry)) (n .0) ⌝ }
+    ensures { λ r. ⌜ r ≡ (okNode (now (pool .entry)) (n .0) && plainAt (now (pool .entry)) plain (n .0)) ⌝ }
 {
     let kind = kind_of(pool, n);
-    if kind < 3 {
-        if kind == 1 {
-            return var_ok(pool, n);
-        }
-        if kind == 2 {
-            return const_ok(pool, n);
-        }
-        return false;
+    if kind == 2 {
+        return const_ok(pool, n);
     }
     if kind == 16 {
         return extract_ok(pool, n);
@@ -34,30 +32,55 @@ fn node_ok(pool: &[u64], n: Node) -> bool
     if kind == 15 {
         return ite_ok(pool, n);
     }
-    if kind < 18 {
-        return pair_ok(pool, n, kind);
+    if 18 <= kind {
+        if kind < 20 {
+            return extend_ok(pool, n);
+        }
+        return false;
     }
-    if kind < 20 {
-        return extend_ok(pool, n);
+    // a call of its own: each of the two is compiled for what is known of the kind
+    if kind == 17 {
+        return pair_ok(pool, n, 17);
     }
-    false
+    if kind < 3 {
+        if kind == 1 {
+            return (n.0 < plain) & var_ok(pool, n);
+        }
+        return false;
+    }
+    pair_ok(pool, n, kind)
+}
+
+// The first node below count that node_ok refuses; count where there is none.
+fn refused(pool: &[u64], count: usize, plain: usize) -> usize
+    requires { ⌜ (4 * count ≤ length (now pool)) × (count ≤ none) ⌝ }
+    ensures { λ r. ⌜ eqb r count ≡ (okPool (now (pool .entry)) count && plainFrom (now (pool .entry)) plain count) ⌝ }
+{
+    let mut n = 0;
+    while n < count {
+        if !node_ok(pool, Node(n), plain) {
+            return n;
+        }
+        n += 1;
+    }
+    n
+}
+
+// Whether the pool has count places, each node below count obeys the rules, and none from node `plain` on is a Var.
+pub fn check_plain(pool: &[u64], count: usize, plain: usize) -> bool
+    ensures { λ r. ⌜ r ≡ (poolOk (now (pool .entry)) count && plainFrom (now (pool .entry)) plain count) ⌝ }
+{
+    if pool::places(pool) < count {
+        return false;
+    }
+    refused(pool, count, plain) == count
 }
 
 // Whether the pool has count places, and each node below count obeys the rules.
 pub fn pool_check(pool: &[u64], count: usize) -> bool
     ensures { λ r. ⌜ r ≡ poolOk (now (pool .entry)) count ⌝ }
 {
-    if pool::places(pool) < count {
-        return false;
-    }
-    let mut n = 0;
-    while n < count {
-        if !node_ok(pool, Node(n)) {
-            return false;
-        }
-        n += 1;
-    }
-    true
+    check_plain(pool, count, count)
 }
 
 // 1 for a bad pool, 5 for a node that it has not, else 0.

@@ -1,13 +1,14 @@
 -- The laws on a node's tests, at a node of a pool: what the code reads there decides its rules. Assumes nothing.
 use mathlib.Core.Path.{_≡_, sym, _∙_}
-use mathlib.Core.Bool.{Bool, true, false, _&&_, _||_, and-false}
+use mathlib.Core.Bool.{Bool, true, false, _&&_, _||_, and-false, and-true, false≢true}
 use mathlib.Core.List.{List}
 use Prim.Native.Nat.{ℕ, _+_, _-_, _*_, _/_, _%_, _^_, _≤_, _<_}
 use native.Mathlib.Omega.{arith}
 use lib.Bits.{bitOr}
 use lib.Dec.{ltb, leb, eqb}
 use lib.ListN.{getD}
-use borrow.Author.Tests.{lt-ltb, le-ltb, lt-leb}
+use borrow.Author.Tests.{lt-ltb, le-ltb, lt-leb, leb-true, eqb-true, eq-eqb}
+use Rattle.facts.proofs.Tests.{and-both}
 use Rattle.pool.specs.Node.{Kind, var, const, ite, extract, zext, cellAt, widthAt, setAt, wordAt, aOf, bOf, cOf}
 use Rattle.pool.specs.Rules.{widthBefore, setBefore}
 use Rattle.pool_fields.specs.Fields.{opA, opB, opC}
@@ -78,10 +79,30 @@ module _ (ws : List ℕ) (n : ℕ) where
       let l′ : wordAt ws n 2 < 32 = omega (arith, own .x-is) in
       rw (t, own .width-is, own .x-is, own .y-is, own .set-is, e, unused (wordAt ws n 1)) (var-is n (cellAt ws n) wA wB wC (setAt ws n) sA sB sC l′)
 
-  pub const-at : {w x y s w1 : ℕ} {b : Bool} → Own w x y s → w1 ≡ wordAt ws n 1 → b ≡ ltb (x + 18446744073709551616 * y) (2 ^ w)
-      → (leb 1 w && leb w 129 && eqb w1 0 && b && eqb s 0) ≡ okAs const ws n
-  const-at own e f =
-      rw (f, own .width-is, own .x-is, own .y-is, own .set-is, e, unused (wordAt ws n 1)) (const-is n (cellAt ws n) wA wB wC (setAt ws n) sA sB sC)
+  -- a Const: the set stands above the width in w, and is 0 where w is a width
+  pub const-at : {w x y : ℕ} {b : Bool} → w ≡ widthAt ws n + 65536 * setAt ws n → x ≡ wordAt ws n 2 → y ≡ wordAt ws n 3 → (leb 1 w && leb w 129 && eqb (wordAt ws n 1) 0) ≡ true
+      → b ≡ ltb (x + 18446744073709551616 * y) (2 ^ w)
+      → b ≡ okAs const ws n
+  const-at {w} {x} {y} {b} e ex ey h f =
+      let p2 = and-both (leb 1 w && leb w 129) (eqb (wordAt ws n 1) 0) h in
+      let p1 = and-both (leb 1 w) (leb w 129) (p2 .0) in
+      let most : w ≤ 129 = leb-true w 129 (p1 .1) in
+      let no-set : setAt ws n ≡ 0 = omega (arith, e, most) in
+      let same : w ≡ widthAt ws n = omega (arith, e, no-set) in
+      let all : (leb 1 (widthAt ws n) && leb (widthAt ws n) 129 && eqb (wordAt ws n 1) 0 && b && eqb (setAt ws n) 0) ≡ b =
+      rw (← same, p1 .0, p1 .1, p2 .1, eq-eqb (setAt ws n) 0 no-set) (and-true b) in
+      sym all ∙ rw (f, ex, ey, same, unused (wordAt ws n 1)) (const-is n (cellAt ws n) wA wB wC (setAt ws n) sA sB sC)
+
+  pub const-not : {w : ℕ} → w ≡ widthAt ws n + 65536 * setAt ws n → (leb 1 w && leb w 129 && eqb (wordAt ws n 1) 0) ≡ false → false ≡ okAs const ws n
+  const-not {w} e h =
+      never _ (λ t.
+      let p5 = and-both _ _ (const-is n (cellAt ws n) wA wB wC (setAt ws n) sA sB sC ∙ t) in
+      let p4 = and-both _ _ (p5 .0) in
+      let p3 = and-both _ _ (p4 .0) in
+      let p2 = and-both (leb 1 (widthAt ws n)) (leb (widthAt ws n) 129) (p3 .0) in
+      let same : w ≡ widthAt ws n = omega (arith, e, eqb-true (setAt ws n) 0 (p5 .1)) in
+      let all : (leb 1 w && leb w 129 && eqb (wordAt ws n 1) 0) ≡ true = rw (same, p2 .0, p2 .1) (unused (wordAt ws n 1) ∙ p3 .1) in
+      false≢true (sym h ∙ all))
 
   -- ---- what refuses a node
 

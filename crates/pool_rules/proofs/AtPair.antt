@@ -1,6 +1,6 @@
 -- The laws on the tests of two operands, at a node of a pool and by the number of its kind. Assumes nothing.
 use mathlib.Core.Path.{_≡_, refl}
-use mathlib.Core.Bool.{Bool, true, false, _&&_, _||_, and-false, or-true, or-false}
+use mathlib.Core.Bool.{Bool, true, false, _&&_, _||_, and-false, or-false}
 use mathlib.Core.List.{List}
 use Prim.Native.Nat.{ℕ, _+_, _/_, _≤_, _<_}
 use native.Mathlib.Omega.{arith}
@@ -48,13 +48,17 @@ module _ (P : Kind → Type 0) where
 module _ (ws : List ℕ) (n : ℕ) where
   abbrev PairTest : Bool → ℕ → Bool
   PairTest e v =
-      leb 1 (wA ws n) && leb 1 (wB ws n) && e && eqb (cellAt ws n .width) v && leb (cellAt ws n .width) 129 && eqb (cellAt ws n .x) 0 && eqb (cellAt ws n .y) 0
+      leb 1 (wA ws n) && e && eqb (cellAt ws n .width) v && leb (cellAt ws n .width) 129 && eqb (cellAt ws n .x) 0 && eqb (cellAt ws n .y) 0
       && eqb (setAt ws n) (bitOr (sA ws n) (sB ws n))
 
+  -- the widths of the operands may stand together
+  abbrev Stand : ℕ → Bool
+  Stand j = eqb (wA ws n) (wB ws n) || (eqb j 17 && leb 1 (wB ws n))
+
   module _ (less-a : opA ws n < n) (less-b : opB ws n < n) (no-c : opC ws n ≡ 0) where
-    tests : (j : ℕ) → IsPair j → PairTest (eqb (wA ws n) (wB ws n) || eqb j 17) (widthOver j (wA ws n) (wB ws n)) ≡ okAs (kindAt j) ws n
+    tests : (j : ℕ) → IsPair j → PairTest (Stand j) (widthOver j (wA ws n) (wB ws n)) ≡ okAs (kindAt j) ws n
     tests j h =
-        by-number (λ κ. PairTest (eqb (wA ws n) (wB ws n) || eqb j 17) (widthOver j (wA ws n) (wB ws n)) ≡ okAs κ ws n) j h
+        by-number (λ κ. PairTest (Stand j) (widthOver j (wA ws n) (wB ws n)) ≡ okAs κ ws n) j h
         (λ l o.
         rw (ne-eqb j 17 (λ e. omega (arith, e, l)), lt-ltb j 12 l, or-false)
         (bv-is n (cellAt ws n) (wA ws n) (wB ws n) (wC ws n) (setAt ws n) (sA ws n) (sB ws n) (sC ws n) less-a less-b no-c o))
@@ -62,11 +66,11 @@ module _ (ws : List ℕ) (n : ℕ) where
         rw (ne-eqb j 17 (λ e. omega (arith, e, m)), le-ltb j 12 l, or-false)
         (compare-is n (cellAt ws n) (wA ws n) (wB ws n) (wC ws n) (setAt ws n) (sA ws n) (sB ws n) (sC ws n) less-a less-b no-c o))
         (λ e.
-        rw (eq-eqb j 17 e, or-true)
+        rw (eq-eqb j 17 e)
         (concat-is n (cellAt ws n) (wA ws n) (wB ws n) (wC ws n) (setAt ws n) (sA ws n) (sB ws n) (sC ws n) less-a less-b no-c))
 
     pub pair-at : {w x y s A B SA SB v : ℕ} (j : ℕ) → IsPair j → Own ws n w x y s → A ≡ wA ws n → B ≡ wB ws n → SA ≡ sA ws n → SB ≡ sB ws n → v ≡ widthOver j A B
-        → (leb 1 A && leb 1 B && (eqb A B || eqb j 17) && eqb w v && leb w 129 && eqb x 0 && eqb y 0 && eqb s (bitOr SA SB)) ≡ okAs (kindAt j) ws n
+        → (leb 1 A && (eqb A B || (eqb j 17 && leb 1 B)) && eqb w v && leb w 129 && eqb x 0 && eqb y 0 && eqb s (bitOr SA SB)) ≡ okAs (kindAt j) ws n
     pair-at j h own eA eB fA fB e = rw (e, own .width-is, own .x-is, own .y-is, own .set-is, eA, eB, fA, fB) (tests j h)
 
   -- ---- what refuses such a node

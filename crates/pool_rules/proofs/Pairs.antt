@@ -1,6 +1,7 @@
 -- The code's tests of a node of two operands are the rules of its kind and of its set. Assumes nothing.
-use mathlib.Core.Path.{_≡_, refl, sym}
-use mathlib.Core.Bool.{Bool, true, _&&_}
+use mathlib.Core.Path.{_≡_, refl, sym, _∙_}
+use mathlib.Core.Bool.{Bool, true, false, _&&_, _||_, or-true}
+use mathlib.Core.Logic.{⊎-elim, _⊎_, inl, inr}
 use Prim.Native.Nat.{ℕ, _+_, _≤_, _<_}
 use native.Mathlib.Omega.{arith}
 use lib.Bits.{bitOr}
@@ -151,11 +152,10 @@ module _ (n : ℕ) (k : Cell) (A B C s SA SB SC : ℕ) where
 
   -- the code's tests of two operands: e whether their widths may stand together, v the width over them
   abbrev PairTest : Bool → ℕ → Bool
-  PairTest e v = leb 1 A && leb 1 B && e && eqb (k .width) v && leb (k .width) 129 && eqb (k .x) 0 && eqb (k .y) 0 && eqb s (bitOr SA SB)
+  PairTest e v = leb 1 A && e && eqb (k .width) v && leb (k .width) 129 && eqb (k .x) 0 && eqb (k .y) 0 && eqb s (bitOr SA SB)
 
   record PairFacts (e : Bool) (v : ℕ) : Type 0 where
     one-a : 1 ≤ A
-    one-b : 1 ≤ B
     stand : e ≡ true
     wide-is : k .width ≡ v
     most : k .width ≤ 129
@@ -171,10 +171,8 @@ module _ (n : ℕ) (k : Cell) (A B C s SA SB SC : ℕ) where
       let p4 = and-both _ _ (p5 .0) in
       let p3 = and-both _ _ (p4 .0) in
       let p2 = and-both _ _ (p3 .0) in
-      let p1 = and-both _ _ (p2 .0) in
       record {
-        one-a = leb-true _ _ (p1 .0);
-        one-b = leb-true _ _ (p1 .1);
+        one-a = leb-true _ _ (p2 .0);
         stand = p2 .1;
         wide-is = eqb-true _ _ (p3 .1);
         most = leb-true _ _ (p4 .1);
@@ -187,7 +185,6 @@ module _ (n : ℕ) (k : Cell) (A B C s SA SB SC : ℕ) where
   pair-holds e v f =
       rw (
         le-leb 1 A (f .one-a),
-        le-leb 1 B (f .one-b),
         f .stand,
         eq-eqb (k .width) v (f .wide-is),
         le-leb (k .width) 129 (f .most),
@@ -217,7 +214,6 @@ module _ (n : ℕ) (k : Cell) (A B C s SA SB SC : ℕ) where
         let w = f .widths in
         pair-holds (eqb A B) A (record {
           one-a = omega (arith, w .0, w .2);
-          one-b = omega (arith, w .0, w .3);
           stand = eq-eqb A B (omega (arith, w .2, w .3));
           wide-is = sym (w .2);
           most = w .1;
@@ -245,7 +241,6 @@ module _ (n : ℕ) (k : Cell) (A B C s SA SB SC : ℕ) where
         let w = f .widths in
         pair-holds (eqb A B) 0 (record {
           one-a = w .1;
-          one-b = omega (arith, w .1, w .2);
           stand = eq-eqb A B (sym (w .2));
           wide-is = w .0;
           most = omega (arith, w .0);
@@ -254,27 +249,36 @@ module _ (n : ℕ) (k : Cell) (A B C s SA SB SC : ℕ) where
           set-is = f .set-is;
         }))
 
-    pub concat-is : PairTest true (A + B) ≡ Keeps′ concat
+    -- the operands' widths are any
+    stands : 1 ≤ A → (eqb A B || leb 1 B) ≡ leb 1 B
+    stands h =
+        same _ _ (λ e. ⊎-elim (λ q. le-leb 1 B (omega (arith, eqb-true A B q))) (λ q. q) (either (eqb A B) (leb 1 B) e)) (λ e. rw e (or-true (eqb A B)))
+      where
+        either : (p q : Bool) → (p || q) ≡ true → (p ≡ true) ⊎ (q ≡ true)
+        either true q e = inl refl
+        either false q e = inr e
+
+    pub concat-is : PairTest (eqb A B || leb 1 B) (A + B) ≡ Keeps′ concat
     concat-is =
         same _ _
         (λ h.
-        let t = pair-facts true (A + B) h in
+        let t = pair-facts (eqb A B || leb 1 B) (A + B) h in
+        let b : 1 ≤ B = leb-true 1 B (sym (stands (t .one-a)) ∙ t .stand) in
         concat-holds (record {
           less-a = less-a;
           less-b = less-b;
           no-c = no-c;
           no-x = t .no-x;
           no-y = t .no-y;
-          widths = (omega (arith, t .wide-is, t .one-a), t .most, t .one-a, t .one-b, t .wide-is);
+          widths = (omega (arith, t .wide-is, t .one-a), t .most, t .one-a, b, t .wide-is);
           set-is = t .set-is;
         }))
         (λ h.
         let f = concat-facts h in
         let w = f .widths in
-        pair-holds true (A + B) (record {
+        pair-holds (eqb A B || leb 1 B) (A + B) (record {
           one-a = w .2;
-          one-b = w .3;
-          stand = refl;
+          stand = stands (w .2) ∙ le-leb 1 B (w .3);
           wide-is = w .4;
           most = w .1;
           no-x = f .no-x;

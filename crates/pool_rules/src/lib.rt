@@ -21,16 +21,16 @@ ghost use Rattle.pool_rules.specs.Rule.{okAs, widthOver};
 fn below(x: u64, y: u64, bits: u64) -> bool
     ensures { λ r. ⌜ r ≡ ltb (x + 18446744073709551616 * y) (2 ^ bits) ⌝ }
 {
-    if 128 <= bits {
-        return true;
+    if bits < 64 {
+        if y == 0 {
+            return x < 1u64 << bits;
+        }
+        return false;
     }
-    if 64 <= bits {
+    if bits < 128 {
         return y < 1u64 << (bits - 64);
     }
-    if y == 0 {
-        return x < 1u64 << bits;
-    }
-    false
+    true
 }
 
 pub fn var_ok(p: &[u64], n: Node) -> bool
@@ -51,12 +51,12 @@ pub fn const_ok(p: &[u64], n: Node) -> bool
     requires { ⌜ 4 * n .0 + 3 < length (now p) ⌝ }
     ensures { λ r. ⌜ r ≡ okAs Kind.const (now (p .entry)) (n .0) ⌝ }
 {
-    let width = width_of(p, n);
-    (1 <= width)
-        & (width <= 129)
-        & (operand_word(p, n) == 0)
-        & below(low(p, n), high(p, n), width)
-        & (set_of(p, n) == 0)
+    // the width and, above it, the set, which has to be 0
+    let width = width_of(p, n) + 65536 * set_of(p, n);
+    if !((1 <= width) & (width <= 129) & (operand_word(p, n) == 0)) {
+        return false;
+    }
+    below(low(p, n), high(p, n), width)
 }
 
 // The width over two operands of a and of b bits.
@@ -93,8 +93,7 @@ pub fn pair_ok(p: &[u64], n: Node, kind: u64) -> bool
     let wb = width_of(p, b);
     let width = width_of(p, n);
     (1 <= wa)
-        & (1 <= wb)
-        & ((wa == wb) | (kind == 17))
+        & ((wa == wb) | (kind == 17) & (1 <= wb))
         & (width == width_over(kind, wa, wb))
         & (width <= 129)
         & (low(p, n) == 0)

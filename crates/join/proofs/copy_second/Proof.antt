@@ -1,5 +1,6 @@
 -- `copy_second` meets its contract: before node m the words are those of `joinWord`.
-use Rattle.join.proofs.Copies.{start-at, second-at, from-half, word-small}
+use Rattle.join.proofs.Copies.{start-at, second-at, from-half}
+use Rattle.join.proofs.Unused.{moved-parts, word-small}
 use Rattle.join.specs.Join.{SecondAt}
 use lib.ListN.{length}
 use Prim.Native.Nat.{_+_, _-_, _≤_}
@@ -57,7 +58,8 @@ loop-again c =
       omega arith,
       omega arith,
       second-at (a .first .now) (a .c) (a .second .now) (a .d) (a .x) (a .y) (s .pre .1 .0 .1) (s .pre .0 .2) _ (l .out) _ (l .m) (l .inv .1)
-          (at-loop-test .loop-test .taken) (omega (arith, n)) (c .before .before .move-one .ensures) (l .inv .2),
+          (at-loop-test .loop-test .taken) (omega (arith, n)) (moved-parts (a .second .now) (a .d) (l .m) (s .pre .0 .0) (at-loop-test .loop-test .taken) (a .c))
+          (c .before .before .move-one .ensures) (l .inv .2),
     )
 
 same-length : tie.Need-same-length Inv-loop μ-loop

@@ -1,5 +1,4 @@
 -- `move_one` meets its contract: the four words of one node of the second pool, renumbered.
-use Rattle.join.specs.Join.{movedWord}
 use Rattle.pool.specs.Node.{writeNode, wordAt}
 use lib.ListN.{getD}
 use Prim.Native.Nat.{ℕ, _+_, _-_, _*_}
@@ -11,9 +10,6 @@ use Rattle.join.proofs.move_one.Tie as tie
 
 mul-at : tie.Need-mul-at
 mul-at c = search needs
-
-kind-of-requires : tie.Need-kind-of-requires
-kind-of-requires c κs = search needs
 
 add-moved-word : tie.Need-add-moved-word
 add-moved-word c = search needs
@@ -66,20 +62,17 @@ same-length c = search needs
 returns : tie.Need-returns
 returns c =
     let at-moved-word = c .before .before .before .before .before .before .before in
-    let at-kind-of = at-moved-word .before .before in
-    let a = at-kind-of .before .before .before .args in
+    let a = at-moved-word .before .before .before .before .args in
     let w = a .second .now in
     let n = a .m + a .c - 32 in
     c .before .before .push .ensures .words
-    ∙ ap (λ (z : ℕ). writeNode (a .out .now) n (getD w (4 * a .m) 0) z (wordAt w (a .m) 2) (wordAt w (a .m) 3))
-    (at-moved-word .moved-word .ensures ∙ ap (λ (k : ℕ). movedWord (a .c) k (wordAt w (a .m) 1)) (at-kind-of .kind-of .ensures))
+    ∙ ap (λ (z : ℕ). writeNode (a .out .now) n (getD w (4 * a .m) 0) z (wordAt w (a .m) 2) (wordAt w (a .m) 3)) (at-moved-word .moved-word .ensures)
 
 pub move-one-spec : {M : Type 1} → statement M
 move-one-spec =
     tie.close
     (tie.spec
     mul-at
-    kind-of-requires
     add-moved-word
     mul-moved-word
     shared-slice-read-moved-word

@@ -1,64 +1,64 @@
--- `moved_word` meets its contract: each of the three operands that the kind has is renumbered.
-use mathlib.Core.Bool.{Bool}
-use mathlib.Core.Path.{ap, _∙_}
-use Rattle.pool.specs.Node.{aOf, bOf, cOf, operandWord}
-use Rattle.join.specs.Join.{movedIf}
+-- `moved_word` meets its contract: each of the three operands is renumbered.
+use mathlib.Core.Path.{_≡_}
+use Prim.Native.Nat.{_+_}
+use native.Mathlib.Omega.{arith}
+use Rattle.pool.specs.Node.{aOf, bOf, cOf}
+use Rattle.join.specs.Join.{moved}
+use Rattle.join.proofs.Checks.{raised-is}
 use borrow.Author.Needs.{needs}
 use Rattle.join.proofs.moved_word.Statement.{statement}
 use Rattle.join.proofs.moved_word.Tie as tie
 
-has-a-requires : tie.Need-has-a-requires
-has-a-requires c κs = search needs
+sub-by : tie.Need-sub-by
+sub-by c = search needs
 
-moved-if-requires : tie.Need-moved-if-requires
-moved-if-requires c κs = search needs
-
-has-b-requires : tie.Need-has-b-requires
-has-b-requires c κs = search needs
-
-moved-if-requires-2 : tie.Need-moved-if-requires-2
-moved-if-requires-2 c κs = search needs
-
-has-c-requires : tie.Need-has-c-requires
-has-c-requires c κs = search needs
-
-moved-if-requires-3 : tie.Need-moved-if-requires-3
-moved-if-requires-3 c κs = search needs
-
-mul-result : tie.Need-mul-result
-mul-result c = search needs
+raised-requires : tie.Need-raised-requires
+raised-requires c κs = search needs
 
 add-result : tie.Need-add-result
 add-result c = search needs
 
-mul-result-2 : tie.Need-mul-result-2
-mul-result-2 c = search needs
+raised-requires-2 : tie.Need-raised-requires-2
+raised-requires-2 c κs = search needs
+
+mul-result : tie.Need-mul-result
+mul-result c = search needs
 
 add-result-2 : tie.Need-add-result-2
 add-result-2 c = search needs
 
+raised-requires-3 : tie.Need-raised-requires-3
+raised-requires-3 c κs = search needs
+
+mul-result-2 : tie.Need-mul-result-2
+mul-result-2 c = search needs
+
+add-result-3 : tie.Need-add-result-3
+add-result-3 c = search needs
+
 returns : tie.Need-returns
 returns c =
-    let at-b = c .before .before in
-    let at-a = at-b .before .before in
-    let a = at-a .before .before .args in
-    let m0 = at-a .moved-if .ensures .0 ∙ ap (λ (t : Bool). movedIf t (a .c) (aOf (a .w1))) (at-a .before .has-a .ensures) in
-    let m1 = at-b .moved-if2 .ensures .0 ∙ ap (λ (t : Bool). movedIf t (a .c) (bOf (a .w1))) (at-b .before .has-b .ensures) in
-    let m2 = c .moved-if3 .ensures .0 ∙ ap (λ (t : Bool). movedIf t (a .c) (cOf (a .w1))) (c .before .has-c .ensures) in
-    λ i. operandWord (m0 i) (m1 i) (m2 i)
+    let at-c = c in
+    let at-b = at-c .before in
+    let at-a = at-b .before in
+    let st = at-a .before in
+    let a = st .args in
+    let ea : moved (a .c) (aOf (a .w1)) ≡ aOf (a .w1) + at-a .raised .result = raised-is (a .c) _ _ (st .pre .0) (at-a .raised .ensures .0) in
+    let eb : moved (a .c) (bOf (a .w1)) ≡ bOf (a .w1) + at-b .raised2 .result = raised-is (a .c) _ _ (st .pre .0) (at-b .raised2 .ensures .0) in
+    let ec : moved (a .c) (cOf (a .w1)) ≡ cOf (a .w1) + at-c .raised3 .result = raised-is (a .c) _ _ (st .pre .0) (at-c .raised3 .ensures .0) in
+    rw (ea, eb, ec) (omega arith)
 
 pub moved-word-spec : {M : Type 1} → statement M
 moved-word-spec =
     tie.close
     (tie.spec
-    has-a-requires
-    moved-if-requires
-    has-b-requires
-    moved-if-requires-2
-    has-c-requires
-    moved-if-requires-3
-    mul-result
+    sub-by
+    raised-requires
     add-result
-    mul-result-2
+    raised-requires-2
+    mul-result
     add-result-2
+    raised-requires-3
+    mul-result-2
+    add-result-3
     returns)

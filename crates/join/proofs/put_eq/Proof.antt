@@ -3,6 +3,7 @@ use Rattle.pool.specs.Node.{operandWord, kindWord}
 use lib.Bits.{bitOr, or-lt}
 use mathlib.Core.Path.{ap₂}
 use Rattle.join.specs.Join.{moved, eqSet}
+use Rattle.join.proofs.Checks.{raised-is}
 use Rattle.pool.specs.Node.{writeNode}
 use Prim.Native.Nat.{_+_, _-_, _*_}
 use mathlib.Core.Path.{_≡_, _∙_, ap}
@@ -17,8 +18,14 @@ set-of-requires c κs = search needs
 set-of-requires-2 : tie.Need-set-of-requires-2
 set-of-requires-2 c κs = search needs
 
-moved-if-requires : tie.Need-moved-if-requires
-moved-if-requires c κs = search needs
+sub-raised : tie.Need-sub-raised
+sub-raised c = search needs
+
+raised-requires : tie.Need-raised-requires
+raised-requires c κs = search needs
+
+add-b : tie.Need-add-b
+add-b c = search needs
 
 add-push : tie.Need-add-push
 add-push c = search needs
@@ -48,14 +55,15 @@ returns : tie.Need-returns
 returns c =
     let l-push = c .before .before in
     let l-kind-word = l-push .before in
-    let l-moved-if = l-kind-word .before .before in
-    let l-set-of2 = l-moved-if .before in
+    let l-raised = l-kind-word .before .before in
+    let l-set-of2 = l-raised .before in
     let l-set-of = l-set-of2 .before in
     let s = l-set-of .before .before .before .before in
     let n = s .args .c + s .args .d - 32 in
     let k : l-kind-word .kind-word .result ≡ kindWord 12 0 (eqSet (s .args .first .now) (s .args .second .now) (s .args .x) (s .args .y)) =
     l-kind-word .kind-word .ensures ∙ ap (kindWord 12 0) (ap₂ bitOr (l-set-of .set-of .ensures .0) (l-set-of2 .set-of2 .ensures .0)) in
-    let w : s .args .x + 65536 * l-moved-if .moved-if .result ≡ operandWord (s .args .x) (moved (s .args .c) (s .args .y)) 0 = omega (arith, l-moved-if .moved-if .ensures .0) in
+    let b = raised-is (s .args .c) (s .args .y) (l-raised .raised .result) (omega arith) (l-raised .raised .ensures .0) in
+    let w : s .args .x + 65536 * (s .args .y + l-raised .raised .result) ≡ operandWord (s .args .x) (moved (s .args .c) (s .args .y)) 0 = omega (arith, b) in
     l-push .push .ensures .words ∙ (λ i. writeNode (s .args .out .now) n (k i) (w i) 0 0)
 
 pub put-eq-spec : {M : Type 1} → statement M
@@ -64,7 +72,9 @@ put-eq-spec =
     (tie.spec
     set-of-requires
     set-of-requires-2
-    moved-if-requires
+    sub-raised
+    raised-requires
+    add-b
     add-push
     sub-push
     kind-word-requires

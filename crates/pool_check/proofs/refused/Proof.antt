@@ -1,0 +1,71 @@
+-- refused meets its contract: the loop has passed the nodes below n
+use native.Mathlib.Omega.{arith}
+use borrow.Author.Tests.{not-true, not-false, eq-eqb, ne-eqb}
+use Prim.Native.Nat.{_≤_, _-_}
+use mathlib.Core.Path.{_≡_, sym, _∙_}
+use mathlib.Core.Bool.{true}
+use Rattle.facts.proofs.Tests.{and-both}
+use Rattle.pool.specs.Rules.{okNode, okPool}
+use Rattle.pool_check.specs.Plain.{plainAt, plainFrom}
+use Rattle.pool_check.proofs.Nodes.{one-more, none, plain-none, plain-more, some-refused}
+use Rattle.pool_check.proofs.refused.Statement.{statement}
+use Rattle.pool_check.proofs.refused.Tie as tie
+
+abbrev Inv-loop : tie.InvT-loop
+Inv-loop pool count plain n₀ n = (n ≤ count) × (okPool pool n ≡ true) × (plainFrom pool plain n ≡ true)
+
+abbrev μ-loop : tie.MeasureT-loop
+μ-loop pool count plain n₀ n = count - n
+
+loop-holds : tie.Need-loop-holds Inv-loop μ-loop
+loop-holds c =
+    let a = c .before .args in
+    (omega arith, none (a .pool .now), plain-none (a .pool .now) (a .plain))
+
+node-ok-requires : tie.Need-node-ok-requires Inv-loop μ-loop
+node-ok-requires c κs = omega arith
+
+returns : tie.Need-returns Inv-loop μ-loop
+returns c =
+    let k = c .before in
+    let t = k .before in
+    let s = t .before in
+    let a = s .before .before .args in
+    rw (ne-eqb (s .loop .n) (a .count) (λ e. omega (arith, e, t .loop-test .taken)))
+    (sym (some-refused (a .pool .now) (a .plain) (s .loop .n) (a .count) (t .loop-test .taken) (sym (k .node-ok .ensures) ∙ not-true _ (c .if1 .taken))))
+
+add-n : tie.Need-add-n Inv-loop μ-loop
+add-n c = omega arith
+
+loop-less : tie.Need-loop-less Inv-loop μ-loop
+loop-less c = omega arith
+
+loop-again : tie.Need-loop-again Inv-loop μ-loop
+loop-again c =
+    let k = c .before in
+    let s = k .before .before in
+    let a = s .before .before .args in
+    let n = s .loop .n in
+    let p = and-both (okNode (a .pool .now) n) (plainAt (a .pool .now) (a .plain) n) (sym (k .node-ok .ensures) ∙ not-false _ (c .if1 .left)) in
+    (omega arith, one-more (a .pool .now) n (s .loop .inv .1) (p .0), plain-more (a .pool .now) (a .plain) n (s .loop .inv .2) (p .1))
+
+returns-2 : tie.Need-returns-2 Inv-loop μ-loop
+returns-2 c =
+    let s = c .before in
+    let a = s .before .before .args in
+    let e : s .loop .n ≡ a .count = omega arith in
+    rw (eq-eqb (s .loop .n) (a .count) e, ← e, s .loop .inv .1, s .loop .inv .2)
+
+pub refused-spec : {M : Type 1} → statement M
+refused-spec =
+    tie.close
+    (tie.spec
+    Inv-loop
+    μ-loop
+    loop-holds
+    node-ok-requires
+    returns
+    add-n
+    loop-less
+    loop-again
+    returns-2)
