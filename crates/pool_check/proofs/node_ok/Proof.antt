@@ -71,7 +71,7 @@ returns-4 c =
     let a = entry k .args in
     no-var (now (a .pool)) (a .plain) (a .n .0) (k .kind-of .ensures) (λ e. omega (arith, e, above .if4 .taken))
     (by-number (now (a .pool)) (a .n .0) (k .kind-of .ensures)
-    (c .extend-ok .ensures ∙ extension (now (a .pool)) (a .n .0) (k .kind-of .result) (above .if4 .taken) (omega (arith, below .if5 .taken))))
+    (c .extend-ok .ensures ∙ extension (now (a .pool)) (a .n .0) (k .kind-of .result) (above .if4 .taken) (below .if5 .taken)))
 
 returns-5 : tie.Need-returns-5
 returns-5 c =
