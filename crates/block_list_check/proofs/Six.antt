@@ -34,6 +34,10 @@ Six c =
 
 pub six : {M : Type 1} {𝓤 : URA M} {H : Heap 𝓤} {A : Atoms 𝓤} (W : Given 𝓤 H A) {Γ : List (Item 𝓤)} {G : Goal 𝓤 H} {K : Type 0} → K → (c : Instruction) → Fits c → Step K W (‵ (Six c) ∷ Γ) G Γ G
 six {𝓤 = 𝓤} {H = H} {A = A} W t c f =
-    step (λ s. nothing t $ owned t u64 (Is u64) (uint-makes 𝓤 H A W w64) (c .m) _ (refl, f .m) $ fjoin t $ owned t u64 (Is u64) (uint-makes 𝓤 H A W w64) (c .n) _ (refl, f .n) $ fjoin t $
-    owned t u64 (Is u64) (uint-makes 𝓤 H A W w64) (c .d) _ (refl, f .d) $ fjoin t $ owned t u64 (Is u64) (uint-makes 𝓤 H A W w64) (c .i) _ (refl, f .i) $ fjoin t $
-    owned t u64 (Is u64) (uint-makes 𝓤 H A W w64) (c .arrangement) _ (refl, f .arrangement) $ fjoin t $ owned t u64 (Is u64) (uint-makes 𝓤 H A W w64) (c .operation) _ (refl, f .operation) $ fjoin t $ s)
+    step (λ s. nothing t $
+    owned t u64 (Is u64) (uint-makes 𝓤 H A W w64) (c .m) _ (refl, f .m) $ fjoin t $
+    owned t u64 (Is u64) (uint-makes 𝓤 H A W w64) (c .n) _ (refl, f .n) $ fjoin t $
+    owned t u64 (Is u64) (uint-makes 𝓤 H A W w64) (c .d) _ (refl, f .d) $ fjoin t $
+    owned t u64 (Is u64) (uint-makes 𝓤 H A W w64) (c .i) _ (refl, f .i) $ fjoin t $
+    owned t u64 (Is u64) (uint-makes 𝓤 H A W w64) (c .arrangement) _ (refl, f .arrangement) $ fjoin t $
+    owned t u64 (Is u64) (uint-makes 𝓤 H A W w64) (c .operation) _ (refl, f .operation) $ fjoin t $ s)
