@@ -21,7 +21,9 @@ use Rattle.trees.specs.Simd.{concatLanes}
 use Rattle.trees.specs.Arith.{shiftLane, bitwiseUnaryLane, doublingLongLane}
 use Rattle.trees.specs.Neon.{neonOp, resultTree}
 use Rattle.trees.specs.Block.{readTree, widenTree, recordTree, treeStep, treeRun}
-use Rattle.trees_value.proofs.Fit.{Fit, fit-as, fit-bv, fit-cut, fit-concat, fit-zext, fit-imm, fit-saturating, fit-sqshlu, fit-right, fit-register, fit-insert, fit-sat, fit-halving, fit-narrow, fit-shift-narrow, fit-unary, fit-dmulh, fit-mixed, fit-abd, fit-count, fit-leading, fit-signs, fit-reverse, fit-high, fit-product, fit-combined, fit-concat-lanes, fit-lane-of}
+use Rattle.trees_value.proofs.Fit.{Fit, fit-as, fit-bv, fit-cut, fit-concat, fit-zext, fit-concat-lanes, fit-lane-of}
+use Rattle.trees_value.proofs.FitLane.{fit-imm, fit-saturating, fit-sqshlu, fit-right, fit-register, fit-insert, fit-sat, fit-halving, fit-narrow, fit-shift-narrow, fit-unary, fit-dmulh}
+use Rattle.trees_value.proofs.FitLane.{fit-mixed, fit-abd, fit-count, fit-leading, fit-signs, fit-reverse, fit-high, fit-product, fit-combined}
 use Rattle.trees_value.proofs.Lane.{laneTree}
 use Rattle.trees_value.proofs.Whole.{treeAt, placeTree, as-lanes}
 

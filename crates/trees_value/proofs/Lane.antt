@@ -19,7 +19,9 @@ use Rattle.trees_value.proofs.Bv.{FitsS, FitsU}
 use Rattle.trees_value.proofs.Is.{Is, Has, has-is, has-number, is-number, is-eq, is-add}
 use Rattle.trees_value.proofs.Clamp.{S-fits, is-reading}
 use Rattle.trees_value.proofs.Register.{is-register, is-shl-immediate, is-sqshl-immediate, is-shr-immediate, is-rshr-immediate, is-sqshlu}
-use Rattle.trees_value.proofs.Sat.{applyZ, is-halving, is-sqaddsub, is-dmulh, is-uqadd, is-uqsub, is-sqneg, is-sqabs, is-sqxtn, is-uqxtn, is-sqxtun, is-shrn, is-sqshrn, is-uqshrn, is-sqshrun, is-dmull, is-dmlal, is-suqadd, is-usqadd, is-abd}
+use Rattle.trees_value.proofs.Sat.{applyZ, is-halving, is-sqaddsub, is-dmulh, is-uqadd, is-uqsub, is-sqneg, is-sqabs, is-sqxtn, is-uqxtn, is-sqxtun, is-shrn, is-sqshrn, is-uqshrn, is-sqshrun}
+use Rattle.trees_value.proofs.Sat.{is-dmull, is-dmlal, is-suqadd, is-usqadd}
+use Rattle.trees_value.proofs.Difference.{is-abd}
 use Rattle.trees_value.proofs.Bits.{ones-le, run-le, is-count, is-leading, is-signs, reverse-width, reverse-value, sli-value, sri-value, insert-width, high-width, high-value}
 use Rattle.terms.specs.declared.BinOp.the-variants.{Add, Sub}
 

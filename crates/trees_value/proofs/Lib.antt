@@ -4,6 +4,7 @@ pub mod Bv
 pub mod Is
 pub mod Clamp
 pub mod Sat
+pub mod Difference
 pub mod Lanes
 pub mod Shift
 pub mod Register
@@ -12,6 +13,7 @@ pub mod Lane
 pub mod Whole
 pub mod Block
 pub mod Fit
+pub mod FitLane
 pub mod FitForm
 pub mod Range
 pub mod Lanewise

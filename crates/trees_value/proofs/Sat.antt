@@ -1,5 +1,5 @@
--- The saturating, halving, narrowing, doubling and mixed-sign families, and the absolute differences. Assumes nothing.
-use mathlib.Core.Path.{_≡_, refl, sym, ap, ap₂, _∙_}
+-- The saturating, halving, narrowing, doubling and mixed-sign families. Assumes nothing.
+use mathlib.Core.Path.{_≡_, refl, ap, ap₂, _∙_}
 use mathlib.Core.Bool.{Bool, true, false, cond}
 use Prim.Native.Nat.{ℕ, suc, _+_, _-_, _*_, _^_, _≤_, _<_}
 use native.Mathlib.Omega.{arith}
@@ -11,15 +11,15 @@ use Rattle.terms.specs.Expr.{Expr, Const, Bv}
 use Rattle.terms.specs.declared.BinOp.the-variants.{Add, Sub, Mul, Shl}
 use Rattle.neon.specs.Arm.{cS, cU, floor}
 use Rattle.trees.specs.Lower.{extend}
-use Rattle.trees.specs.Arith.{shiftBy, plusIf, saturatingLane, absoluteDifferenceLane, mixedSignAddLane, doublingProduct, doublingLongLane}
+use Rattle.trees.specs.Arith.{shiftBy, plusIf, saturatingLane, mixedSignAddLane, doublingProduct, doublingLongLane}
 use Rattle.trees.specs.declared.SaturateTo.the-variants.{Signed, Unsigned, SignedToUnsigned}
 use Rattle.trees.specs.declared.Saturate.the-variants.{Never, Into}
 use Rattle.trees.specs.declared.SaturatingKind.the-variants.{AddSub, Halving, Narrow, ShiftNarrow, DoublingMultiplyHigh, Unary}
 use Rattle.trees.specs.declared.Combine.the-variants.{With}
-use Rattle.trees_value.proofs.Z.{up, dn, sum, less, times, neg-up, neg-dn, ext, lt-yes, lt-no, ge-is}
+use Rattle.trees_value.proofs.Z.{up, dn, sum, less, times, neg-up, neg-dn, ge-is}
 use Rattle.trees_value.proofs.Wrap.{half}
 use Rattle.trees_value.proofs.Bv.{FitsS, FitsU, Fits}
-use Rattle.trees_value.proofs.Is.{Is, by-const, is-eq, is-const, is-add, is-sub, is-mul, is-shl, is-ashr, is-extend, is-shift, is-cut, is-ite, says-slt, says-ult}
+use Rattle.trees_value.proofs.Is.{Is, by-const, is-eq, is-const, is-add, is-sub, is-mul, is-shl, is-ashr, is-extend, is-shift, is-cut, is-ite, says-slt}
 use Rattle.trees_value.proofs.Clamp.{is-clampS, is-clampU, is-clampSU, clamp-fits, floor-fits}
 
 -- ---- the powers of two at n + 1 bits
@@ -290,27 +290,3 @@ module _ (r : ℕ → ℕ) where
         is-clampSU r hn (omega arith)
         (record { low = omega (arith, two-power, sum z x, half n hn); high = omega (arith, two-power, sum z x, half n hn) })
         (is-add r (is-extend r false hn (omega arith) f o) (is-extend r true hn (omega arith) g p))
-
-  -- ---- the absolute difference
-  abs-pos : (z : ℤ) → dn z ≤ up z → pos (natAbs z) ≡ z
-  abs-pos (pos m) h = refl
-  abs-pos (negsuc m) h = absurd (omega arith)
-
-  abs-neg : (z : ℤ) → up z < dn z → pos (natAbs z) ≡ negℤ z
-  abs-neg (pos m) h = absurd (omega arith)
-  abs-neg (negsuc m) h = refl
-
-  difference : (x y : ℤ) → cond (ltZ x y) (y -ℤ x) (x -ℤ y) ≡ pos (natAbs (x -ℤ y))
-  difference x y = go (ltZ x y) refl
-    where
-      go : (t : Bool) → ltZ x y ≡ t → cond t (y -ℤ x) (x -ℤ y) ≡ pos (natAbs (x -ℤ y))
-      go true e =
-          ext (y -ℤ x) (negℤ (x -ℤ y)) (omega (arith, less x y, less y x, neg-up (x -ℤ y), neg-dn (x -ℤ y)))
-          ∙ sym (abs-neg (x -ℤ y) (omega (arith, less x y, lt-yes x y e)))
-      go false e = sym (abs-pos (x -ℤ y) (omega (arith, less x y, lt-no x y e)))
-
-  pub is-abd : (s : Bool) (a b : Expr) (n : ℕ) (x y : ℤ) → 0 < n → Fits s n x → Fits s n y → Is r a n x → Is r b n y
-      → Is r (absoluteDifferenceLane s a b) n (pos (natAbs (x -ℤ y)))
-  unfolding absoluteDifferenceLane
-  is-abd true a b n x y hn f g p q = is-eq r (difference x y) (is-ite r (says-slt r hn f g p q) (is-sub r q p) (is-sub r p q))
-  is-abd false a b n x y hn f g p q = is-eq r (difference x y) (is-ite r (says-ult r f g p q) (is-sub r q p) (is-sub r p q))
