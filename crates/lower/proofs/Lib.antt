@@ -1,3 +1,4 @@
 pub mod Powers
 pub mod Clamping
 pub mod Lanes
+pub mod Run
