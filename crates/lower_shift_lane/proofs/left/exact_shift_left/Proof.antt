@@ -1,6 +1,6 @@
 -- exact_shift_left builds `leftImmediate` of SQSHLU: the exact product at its width, clamped
 use native.Mathlib.Omega.{arith}
-use Rattle.lower_shift_lane.proofs.Shifting.{exact-left}
+use Rattle.lower_shift_lane.proofs.ShiftingLeft.{exact-left}
 use mathlib.Core.Path.{refl}
 use borrow.Author.Needs.{needs}
 use Rattle.lower_shift_lane.proofs.left.exact_shift_left.Statement.{statement}

@@ -1,6 +1,5 @@
 -- left_by builds `leftBy`: a left shift by a register, which clamps or not
-use Rattle.lower_shift_lane.proofs.Shifting.{by-saturating}
-use Rattle.lower_shift_lane.proofs.Shifting.{by-wrapping}
+use Rattle.lower_shift_lane.proofs.ShiftingLeft.{by-saturating, by-wrapping}
 use borrow.Author.Needs.{needs}
 use Rattle.lower_shift_lane.proofs.left.left_by.Statement.{statement}
 use Rattle.lower_shift_lane.proofs.left.left_by.Tie as tie

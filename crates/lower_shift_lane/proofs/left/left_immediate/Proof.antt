@@ -1,7 +1,6 @@
 -- left_immediate builds `leftImmediate`: a plain shift, or one that clamps
 use native.Mathlib.Omega.{arith}
-use Rattle.lower_shift_lane.proofs.Shifting.{left-wrapping}
-use Rattle.lower_shift_lane.proofs.Shifting.{left-into}
+use Rattle.lower_shift_lane.proofs.ShiftingLeft.{left-wrapping, left-into}
 use borrow.Author.Needs.{needs}
 use Rattle.lower_shift_lane.proofs.left.left_immediate.Statement.{statement}
 use Rattle.lower_shift_lane.proofs.left.left_immediate.Tie as tie

@@ -1,8 +1,6 @@
 -- saturated_left builds `leftImmediate` of a shift that clamps, into each range
 use native.Mathlib.Omega.{arith}
-use Rattle.lower_shift_lane.proofs.Shifting.{left-exact}
-use Rattle.lower_shift_lane.proofs.Shifting.{left-clamped}
-use Rattle.lower_shift_lane.proofs.Shifting.{not-third}
+use Rattle.lower_shift_lane.proofs.ShiftingLeft.{left-exact, left-clamped, not-third}
 use mathlib.Core.Path.{refl}
 use borrow.Author.Needs.{needs}
 use Rattle.lower_shift_lane.proofs.left.saturated_left.Statement.{statement}

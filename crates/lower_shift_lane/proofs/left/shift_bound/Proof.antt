@@ -1,26 +1,51 @@
 -- shift_bound builds `shiftBound`: by the value's sign, or the one bound of the unsigned range
+use mathlib.Core.List.{[], _∷_}
+use Rattle.lower.proofs.Run.{Begun, begun, Next, next}
 use native.Mathlib.Omega.{arith}
-use Rattle.lower_shift_lane.proofs.Shifting.{bound-signed}
-use Rattle.lower_shift_lane.proofs.Shifting.{bound-unsigned}
+use Rattle.lower_shift_lane.proofs.ShiftingLeft.{bound-signed, bound-unsigned}
 use lib.Pow.{pow-pos}
 use Prim.Native.Nat.{_-_}
 use borrow.Author.Needs.{needs}
 use Rattle.lower_shift_lane.proofs.left.shift_bound.Statement.{statement}
 use Rattle.lower_shift_lane.proofs.left.shift_bound.Tie as tie
 
--- ---- from a place in the code back to the one before it that matters
+-- ---- from the place after a call back to the one before it, and what the calls so far leave
 
-abbrev to-compare : tie.After-konst2 → tie.After-compare
-to-compare c = c .before .before .before .before
+abbrev entry : tie.After-power → tie.Start
+entry c = c .before .before .before
+
+start-run : (s : tie.Start) → Begun (s .pre) (s .args .pool .now) (s .args .count) (s .args .value .0 ∷ [])
+start-run s = begun (s .pre) _ _ _ (s .pre .1 .0, tt)
+
+abbrev to-power : tie.After-konst → tie.After-power
+to-power c = c .before .before
+
+konst-run : (c : tie.After-konst) → Next (start-run (entry (to-power c))) (c .konst .ensures .sized)
+konst-run c = next (start-run (entry (to-power c))) (c .konst .ensures .sized)
 
 abbrev to-konst : tie.After-compare → tie.After-konst
 to-konst c = c .before .before .before .before
 
-abbrev entry : tie.After-konst → tie.Start
-entry c = c .before .before .before .before .before
+compare-run : (c : tie.After-compare) → Next (konst-run (to-konst c)) (c .compare .ensures .sized)
+compare-run c = next (konst-run (to-konst c)) (c .compare .ensures .sized)
+
+abbrev to-compare : tie.After-konst2 → tie.After-compare
+to-compare c = c .before .before .before .before
+
+konst2-run : (c : tie.After-konst2) → Next (compare-run (to-compare c)) (c .konst2 .ensures .sized)
+konst2-run c = next (compare-run (to-compare c)) (c .konst2 .ensures .sized)
 
 abbrev to-konst2 : tie.After-konst3 → tie.After-konst2
 to-konst2 c = c .before .before .before .before
+
+konst3-run : (c : tie.After-konst3) → Next (konst2-run (to-konst2 c)) (c .konst3 .ensures .sized)
+konst3-run c = next (konst2-run (to-konst2 c)) (c .konst3 .ensures .sized)
+
+abbrev to-konst3 : tie.After-ite → tie.After-konst3
+to-konst3 c = c .before .before .before .before
+
+ite-run : (c : tie.After-ite) → Next (konst3-run (to-konst3 c)) (c .ite .ensures .sized)
+ite-run c = next (konst3-run (to-konst3 c)) (c .ite .ensures .sized)
 
 sub-power : tie.Need-sub-power
 sub-power c = search needs
@@ -39,49 +64,29 @@ konst-requires-2 c κs = search needs
 
 sub-konst : tie.Need-sub-konst
 sub-konst c =
-    let l-power = c .before .before .before .before .before .before .before .before .before .before .before .before .before in
-    let st = l-power .before .before .before in
-    omega (arith, l-power .power .ensures, pow-pos (st .args .lane-bits - 1))
+    let l-power = to-power (to-konst (to-compare (c .before .before .before))) in
+    omega (arith, l-power .power .ensures, pow-pos (entry l-power .args .lane-bits - 1))
 
 konst-requires-3 : tie.Need-konst-requires-3
-konst-requires-3 c κs =
-    let l-konst2 = c .before .before .before in
-    let l-compare = to-compare l-konst2 in
-    let l-konst = to-konst l-compare in
-    let st = entry l-konst in
-    omega (arith, st .pre, l-konst .konst .ensures .sized, l-compare .compare .ensures .sized, l-konst2 .konst2 .ensures .sized)
+konst-requires-3 c κs = omega (arith, konst2-run (c .before .before .before))
 
 ite-requires : tie.Need-ite-requires
-ite-requires c κs =
-    let l-konst3 = c .before .before .before in
-    let l-konst2 = to-konst2 l-konst3 in
-    let l-compare = to-compare l-konst2 in
-    let l-konst = to-konst l-compare in
-    let st = entry l-konst in
-    omega (arith, st .pre, l-konst .konst .ensures .sized, l-compare .compare .ensures .sized, l-konst2 .konst2 .ensures .sized, l-konst3 .konst3 .ensures .sized)
+ite-requires c κs = omega (arith, konst3-run (c .before .before .before))
 
 same-length : tie.Need-same-length
-same-length c =
-    let l-ite = c .before .before in
-    let l-konst3 = l-ite .before .before .before .before in
-    let l-konst2 = to-konst2 l-konst3 in
-    let l-compare = to-compare l-konst2 in
-    let l-konst = to-konst l-compare in
-    let st = entry l-konst in
-    omega (arith, st .pre, l-konst .konst .ensures .sized, l-compare .compare .ensures .sized, l-konst2 .konst2 .ensures .sized, l-konst3 .konst3 .ensures .sized, l-ite .ite .ensures .sized)
+same-length c = ite-run (c .before .before) .long
 
 returns : tie.Need-returns
 returns c =
     let l-ite = c .before .before in
-    let l-konst3 = l-ite .before .before .before .before in
+    let l-konst3 = to-konst3 l-ite in
     let l-konst2 = to-konst2 l-konst3 in
     let l-compare = to-compare l-konst2 in
     let l-konst = to-konst l-compare in
-    let l-power = l-konst .before .before in
-    let l-if1 = l-power .before in
-    let st = l-if1 .before .before in
-    bound-signed (st .pre .1 .1) (st .pre .1 .2) (l-if1 .if1 .taken) (l-power .power .ensures) (l-konst .konst .ensures) (l-compare .compare .ensures) (l-konst2 .konst2 .ensures)
-    (l-konst3 .konst3 .ensures) (l-ite .ite .ensures)
+    let l-power = to-power l-konst in
+    let s = entry l-power in
+    bound-signed (s .pre .1 .1) (s .pre .1 .2) (l-power .before .if1 .taken) (l-power .power .ensures) (l-konst .konst .ensures) (l-compare .compare .ensures)
+    (l-konst2 .konst2 .ensures) (l-konst3 .konst3 .ensures) (l-ite .ite .ensures)
 
 unsigned-max-requires : tie.Need-unsigned-max-requires
 unsigned-max-requires c κs = search needs
