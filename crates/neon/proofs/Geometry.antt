@@ -5,7 +5,8 @@ use Prim.Native.Nat.{ℕ, suc, _+_, _-_, _*_, _/_, _≤_, _<_}
 use native.Mathlib.Omega.{arith}
 use native.Mathlib.Nat.{mul-le-mul-left}
 use Rattle.neon.specs.Op.{Arrangement, B8, B16, H4, H8, S2, S4, D2, laneBits, full, bitsIf, view}
-use Rattle.neon.specs.Form.{Lanes, Same, Narrow, Long, Immediate, None, Left, Right, Element, mostOf, isElement, sourceBits, madeBits, firstLane, secondLane, firstFull, secondFull, immediateCode}
+use Rattle.neon.specs.Form.{Lanes, Same, Narrow, Long, Immediate, None, Left, Right, Element, mostOf, isElement, sourceBits, madeBits, firstLane, secondLane, firstFull, secondFull}
+use Rattle.neon.specs.Form.{immediateCode}
 
 -- the lane widths, computed
 pub record Sized (v : Arrangement) : Type 0 where
