@@ -7,7 +7,8 @@ use native.Mathlib.Nat.{le-div-iff-mul-le}
 use lib.Dec.{eqb}
 use borrow.Author.Tests.{le-leb}
 use Rattle.neon.specs.Op.{Op, opAt, Arrangement, arrangementAt, isArrangement, full}
-use Rattle.neon.specs.Form.{Immediate, None, Left, Right, Element, leastOf, mostOf, isElement, form, hasForm, hasSecond, readsD, byElement, firstFull, secondFull, flag, immediateCode, formCode, formCodeAt}
+use Rattle.neon.specs.Form.{Immediate, None, Left, Right, Element, leastOf, mostOf, isElement, form, hasForm, hasSecond, readsD, byElement, firstFull, secondFull, flag, immediateCode, formCode}
+use Rattle.neon.specs.Form.{formCodeAt}
 use Rattle.neon.specs.Refusal.{formNumber}
 use Rattle.neon.proofs.Geometry.{immediate-le}
 use Rattle.neon.proofs.Legal.{formed}

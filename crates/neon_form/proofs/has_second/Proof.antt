@@ -4,9 +4,7 @@ use Rattle.neon_form.proofs.has_second.Statement.{statement}
 use Rattle.neon_form.proofs.has_second.Tie as tie
 
 returns : tie.Need-returns
-returns c =
-    let st = c in
-    λ o v h e. parts _ o v h e .second
+returns c = λ o v h e. parts _ o v h e .second
 
 pub has-second-spec : {M : Type 1} → statement M
 has-second-spec = tie.close (tie.spec returns)

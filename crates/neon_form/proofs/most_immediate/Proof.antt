@@ -20,29 +20,25 @@ sub-result-2 c =
 
 returns : tie.Need-returns
 returns c =
-    let l-match = c in
-    let st = l-match .before in
-    λ o v h e. most-none (form o .immediate) (st .args .bits) (sym (parts (st .args .code) o v h e .row) ∙ l-match .match .keys1)
+    let st = c .before in
+    λ o v h e. most-none (form o .immediate) (st .args .bits) (sym (parts (st .args .code) o v h e .row) ∙ c .match .keys1)
 
 returns-2 : tie.Need-returns-2
 returns-2 c =
-    let l-match = c in
-    let st = l-match .before in
-    λ o v h e. most-left (form o .immediate) (st .args .bits) (sym (parts (st .args .code) o v h e .row) ∙ l-match .match .keys2)
+    let st = c .before in
+    λ o v h e. most-left (form o .immediate) (st .args .bits) (sym (parts (st .args .code) o v h e .row) ∙ c .match .keys2)
 
 returns-3 : tie.Need-returns-3
 returns-3 c =
-    let l-match = c in
-    let st = l-match .before in
-    λ o v h e. most-right (form o .immediate) (st .args .bits) (sym (parts (st .args .code) o v h e .row) ∙ l-match .match .keys3)
+    let st = c .before in
+    λ o v h e. most-right (form o .immediate) (st .args .bits) (sym (parts (st .args .code) o v h e .row) ∙ c .match .keys3)
 
 returns-4 : tie.Need-returns-4
 returns-4 c =
-    let l-match = c in
-    let st = l-match .before in
+    let st = c .before in
     λ o v h e.
     let r = parts (st .args .code) o v h e .row in
-    most-element (form o .immediate) (st .args .bits) (omega (arith, r, l-match .match .rest)) (omega (arith, r, l-match .match .rest)) (omega (arith, r, l-match .match .rest))
+    most-element (form o .immediate) (st .args .bits) (omega (arith, r, c .match .rest)) (omega (arith, r, c .match .rest)) (omega (arith, r, c .match .rest))
 
 pub most-immediate-spec : {M : Type 1} → statement M
 most-immediate-spec =
