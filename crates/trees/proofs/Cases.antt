@@ -11,7 +11,8 @@ use Rattle.neon.specs.Arm.{armLane, wrap, S, clampZ, cS, cU, ones, equalRun, la
 use Rattle.trees.specs.Neon.{neonOp, valueOf}
 use mathlib.Core.Path.{_≡_, refl}
 use Rattle.trees.specs.Simd.{extractLane, concatLanes}
-use Rattle.trees.specs.Arith.{Eq, clamp, saturatingLane, shiftRight, saturatingShiftLeft, shiftLane, leadingZeros, bitwiseUnaryLane, shiftInsertLane, mixedSignAddLane, doublingProduct, doublingLongLane, shiftLanes, shiftInsertLanes, mixedSignAddLanes, doublingLongLanes, keepLower, saturatingLanes, bitwiseUnaryLanes}
+use Rattle.trees.specs.Arith.{Eq, clamp, saturatingLane, shiftRight, saturatingShiftLeft, shiftLane, leadingZeros, bitwiseUnaryLane, shiftInsertLane, mixedSignAddLane, doublingProduct}
+use Rattle.trees.specs.Arith.{doublingLongLane, shiftLanes, shiftInsertLanes, mixedSignAddLanes, doublingLongLanes, keepLower, saturatingLanes, bitwiseUnaryLanes}
 use Rattle.trees.specs.Width.{highNarrowLane, highNarrowLanes}
 
 -- an operation, the bits n of a lane, the immediate i, the old lane d, the source lanes a and b, and the lane of the result
@@ -67,13 +68,17 @@ abbrev pub every : (Case → Bool) → List Case → Bool
 every f [] = true
 every f (c ∷ cs) = f c && every f cs
 
+all-cases : (every gives setP ≡ true) × (every gives faults ≡ true)
+unfolding gives armLane wrap S clampZ cS cU ones equalRun lanes value width msb bvneg bvnot bvadd bvsub bvmul bvshl bvlshr bvashr bvslt bvsext extractLane concatLanes clamp saturatingLane
+    shiftRight saturatingShiftLeft shiftLane leadingZeros bitwiseUnaryLane shiftInsertLane mixedSignAddLane doublingProduct doublingLongLane shiftLanes shiftInsertLanes mixedSignAddLanes
+    doublingLongLanes saturatingLanes bitwiseUnaryLanes highNarrowLane highNarrowLanes
+all-cases = (refl, refl)
+
 pub set-P : every gives setP ≡ true
-unfolding gives armLane wrap S clampZ cS cU ones equalRun lanes value width msb bvneg bvnot bvadd bvsub bvmul bvshl bvlshr bvashr bvslt bvsext extractLane concatLanes clamp saturatingLane shiftRight saturatingShiftLeft shiftLane leadingZeros bitwiseUnaryLane shiftInsertLane mixedSignAddLane doublingProduct doublingLongLane shiftLanes shiftInsertLanes mixedSignAddLanes doublingLongLanes saturatingLanes bitwiseUnaryLanes highNarrowLane highNarrowLanes
-set-P = refl
+set-P = all-cases .0
 
 pub no-fault : every gives faults ≡ true
-unfolding gives armLane wrap S clampZ cS cU ones equalRun lanes value width msb bvneg bvnot bvadd bvsub bvmul bvshl bvlshr bvashr bvslt bvsext extractLane concatLanes clamp saturatingLane shiftRight saturatingShiftLeft shiftLane leadingZeros bitwiseUnaryLane shiftInsertLane mixedSignAddLane doublingProduct doublingLongLane shiftLanes shiftInsertLanes mixedSignAddLanes doublingLongLanes saturatingLanes bitwiseUnaryLanes highNarrowLane highNarrowLanes
-no-fault = refl
+no-fault = all-cases .1
 
 -- ---- cuts: a cut of a cut is joined, until its operand is no Extract
 lane-of-view : extractLane (Extract (Var 1) 63 0) 8 7 ≡ Extract (Var 1) 63 56

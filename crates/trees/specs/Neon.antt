@@ -2,12 +2,17 @@
 use mathlib.Core.Bool.{Bool, true, false}
 use Prim.Native.Nat.{ℕ}
 use Rattle.terms.specs.Expr.{Expr}
-use Rattle.neon.specs.Op.{Op, Arrangement, laneBits, full, SHL, SQSHLI, UQSHLI, SQSHLU, SSHR, USHR, SRSHR, URSHR, SSHL, USHL, SRSHL, URSHL, SQSHL, UQSHL, SQRSHL, UQRSHL, SLI, SRI, SQADD, UQADD, SQSUB, UQSUB, SHADD, UHADD, SRHADD, URHADD, SQXTN, UQXTN, SQXTUN, SHRN, RSHRN, SQSHRN, SQRSHRN, UQSHRN, UQRSHRN, SQSHRUN, SQRSHRUN, SQABS, SQNEG, SQDMULH, SQRDMULH, SQDMULL, SQDMLAL, SQDMLSL, SQDMULL2, SQDMLAL2, SQDMLSL2, SQDMULLE, SQDMLALE, SQDMLSLE, SQDMULL2E, SQDMLAL2E, SQDMLSL2E, SUQADD, USQADD, SABD, UABD, SABA, UABA, CNT, CLZ, CLS, RBIT, ADDHN, RADDHN, SUBHN, RSUBHN}
+use Rattle.neon.specs.Op.{Op, Arrangement, laneBits, full, SHL, SQSHLI, UQSHLI, SQSHLU, SSHR, USHR, SRSHR, URSHR, SSHL, USHL, SRSHL, URSHL, SQSHL, UQSHL, SQRSHL, UQRSHL, SLI, SRI, SQADD, UQADD, SQSUB}
+use Rattle.neon.specs.Op.{UQSUB, SHADD, UHADD, SRHADD, URHADD, SQXTN, UQXTN, SQXTUN, SHRN, RSHRN, SQSHRN, SQRSHRN, UQSHRN, UQRSHRN, SQSHRUN, SQRSHRUN, SQABS, SQNEG, SQDMULH, SQRDMULH, SQDMULL}
+use Rattle.neon.specs.Op.{SQDMLAL, SQDMLSL, SQDMULL2, SQDMLAL2, SQDMLSL2, SQDMULLE, SQDMLALE, SQDMLSLE, SQDMULL2E, SQDMLAL2E, SQDMLSL2E, SUQADD, USQADD, SABD, UABD, SABA, UABA, CNT, CLZ, CLS, RBIT}
+use Rattle.neon.specs.Op.{ADDHN, RADDHN, SUBHN, RSUBHN}
 use Rattle.neon.specs.Form.{laneCount}
 use Rattle.trees.specs.declared.NeonOp.{NeonOp}
 use Rattle.trees.specs.declared.NeonOp.the-variants.{Shift, ShiftInsert, MixedSignAdd, DoublingLong, Saturating, BitwiseUnary, AbsoluteDifference, HighNarrow}
 use Rattle.trees.specs.declared.NeonShape.{NeonShape}
-use Rattle.trees.specs.Arith.{Add, Sub, Signed, Unsigned, SignedToUnsigned, Never, Into, LeftImmediate, RightImmediate, Register, AddSub, Halving, Narrow, ShiftNarrow, DoublingMultiplyHigh, Unary, PopulationCount, LeadingZeros, LeadingSignBits, ReverseBits, Nothing, With, shiftLanes, shiftInsertLanes, mixedSignAddLanes, doublingLongLanes, saturatingLanes, bitwiseUnaryLanes, absoluteDifferenceLanes}
+use Rattle.trees.specs.Arith.{Add, Sub, Signed, Unsigned, SignedToUnsigned, Never, Into, LeftImmediate, RightImmediate, Register, AddSub, Halving, Narrow, ShiftNarrow, DoublingMultiplyHigh}
+use Rattle.trees.specs.Arith.{Unary, PopulationCount, LeadingZeros, LeadingSignBits, ReverseBits, Nothing, With, shiftLanes, shiftInsertLanes, mixedSignAddLanes, doublingLongLanes}
+use Rattle.trees.specs.Arith.{saturatingLanes, bitwiseUnaryLanes, absoluteDifferenceLanes}
 use Rattle.trees.specs.Width.{highNarrowLanes}
 
 -- i is the immediate; `upper` is that of a narrowing 2 form
