@@ -72,7 +72,8 @@ unfolding unfoldAt unfoldTo
 unfold-step ws n k e =
     subst
     (λ (k : Cell).
-    unfoldTo (suc n) ws n ≡ shape k (earlier (ltb (k .a) n) (unfoldTo (suc (k .a)) ws (k .a))) (earlier (ltb (k .b) n) (unfoldTo (suc (k .b)) ws (k .b))) (earlier (ltb (k .c) n) (unfoldTo (suc (k .c)) ws (k .c))))
+    unfoldTo (suc n) ws n ≡ shape k (earlier (ltb (k .a) n) (unfoldTo (suc (k .a)) ws (k .a))) (earlier (ltb (k .b) n) (unfoldTo (suc (k .b)) ws (k .b)))
+    (earlier (ltb (k .c) n) (unfoldTo (suc (k .c)) ws (k .c))))
     e
     (shape-same (cellAt ws n)
     (earlier-same _ n _ _ (λ l. fuel ws n (suc (cellAt ws n .a)) (cellAt ws n .a) l (omega arith)))
