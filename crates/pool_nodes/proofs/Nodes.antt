@@ -168,7 +168,8 @@ module _ {old : List ℕ} {k : ℕ} {new : List ℕ} {r : Built} (m : Room old k
         → MadeCompare old k new r o a b
     compare-built {o} c g e f p =
         let q : Writes old k new r (kindWord (compareCode o) 0 (unionAt old (a .0) (b .0))) (operandWord (a .0) (b .0) 0) 0 0 = rw (e, f, c, g) at p in
-        let n = node-of {w = 0} {c = 0} (omega (arith, compare-code o)) (λ f e. omega (arith, compare-code o, e)) (omega arith) (omega (arith, m .numbers)) (omega (arith, m .numbers)) (compare-kind o) q in
+        let n = node-of {w = 0} {c = 0} (omega (arith, compare-code o)) (λ f e. omega (arith, compare-code o, e)) (omega arith)
+        (omega (arith, m .numbers)) (omega (arith, m .numbers)) (compare-kind o) q in
         record { words = q; sized = sized-of n; made = λ v l ia ib. made-compare o n v l ia ib }
 
     pub concat-built : {w u set w0 w1 : ℕ} → w ≡ widthAt old (a .0) % 256 → u ≡ widthAt old (b .0) % 256 → set ≡ unionAt old (a .0) (b .0) → w0 ≡ kindWord 17 (w + u) set
