@@ -127,7 +127,8 @@ module _ (t : ℕ) where
       let d = c .before in
       let w = d .before in
       let s = start-two w in
-      subst (λ (j : ℕ). Wrote (s .args .buf .now) (s .args .at) (digits 16 (wide (low s) (high s))) j (set (set (s .args .buf .now) (s .args .at) (d .hex-digit .result)) (s .args .at + 1) (c .hex-digit2 .result)))
+      let a = s .args in
+      subst (λ (j : ℕ). Wrote (a .buf .now) (a .at) (digits 16 (wide (low s) (high s))) j (set (set (a .buf .now) (a .at) (d .hex-digit .result)) (a .at + 1) (c .hex-digit2 .result)))
       (omega arith) (wrote-words (low s) (high s) _ (s .pre .1 .0) (wrote-digit _ _ _ (front w) (d .hex-digit .ensures)) (c .hex-digit2 .ensures))
 
   put-sixteens-requires : put-sixteens-lts.Need-put-sixteens-requires (claims t) (put-sixteens-at t) put-sixteens.Post

@@ -2,7 +2,7 @@
 use mathlib.Core.List.{List}
 use native.Mathlib.Numerals.{add-one}
 use lib.Seq.{take-suc, take-all, length-take-le}
-use Prim.Native.Nat.{ℕ, _+_, _-_, _≤_}
+use Prim.Native.Nat.{ℕ, _+_, _-_, _≤_, _<_}
 use mathlib.Core.Path.{_≡_, sym, ap, _∙_, subst}
 use native.Mathlib.Omega.{arith}
 use borrow.Author.Needs.{needs}
@@ -18,6 +18,16 @@ Inv-loop s buf₀ at j₀ i₀ buf j i = Wrote buf₀ at (take j s) i buf × ((j
 abbrev μ-loop : tie.MeasureT-loop
 μ-loop s buf₀ at j₀ i₀ buf j i = length s - j
 
+abbrev entry : tie.At-loop Inv-loop μ-loop → tie.Start Inv-loop μ-loop
+entry c = c .before
+
+-- the byte of a turn has its place in the buffer
+inside : (c : tie.In-loop Inv-loop μ-loop) → c .before .loop .i < length (entry (c .before) .args .buf .now)
+inside c =
+    let l = c .before .loop in
+    let s = entry (c .before) in
+    omega (arith, l .inv .0 .next-is, length-take-le (l .j) (s .args .s .now) (l .inv .1 .0), s .pre, c .loop-test .taken)
+
 loop-holds : tie.Need-loop-holds Inv-loop μ-loop
 loop-holds c = (wrote-none _ _, omega arith)
 
@@ -25,10 +35,10 @@ shared-slice-read-buf : tie.Need-shared-slice-read-buf Inv-loop μ-loop
 shared-slice-read-buf c = search needs
 
 slice-write-buf : tie.Need-slice-write-buf Inv-loop μ-loop
-slice-write-buf c = let inv = c .before .before .loop .inv in let s = c .before .before .before in omega (arith, inv .0 .next-is, length-take-le (c .before .before .loop .j) (s .args .s .now) (inv .1 .0), inv .1 .1, s .pre, c .before .loop-test .taken)
+slice-write-buf c = omega (arith, inside (c .before), c .before .before .loop .inv .1 .1)
 
 add-i : tie.Need-add-i Inv-loop μ-loop
-add-i c = let inv = c .before .before .loop .inv in let s = c .before .before .before in omega (arith, inv .0 .next-is, length-take-le (c .before .before .loop .j) (s .args .s .now) (inv .1 .0), inv .1 .1, s .pre, c .before .loop-test .taken)
+add-i c = omega (arith, inside (c .before))
 
 add-j : tie.Need-add-j Inv-loop μ-loop
 add-j c = omega arith
@@ -37,12 +47,15 @@ loop-less : tie.Need-loop-less Inv-loop μ-loop
 loop-less c = omega arith
 
 loop-again : tie.Need-loop-again Inv-loop μ-loop
-loop-again c = let inv = c .before .before .loop .inv in let s = c .before .before .before in (
-  subst (λ (l : List ℕ). Wrote (s .args .buf .now) (s .args .at) l (c .before .before .loop .i + 1) (set (c .before .before .loop .buf) (c .before .before .loop .i) (getD (s .args .s .now) (c .before .before .loop .j) 0)))
-      (sym (take-suc (s .args .s .now) (c .before .before .loop .j) 0 (c .before .loop-test .taken)) ∙ ap (λ (k : ℕ). take k (s .args .s .now)) (sym (add-one (c .before .before .loop .j))))
-      (wrote-then (inv .0) (wrote-byte (c .before .before .loop .buf) (c .before .before .loop .i) (getD (s .args .s .now) (c .before .before .loop .j) 0))),
-  (omega arith, simp length-set (inv .1 .1)),
-)
+loop-again c =
+    let l = c .before .before .loop in
+    let a = entry (c .before .before) .args in
+    let b = getD (a .s .now) (l .j) 0 in (
+      subst (λ (t : List ℕ). Wrote (a .buf .now) (a .at) t (l .i + 1) (set (l .buf) (l .i) b))
+          (sym (take-suc (a .s .now) (l .j) 0 (c .before .loop-test .taken)) ∙ ap (λ (k : ℕ). take k (a .s .now)) (sym (add-one (l .j))))
+          (wrote-then (l .inv .0) (wrote-byte (l .buf) (l .i) b)),
+      (omega arith, simp length-set (l .inv .1 .1)),
+    )
 
 same-length : tie.Need-same-length Inv-loop μ-loop
 same-length c = c .before .loop .inv .1 .1
