@@ -1,6 +1,6 @@
 -- `put_between` meets its contract: each kind's operator, or the comma of an Ite or a Concat.
 use Prim.Native.Nat.{ℕ, _≤_}
-use mathlib.Core.Path.{_≡_}
+use mathlib.Core.Path.{_≡_, ap}
 use mathlib.Core.Logic.{⊎-elim}
 use native.Mathlib.Nat.{eq-or-lt-of-le}
 use native.Mathlib.Omega.{arith}
@@ -24,6 +24,12 @@ a-comma : {k : ℕ} → Joined k → 9 ≤ k → (((((Unit {0} × (k ≡ 9 → �
     → betweenText k ≡ bytes ", "
 a-comma p h r = from-15-comma p (from-15 h (r .0 .0 .0 .0 .0 .1) (r .0 .0 .0 .0 .1) (r .0 .0 .0 .1) (r .0 .0 .1) (r .0 .1) (r .1))
 
+abbrev entry : tie.Else1 → tie.Start
+entry c = c .before .before
+
+comma : (c : tie.At-match-rest) → betweenText (entry (c .before) .args .k) ≡ bytes ", "
+comma c = a-comma (entry (c .before) .pre .0) (c .before .if1 .left) (c .match .rest)
+
 sign-requires : tie.Need-sign-requires
 sign-requires c κs = search needs
 
@@ -44,96 +50,96 @@ slice-aggregate-put-2 c = search needs
 
 put-requires-2 : tie.Need-put-requires-2
 unfolding betweenText kindAt kinds
-put-requires-2 c κs = rw (c .before .before .match .keys1) at (c .before .before .before .before .before .pre .1)
+put-requires-2 c κs = let m = c .before .before in room-as (ap betweenText (m .match .keys1)) (entry (m .before) .pre .1)
 
 slice-aggregate-put-3 : tie.Need-slice-aggregate-put-3
 slice-aggregate-put-3 c = search needs
 
 put-requires-3 : tie.Need-put-requires-3
 unfolding betweenText kindAt kinds
-put-requires-3 c κs = rw (c .before .before .match .keys2) at (c .before .before .before .before .before .pre .1)
+put-requires-3 c κs = let m = c .before .before in room-as (ap betweenText (m .match .keys2)) (entry (m .before) .pre .1)
 
 slice-aggregate-put-4 : tie.Need-slice-aggregate-put-4
 slice-aggregate-put-4 c = search needs
 
 put-requires-4 : tie.Need-put-requires-4
 unfolding betweenText kindAt kinds
-put-requires-4 c κs = rw (c .before .before .match .keys3) at (c .before .before .before .before .before .pre .1)
+put-requires-4 c κs = let m = c .before .before in room-as (ap betweenText (m .match .keys3)) (entry (m .before) .pre .1)
 
 slice-aggregate-put-5 : tie.Need-slice-aggregate-put-5
 slice-aggregate-put-5 c = search needs
 
 put-requires-5 : tie.Need-put-requires-5
 unfolding betweenText kindAt kinds
-put-requires-5 c κs = rw (c .before .before .match .keys4) at (c .before .before .before .before .before .pre .1)
+put-requires-5 c κs = let m = c .before .before in room-as (ap betweenText (m .match .keys4)) (entry (m .before) .pre .1)
 
 slice-aggregate-put-6 : tie.Need-slice-aggregate-put-6
 slice-aggregate-put-6 c = search needs
 
 put-requires-6 : tie.Need-put-requires-6
 unfolding betweenText kindAt kinds
-put-requires-6 c κs = rw (c .before .before .match .keys5) at (c .before .before .before .before .before .pre .1)
+put-requires-6 c κs = let m = c .before .before in room-as (ap betweenText (m .match .keys5)) (entry (m .before) .pre .1)
 
 slice-aggregate-put-7 : tie.Need-slice-aggregate-put-7
 slice-aggregate-put-7 c = search needs
 
 put-requires-7 : tie.Need-put-requires-7
 unfolding betweenText kindAt kinds
-put-requires-7 c κs = rw (c .before .before .match .keys6) at (c .before .before .before .before .before .pre .1)
+put-requires-7 c κs = let m = c .before .before in room-as (ap betweenText (m .match .keys6)) (entry (m .before) .pre .1)
 
 slice-aggregate-put-8 : tie.Need-slice-aggregate-put-8
 slice-aggregate-put-8 c = search needs
 
 put-requires-8 : tie.Need-put-requires-8
-put-requires-8 c κs = room-as (a-comma (c .before .before .before .before .before .pre .0) (c .before .before .before .if1 .left) (c .before .before .match .rest)) (c .before .before .before .before .before .pre .1)
+put-requires-8 c κs = let m = c .before .before in room-as (comma m) (entry (m .before) .pre .1)
 
 same-length-2 : tie.Need-same-length-2
 same-length-2 c = search needs
 
 returns-2 : tie.Need-returns-2
 unfolding betweenText kindAt kinds
-returns-2 c = rw (c .before .before .before .before .before .match .keys1) (c .before .before .put2 .ensures)
+returns-2 c = let w = c .before .before in wrote-as (ap betweenText (w .before .before .before .match .keys1)) (w .put2 .ensures)
 
 same-length-3 : tie.Need-same-length-3
 same-length-3 c = search needs
 
 returns-3 : tie.Need-returns-3
 unfolding betweenText kindAt kinds
-returns-3 c = rw (c .before .before .before .before .before .match .keys2) (c .before .before .put3 .ensures)
+returns-3 c = let w = c .before .before in wrote-as (ap betweenText (w .before .before .before .match .keys2)) (w .put3 .ensures)
 
 same-length-4 : tie.Need-same-length-4
 same-length-4 c = search needs
 
 returns-4 : tie.Need-returns-4
 unfolding betweenText kindAt kinds
-returns-4 c = rw (c .before .before .before .before .before .match .keys3) (c .before .before .put4 .ensures)
+returns-4 c = let w = c .before .before in wrote-as (ap betweenText (w .before .before .before .match .keys3)) (w .put4 .ensures)
 
 same-length-5 : tie.Need-same-length-5
 same-length-5 c = search needs
 
 returns-5 : tie.Need-returns-5
 unfolding betweenText kindAt kinds
-returns-5 c = rw (c .before .before .before .before .before .match .keys4) (c .before .before .put5 .ensures)
+returns-5 c = let w = c .before .before in wrote-as (ap betweenText (w .before .before .before .match .keys4)) (w .put5 .ensures)
 
 same-length-6 : tie.Need-same-length-6
 same-length-6 c = search needs
 
 returns-6 : tie.Need-returns-6
 unfolding betweenText kindAt kinds
-returns-6 c = rw (c .before .before .before .before .before .match .keys5) (c .before .before .put6 .ensures)
+returns-6 c = let w = c .before .before in wrote-as (ap betweenText (w .before .before .before .match .keys5)) (w .put6 .ensures)
 
 same-length-7 : tie.Need-same-length-7
 same-length-7 c = search needs
 
 returns-7 : tie.Need-returns-7
 unfolding betweenText kindAt kinds
-returns-7 c = rw (c .before .before .before .before .before .match .keys6) (c .before .before .put7 .ensures)
+returns-7 c = let w = c .before .before in wrote-as (ap betweenText (w .before .before .before .match .keys6)) (w .put7 .ensures)
 
 same-length-8 : tie.Need-same-length-8
 same-length-8 c = search needs
 
 returns-8 : tie.Need-returns-8
-returns-8 c = wrote-as (a-comma (c .before .before .before .before .before .before .before .before .pre .0) (c .before .before .before .before .before .before .if1 .left) (c .before .before .before .before .before .match .rest)) (c .before .before .put8 .ensures)
+returns-8 c = let w = c .before .before in wrote-as (comma (w .before .before .before)) (w .put8 .ensures)
 
 pub put-between-spec : {M : Type 1} → statement M
 put-between-spec =
