@@ -18,7 +18,8 @@ use Rattle.pool.proofs.Facts.{valid-node}
 use Rattle.pool_rules.proofs.Numbers.{within, is-bad}
 use Rattle.pool_fields.specs.Fields.{opA, opB, opC}
 use Rattle.text_parts.specs.Text.{Ready, single}
-use Rattle.pool_rules.proofs.Kept.{Ok, Two, Three, One, register, bv-two, compare-two, ite-three, extract-one, extract-range, concat-two, zext-one, wide-bad, wide-var, wide-const, wide-bv, wide-ite, wide-extract, wide-concat, wide-zext, most-bad, most-var, most-const, most-bv, most-compare, most-ite, most-extract, most-concat, most-zext}
+use Rattle.pool_rules.proofs.Kept.{Ok, Two, Three, One, register, bv-two, compare-two, ite-three, extract-one, extract-range, concat-two, zext-one, wide-bad, wide-var, wide-const, wide-bv, wide-ite}
+use Rattle.pool_rules.proofs.Kept.{wide-extract, wide-concat, wide-zext, most-bad, most-var, most-const, most-bv, most-compare, most-ite, most-extract, most-concat, most-zext}
 
 -- fewer nodes of a valid pool are a valid pool
 valid-less : (ws : List ℕ) (k j : ℕ) → j ≤ k → Valid ws k → Valid ws j
@@ -59,15 +60,24 @@ module _ (n : ℕ) (k : Cell) (A B C : ℕ) where
   most-of : (k .a < n → A ≤ 129) → (κ : ℕ) → κ < 20 → Ok n k A B C (kindAt κ) → k .width ≤ 129
   unfolding kinds
   most-of small κ l =
+      let v = most-var n k A B C small in
+      let d = most-const n k A B C small in
+      let b = most-bv n k A B C small in
+      let c = most-compare n k A B C small in
+      let i = most-ite n k A B C small in
+      let e = most-extract n k A B C small in
+      let j = most-concat n k A B C small in
+      let z = most-zext n k A B C small in
       within (λ κ. Ok n k A B C κ → k .width ≤ 129) 0 20
-      (most-bad n k A B C small, (most-var n k A B C small, (most-const n k A B C small, (most-bv n k A B C small Add, (most-bv n k A B C small Sub, (most-bv n k A B C small Mul, (most-bv n k A B C small And, (most-bv n k A B C small Or, (most-bv n k A B C small Xor, (most-bv n k A B C small Shl, (most-bv n k A B C small LShr, (most-bv n k A B C small AShr, (most-compare n k A B C small Eq, (most-compare n k A B C small Ult, (most-compare n k A B C small Slt, (most-ite n k A B C small, (most-extract n k A B C small, (most-concat n k A B C small, (most-zext n k A B C small, (most-zext n k A B C small, tt))))))))))))))))))))
+      (most-bad n k A B C small, (v, (d, (b Add, (b Sub, (b Mul, (b And, (b Or, (b Xor, (b Shl, (b LShr, (b AShr, (c Eq, (c Ult, (c Slt, (i, (e, (j, (z, (z, tt))))))))))))))))))))
       κ (omega arith) (omega arith)
 
   wide-low : (κ : ℕ) → κ < 12 → Ok n k A B C (kindAt κ) → 1 ≤ k .width
   unfolding kinds
   wide-low κ l =
+      let b = wide-bv n k A B C in
       within (λ κ. Ok n k A B C κ → 1 ≤ k .width) 0 12
-      (wide-bad n k A B C, (wide-var n k A B C, (wide-const n k A B C, (wide-bv n k A B C Add, (wide-bv n k A B C Sub, (wide-bv n k A B C Mul, (wide-bv n k A B C And, (wide-bv n k A B C Or, (wide-bv n k A B C Xor, (wide-bv n k A B C Shl, (wide-bv n k A B C LShr, (wide-bv n k A B C AShr, tt))))))))))))
+      (wide-bad n k A B C, (wide-var n k A B C, (wide-const n k A B C, (b Add, (b Sub, (b Mul, (b And, (b Or, (b Xor, (b Shl, (b LShr, (b AShr, tt))))))))))))
       κ (omega arith) (omega arith)
 
   wide-high : (κ : ℕ) → 15 ≤ κ → κ < 20 → Ok n k A B C (kindAt κ) → 1 ≤ k .width
@@ -80,8 +90,10 @@ module _ (n : ℕ) (k : Cell) (A B C : ℕ) where
   two-of : (κ : ℕ) → 3 ≤ κ → κ < 15 → Ok n k A B C (kindAt κ) → Two n k A B C
   unfolding kinds
   two-of κ h l =
+      let b = bv-two n k A B C in
+      let c = compare-two n k A B C in
       within (λ κ. Ok n k A B C κ → Two n k A B C) 3 12
-      (bv-two n k A B C Add, (bv-two n k A B C Sub, (bv-two n k A B C Mul, (bv-two n k A B C And, (bv-two n k A B C Or, (bv-two n k A B C Xor, (bv-two n k A B C Shl, (bv-two n k A B C LShr, (bv-two n k A B C AShr, (compare-two n k A B C Eq, (compare-two n k A B C Ult, (compare-two n k A B C Slt, tt))))))))))))
+      (b Add, (b Sub, (b Mul, (b And, (b Or, (b Xor, (b Shl, (b LShr, (b AShr, (c Eq, (c Ult, (c Slt, tt))))))))))))
       κ h (omega arith)
 
   -- an extension's operand and width
