@@ -52,8 +52,46 @@ write-term-below t =
 
 -- what the functions that `write_condition` calls ask and ensure
 abbrev pub write-condition-claims : ℕ → write-condition-lts.Claims
-write-condition-claims t = (put-reads.Asked, put-reads.Learnt, first-reads.Asked, first-reads.Learnt, write-term-below t, write-term.Post, kind-of-reads.Asked, kind-of-reads.Learnt, put-between-reads.Asked, put-between-reads.Learnt, second-reads.Asked, second-reads.Learnt)
+write-condition-claims t = (
+  put-reads.Asked,
+  put-reads.Learnt,
+  first-reads.Asked,
+  first-reads.Learnt,
+  write-term-below t,
+  write-term.Post,
+  kind-of-reads.Asked,
+  kind-of-reads.Learnt,
+  put-between-reads.Asked,
+  put-between-reads.Learnt,
+  second-reads.Asked,
+  second-reads.Learnt,
+)
 
 -- what the functions that `write_term` calls ask and ensure
 abbrev pub write-term-claims : ℕ → write-term-lts.Claims
-write-term-claims t = (kind-of-reads.Asked, kind-of-reads.Learnt, put-leaf-reads.Asked, put-leaf-reads.Learnt, put-open-reads.Asked, put-open-reads.Learnt, first-reads.Asked, first-reads.Learnt, write-condition-below t, write-condition.Post, put-reads.Asked, put-reads.Learnt, left-reads.Asked, left-reads.Learnt, write-term-below t, write-term.Post, is-single-reads.Asked, is-single-reads.Learnt, put-end-reads.Asked, put-end-reads.Learnt, put-between-reads.Asked, put-between-reads.Learnt, right-reads.Asked, right-reads.Learnt)
+write-term-claims t = (
+  kind-of-reads.Asked,
+  kind-of-reads.Learnt,
+  put-leaf-reads.Asked,
+  put-leaf-reads.Learnt,
+  put-open-reads.Asked,
+  put-open-reads.Learnt,
+  first-reads.Asked,
+  first-reads.Learnt,
+  write-condition-below t,
+  write-condition.Post,
+  put-reads.Asked,
+  put-reads.Learnt,
+  left-reads.Asked,
+  left-reads.Learnt,
+  write-term-below t,
+  write-term.Post,
+  is-single-reads.Asked,
+  is-single-reads.Learnt,
+  put-end-reads.Asked,
+  put-end-reads.Learnt,
+  put-between-reads.Asked,
+  put-between-reads.Learnt,
+  right-reads.Asked,
+  right-reads.Learnt,
+)
