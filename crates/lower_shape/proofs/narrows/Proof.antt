@@ -4,24 +4,16 @@ use Rattle.lower_shape.proofs.narrows.Statement.{statement}
 use Rattle.lower_shape.proofs.narrows.Tie as tie
 
 returns : tie.Need-returns
-returns c =
-    let l-if1 = c in
-    let st = l-if1 .before in
-    low (st .args .operation) (st .pre) (l-if1 .if1 .taken)
+returns c = low (c .before .args .operation) (c .before .pre) (c .if1 .taken)
+
+abbrev entry : tie.Else1 → tie.Start
+entry c = c .before
 
 returns-2 : tie.Need-returns-2
-returns-2 c =
-    let l-if2 = c in
-    let l-if1 = l-if2 .before in
-    let st = l-if1 .before in
-    middle (st .args .operation) (st .pre) (l-if1 .if1 .left) (l-if2 .if2 .taken)
+returns-2 c = middle (entry (c .before) .args .operation) (entry (c .before) .pre) (c .before .if1 .left) (c .if2 .taken)
 
 returns-3 : tie.Need-returns-3
-returns-3 c =
-    let l-if2 = c in
-    let l-if1 = l-if2 .before in
-    let st = l-if1 .before in
-    high (st .args .operation) (st .pre) (l-if2 .if2 .left)
+returns-3 c = high (entry (c .before) .args .operation) (entry (c .before) .pre) (c .if2 .left)
 
 pub narrows-spec : {M : Type 1} → statement M
 narrows-spec = tie.close (tie.spec returns returns-2 returns-3)

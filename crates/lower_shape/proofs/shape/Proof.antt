@@ -27,12 +27,11 @@ div-t8 c =
 
 returns : tie.Need-returns
 returns c =
-    let l-made-bits = c in
-    let l-lane-bits = l-made-bits .before in
+    let l-lane-bits = c .before in
     let l-neon-op = l-lane-bits .before in
     let l-is-full = l-neon-op .before in
     let st = l-is-full .before in
-    rw (l-made-bits .made-bits .ensures, l-neon-op .neon-op .ensures, l-is-full .is-full .ensures, l-lane-bits .lane-bits .ensures) refl
+    rw (c .made-bits .ensures, l-neon-op .neon-op .ensures, l-is-full .is-full .ensures, l-lane-bits .lane-bits .ensures) refl
 
 pub shape-spec : {M : Type 1} → statement M
 shape-spec =
