@@ -12,17 +12,15 @@ mul-result c = search needs
 
 returns : tie.Need-returns
 returns c =
-    let l-if1 = c in
-    let l-narrowing = l-if1 .before in
+    let l-narrowing = c .before in
     let st = l-narrowing .before in
-    bits-narrowing (st .args .kind) (st .args .lane-bits) (l-narrowing .narrowing .ensures) (l-if1 .if1 .taken)
+    bits-narrowing (st .args .kind) (st .args .lane-bits) (l-narrowing .narrowing .ensures) (c .if1 .taken)
 
 returns-2 : tie.Need-returns-2
 returns-2 c =
-    let l-if1 = c in
-    let l-narrowing = l-if1 .before in
+    let l-narrowing = c .before in
     let st = l-narrowing .before in
-    bits-same (st .args .kind) (st .args .lane-bits) (l-narrowing .narrowing .ensures) (l-if1 .if1 .left)
+    bits-same (st .args .kind) (st .args .lane-bits) (l-narrowing .narrowing .ensures) (c .if1 .left)
 
 pub source-bits-spec : {M : Type 1} → statement M
 source-bits-spec = tie.close (tie.spec narrowing-requires mul-result returns returns-2)
