@@ -39,10 +39,9 @@ unsigned-max-requires-2 c κs = search needs
 
 returns-2 : tie.Need-returns-2
 returns-2 c =
-    let l-unsigned-max2 = c in
-    let l-power = l-unsigned-max2 .before .before in
+    let l-power = c .before .before in
     let st = l-power .before in
-    rw (l-power .power .ensures, l-unsigned-max2 .unsigned-max2 .ensures)
+    rw (l-power .power .ensures, c .unsigned-max2 .ensures)
     (minus-high (2 ^ (st .args .wide)) (2 ^ (st .args .bits)) _ (pow-pos (st .args .bits)) (pow-lt {i = st .args .bits} {j = 64} (omega arith))
     (high-less (2 ^ (st .args .wide - 64)) (pow-pos (st .args .wide - 64)) ∙ sym (high-power (st .args .wide) (omega arith))))
 

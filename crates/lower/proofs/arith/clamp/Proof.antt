@@ -25,9 +25,8 @@ power-requires c κs = search needs
 
 sub-t13 : tie.Need-sub-t13
 sub-t13 c =
-    let l-power = c in
-    let st = l-power .before .before .before .before .before in
-    omega (arith, l-power .power .ensures, pow-pos (st .args .narrow - 1))
+    let st = c .before .before .before .before .before in
+    omega (arith, c .power .ensures, pow-pos (st .args .narrow - 1))
 
 clamp-between-requires : tie.Need-clamp-between-requires
 clamp-between-requires c κs =
@@ -51,9 +50,8 @@ unsigned-max-requires c κs = search needs
 
 clamp-below-requires : tie.Need-clamp-below-requires
 clamp-below-requires c κs =
-    let l-unsigned-max = c in
-    let st = l-unsigned-max .before .before .before .before .before in
-    omega (arith, st .pre, l-unsigned-max .unsigned-max .ensures, high-fits (st .args .wide) (st .args .narrow) (omega (arith, st .pre)))
+    let st = c .before .before .before .before .before in
+    omega (arith, st .pre, c .unsigned-max .ensures, high-fits (st .args .wide) (st .args .narrow) (omega (arith, st .pre)))
 
 enum-told-3 : tie.Need-enum-told-3
 enum-told-3 c = search needs

@@ -34,9 +34,8 @@ returns c =
 
 returns-2 : tie.Need-returns-2
 returns-2 c =
-    let l-if1 = c in
-    let st = l-if1 .before .before in
-    keep-no (st .args .lane-bits) (st .args .lanes) (l-if1 .if1 .left) (st .pre .1 .0) refl refl
+    let st = c .before .before in
+    keep-no (st .args .lane-bits) (st .args .lanes) (c .if1 .left) (st .pre .1 .0) refl refl
 
 pub keep-lower-spec : {M : Type 1} → statement M
 keep-lower-spec =

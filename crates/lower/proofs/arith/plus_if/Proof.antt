@@ -24,9 +24,8 @@ returns c =
 
 returns-2 : tie.Need-returns-2
 returns-2 c =
-    let l-if1 = c in
-    let st = l-if1 .before .before in
-    plus-no (st .args .constant) (st .args .wide) (l-if1 .if1 .left) (st .pre .1 .0) refl refl
+    let st = c .before .before in
+    plus-no (st .args .constant) (st .args .wide) (c .if1 .left) (st .pre .1 .0) refl refl
 
 pub plus-if-spec : {M : Type 1} → statement M
 plus-if-spec = tie.close (tie.spec konst-requires bv-requires same-length returns returns-2)
