@@ -1,23 +1,37 @@
 -- shift_lane builds `shiftedBy` for each kind of shift
 use native.Mathlib.Omega.{arith}
-use Rattle.lower_shift_lane.proofs.Shifting.{lane-left}
-use Rattle.lower_shift_lane.proofs.Shifting.{lane-right}
-use Rattle.lower_shift_lane.proofs.Shifting.{lane-register}
-use mathlib.Core.Path.{subst}
+use Rattle.lower_shift_lane.proofs.Shifting.{lane-left, lane-right, lane-register}
+use mathlib.Core.Path.{_≡_, subst}
 use Rattle.trees.specs.declared.ShiftKind.{ShiftKind}
 use Rattle.lower_kinds.specs.Sources.{AmountIn}
 use borrow.Author.Needs.{needs}
 use Rattle.lower_shift_lane.proofs.shift_lane.Statement.{statement}
 use Rattle.lower_shift_lane.proofs.shift_lane.Tie as tie
 
+-- ---- from the place where the kind is known back to the entry
+
+abbrev left-entry : tie.After-kind → tie.Start
+left-entry c = c .before .before .before
+
+abbrev right-entry : tie.After-kind2 → tie.Start
+right-entry c = c .before .before .before
+
+abbrev register-entry : tie.After-kind3 → tie.Start
+register-entry c = c .before .before .before
+
+amount-in : (s : tie.Start) {kind : ShiftKind} → s .args .kind ≡ kind → AmountIn kind (s .args .lane-bits)
+amount-in s e = subst (λ (k : ShiftKind). AmountIn k (s .args .lane-bits)) e (s .pre .1 .4)
+
+abbrev to-kind2 : tie.After-konst → tie.After-kind2
+to-kind2 c = c .before .before .before
+
 enum-known-kind : tie.Need-enum-known-kind
 enum-known-kind c = search needs
 
 left-immediate-requires : tie.Need-left-immediate-requires
 left-immediate-requires c κs =
-    let l-kind = c .before .before in
-    let st = l-kind .before .before .before in
-    omega (arith, st .pre, subst (λ (k : ShiftKind). AmountIn k (st .args .lane-bits)) (l-kind .kind .given .1) (st .pre .1 .4))
+    let k = c .before .before in
+    omega (arith, left-entry k .pre, amount-in (left-entry k) (k .kind .given .1))
 
 enum-known-kind-2 : tie.Need-enum-known-kind-2
 enum-known-kind-2 c = search needs
@@ -27,10 +41,9 @@ konst-requires c κs = search needs
 
 shift-right-requires : tie.Need-shift-right-requires
 shift-right-requires c κs =
-    let l-konst = c .before .before .before in
-    let l-kind2 = l-konst .before .before .before in
-    let st = l-kind2 .before .before .before in
-    omega (arith, st .pre, l-konst .konst .ensures .sized, subst (λ (k : ShiftKind). AmountIn k (st .args .lane-bits)) (l-kind2 .kind2 .given .1) (st .pre .1 .4))
+    let b = c .before .before .before in
+    let s = right-entry (to-kind2 b) in
+    omega (arith, s .pre, b .konst .ensures .sized, amount-in s (to-kind2 b .kind2 .given .1))
 
 enum-known-kind-3 : tie.Need-enum-known-kind-3
 enum-known-kind-3 c = search needs
@@ -43,32 +56,29 @@ same-length c = search needs
 
 returns : tie.Need-returns
 returns c =
-    let l-left-immediate = c .before .before in
-    let l-kind = l-left-immediate .before .before .before in
-    let st = l-kind .before .before .before in
-    lane-left (st .args .signed) (l-kind .kind .given .1) (l-left-immediate .left-immediate .ensures)
+    let l = c .before .before in
+    let k = l .before .before .before in
+    lane-left (left-entry k .args .signed) (k .kind .given .1) (l .left-immediate .ensures)
 
 same-length-2 : tie.Need-same-length-2
 same-length-2 c = search needs
 
 returns-2 : tie.Need-returns-2
 returns-2 c =
-    let l-shift-right = c .before .before in
-    let l-konst = l-shift-right .before .before .before .before in
-    let l-kind2 = l-konst .before .before .before in
-    let st = l-kind2 .before .before .before in
-    lane-right (st .args .signed) (l-kind2 .kind2 .given .1) (omega (arith, st .pre))
-    ((subst (λ (k : ShiftKind). AmountIn k (st .args .lane-bits)) (l-kind2 .kind2 .given .1) (st .pre .1 .4)) .1) (st .pre .1 .3) (l-konst .konst .ensures) (l-shift-right .shift-right .ensures)
+    let l = c .before .before in
+    let b = l .before .before .before .before in
+    let k = to-kind2 b in
+    let s = right-entry k in
+    lane-right (s .args .signed) (k .kind2 .given .1) (omega (arith, s .pre)) (amount-in s (k .kind2 .given .1) .1) (s .pre .1 .3) (b .konst .ensures) (l .shift-right .ensures)
 
 same-length-3 : tie.Need-same-length-3
 same-length-3 c = search needs
 
 returns-3 : tie.Need-returns-3
 returns-3 c =
-    let l-shift-register = c .before .before in
-    let l-kind3 = l-shift-register .before .before .before in
-    let st = l-kind3 .before .before .before in
-    lane-register (st .args .signed) (l-kind3 .kind3 .given .1) (l-shift-register .shift-register .ensures)
+    let l = c .before .before in
+    let k = l .before .before .before in
+    lane-register (register-entry k .args .signed) (k .kind3 .given .1) (l .shift-register .ensures)
 
 pub shift-lane-spec : {M : Type 1} → statement M
 shift-lane-spec =
