@@ -9,10 +9,9 @@ low-bits-requires c κs = search needs
 
 returns : tie.Need-returns
 returns c =
-    let l-low-bits = c in
-    let l-if1 = l-low-bits .before in
+    let l-if1 = c .before in
     let st = l-if1 .before in
-    kept-left (st .args .lane-bits) (st .args .shift) (l-if1 .if1 .taken) (l-low-bits .low-bits .ensures)
+    kept-left (st .args .lane-bits) (st .args .shift) (l-if1 .if1 .taken) (c .low-bits .ensures)
 
 unsigned-max-requires : tie.Need-unsigned-max-requires
 unsigned-max-requires c κs = search needs
@@ -25,18 +24,16 @@ low-bits-requires-2 c κs = search needs
 
 sub-result : tie.Need-sub-result
 sub-result c =
-    let l-low-bits2 = c in
-    let l-unsigned-max = l-low-bits2 .before in
+    let l-unsigned-max = c .before in
     let st = l-unsigned-max .before .before in
-    low-le (st .args .lane-bits) (st .args .shift) (l-unsigned-max .unsigned-max .ensures) (l-low-bits2 .low-bits2 .ensures)
+    low-le (st .args .lane-bits) (st .args .shift) (l-unsigned-max .unsigned-max .ensures) (c .low-bits2 .ensures)
 
 returns-2 : tie.Need-returns-2
 returns-2 c =
-    let l-low-bits2 = c in
-    let l-unsigned-max = l-low-bits2 .before in
+    let l-unsigned-max = c .before in
     let l-if1 = l-unsigned-max .before in
     let st = l-if1 .before in
-    kept-right (st .args .lane-bits) (st .args .shift) (l-if1 .if1 .left) (l-unsigned-max .unsigned-max .ensures) (l-low-bits2 .low-bits2 .ensures)
+    kept-right (st .args .lane-bits) (st .args .shift) (l-if1 .if1 .left) (l-unsigned-max .unsigned-max .ensures) (c .low-bits2 .ensures)
 
 pub kept-bits-spec : {M : Type 1} → statement M
 kept-bits-spec =

@@ -5,9 +5,7 @@ use Rattle.lower_shift_insert.proofs.low_bits.Statement.{statement}
 use Rattle.lower_shift_insert.proofs.low_bits.Tie as tie
 
 returns : tie.Need-returns
-returns c =
-    let l-if1 = c in
-    rw (l-if1 .if1 .taken) refl
+returns c = rw (c .if1 .taken) refl
 
 unsigned-max-requires : tie.Need-unsigned-max-requires
 unsigned-max-requires c κs = search needs
