@@ -50,8 +50,12 @@ pub high-byte : (x : ℕ) → x < 100 → pairOf x / 256 ≡ digit (x % 10)
 high-byte x l = omega (arith, decimal-digit (x / 10) (omega arith), decimal-digit (x % 10) (omega arith))
 
 -- hexadecimal digits: two, and two after others
+-- two digits to any base
+two-of : (b x : ℕ) → 2 ≤ b → b ≤ x → x / b < b → digits b x ≡ digit (x / b) ∷ digit (x % b) ∷ []
+two-of b x hb h l = digits-more b x hb h ∙ ap (λ (s : List ℕ). s ++ (digit (x % b) ∷ [])) (digits-one b (x / b) l)
+
 pub two-sixteens : (x : ℕ) → 16 ≤ x → x < 256 → digits 16 x ≡ digit (x / 16) ∷ digit (x % 16) ∷ []
-two-sixteens x h l = digits-more 16 x (omega arith) h ∙ ap (λ (s : List ℕ). s ++ (digit (x % 16) ∷ [])) (digits-one 16 (x / 16) (omega arith))
+two-sixteens x h l = two-of 16 x (omega arith) h (omega arith)
 
 pub byte-more : (x : ℕ) → 256 ≤ x → digits 16 x ≡ digits 16 (x / 256) ++ (digit (x % 256 / 16) ∷ digit (x % 256 % 16) ∷ [])
 byte-more x h =
@@ -65,7 +69,7 @@ byte-more x h =
 
 -- decimal digits: two, and three that begin with 1
 pub two-digits : (x : ℕ) → 10 ≤ x → x < 100 → digits 10 x ≡ digit (x / 10) ∷ digit (x % 10) ∷ []
-two-digits x h l = digits-more 10 x (omega arith) h ∙ ap (λ (s : List ℕ). s ++ (digit (x % 10) ∷ [])) (digits-one 10 (x / 10) (omega arith))
+two-digits x h l = two-of 10 x (omega arith) h (omega arith)
 
 pub three-digits : (x : ℕ) → 100 ≤ x → x < 200 → digits 10 x ≡ 49 ∷ digit ((x - 100) / 10) ∷ digit ((x - 100) % 10) ∷ []
 three-digits x h l =

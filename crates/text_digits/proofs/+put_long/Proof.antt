@@ -5,7 +5,7 @@ use borrow.Author.Needs.{needs}
 use lib.ListN.{length, length-set}
 use Rattle.terms.specs.Display.{decimal}
 use Rattle.text_digits.proofs.Laws.{digits, digits-one, length-tens, wrote-two, wrote-tens, wrote-length}
-use Prim.Native.Nat.{ℕ, _+_, _<_}
+use Prim.Native.Nat.{ℕ, _+_, _≤_, _<_}
 use borrow.Fn.Kinds.{In}
 use borrow.Fn.PlainCycle.{Measures, is, falls, and}
 use Rattle.text_digits.proofs.put_long.Reads as put-long
@@ -53,8 +53,28 @@ module _ (t : ℕ) where
   abbrev Two : Type 0
   Two = put-long-lts.Then1 (claims t) (put-long-at t) put-long.Post
 
-  two : (c : Two) → length (digits 10 (start (c .before .before) .args .x)) ≡ 2
-  two c = omega (arith, longer (c .before .before), ap length (digits-one 10 _ (c .if1 .taken)))
+  abbrev split : Two → Split
+  split c = c .before .before
+
+  two : (c : Two) → length (digits 10 (start (split c) .args .x)) ≡ 2
+  two c = omega (arith, longer (split c), ap length (digits-one 10 _ (c .if1 .taken)))
+
+  room : (c : Two) → start (split c) .args .at + 2 ≤ length (start (split c) .args .buf .now)
+  unfolding decimal
+  room c = omega (arith, two c, start (split c) .pre .1 .1)
+
+  -- the digits of the tens are written
+  abbrev Tens : Type 0
+  Tens = put-long-lts.After-put-long (claims t) (put-long-at t) put-long.Post
+
+  abbrev to-split : Tens → Split
+  to-split c = c .before .before .before .before
+
+  after : (c : Tens) → c .put-long .result + 1 ≤ length (c .put-long .last .1 .0)
+  unfolding decimal
+  after c = let w = c .put-long .ensures in omega (arith, longer (to-split c), start (to-split c) .pre .1 .1, w .next-is, wrote-length w)
+
+  -- ---- the needs
 
   tens-of-requires : put-long-lts.Need-tens-of-requires (claims t) (put-long-at t) put-long.Post
   tens-of-requires c κs = search needs
@@ -63,27 +83,22 @@ module _ (t : ℕ) where
   decimal-digit-requires c κs = c .if1 .taken
 
   slice-write-buf : put-long-lts.Need-slice-write-buf (claims t) (put-long-at t) put-long.Post
-  unfolding decimal
-  slice-write-buf c = let w = c .before in omega (arith, two w, start (w .before .before) .pre .1 .1)
+  slice-write-buf c = omega (arith, room (c .before))
 
   decimal-digit-requires-2 : put-long-lts.Need-decimal-digit-requires-2 (claims t) (put-long-at t) put-long.Post
   decimal-digit-requires-2 c κs = c .before .before .before .tens-of .ensures .1
 
   add-buf : put-long-lts.Need-add-buf (claims t) (put-long-at t) put-long.Post
-  unfolding decimal
-  add-buf c = let w = c .before .before in omega (arith, two w, start (w .before .before) .pre .1 .1)
+  add-buf c = omega (arith, room (c .before .before))
 
   slice-write-buf-2 : put-long-lts.Need-slice-write-buf-2 (claims t) (put-long-at t) put-long.Post
-  unfolding decimal
   slice-write-buf-2 c =
-      let d = c .before in
-      let w = d .before in
-      let s = start (w .before .before) in
-      omega (arith, two w, s .pre .1 .1, length-set (s .args .buf .now) (s .args .at) (d .decimal-digit .result))
+      let w = c .before .before in
+      let a = start (split w) .args in
+      omega (arith, room w, length-set (a .buf .now) (a .at) (c .before .decimal-digit .result))
 
   add-result : put-long-lts.Need-add-result (claims t) (put-long-at t) put-long.Post
-  unfolding decimal
-  add-result c = let w = c .before .before in omega (arith, two w, start (w .before .before) .pre .1 .1)
+  add-result c = omega (arith, room (c .before .before))
 
   same-length : put-long-lts.Need-same-length (claims t) (put-long-at t) put-long.Post
   same-length c = simp length-set
@@ -93,7 +108,7 @@ module _ (t : ℕ) where
   returns c =
       let d = c .before in
       let w = d .before in
-      let p = w .before .before in
+      let p = split w in
       let a = start p .args in
       wrote-two (a .buf .now) (a .at) (a .x) _ _ _ _ (p .tens-of .ensures .0) (p .tens-of .ensures .1) (start p .pre .1 .0) (w .if1 .taken) (d .decimal-digit .ensures) (c .decimal-digit2 .ensures)
 
@@ -106,23 +121,13 @@ module _ (t : ℕ) where
       (omega (arith, h .0, p .tens-of .ensures .0, h .1 .0), (e .if1 .left, omega (arith, longer p, h .1 .1)))
 
   decimal-digit-requires-3 : put-long-lts.Need-decimal-digit-requires-3 (claims t) (put-long-at t) put-long.Post
-  decimal-digit-requires-3 c κs = c .before .before .before .before .before .before .tens-of .ensures .1
+  decimal-digit-requires-3 c κs = to-split (c .before .before) .tens-of .ensures .1
 
   slice-write-buf-3 : put-long-lts.Need-slice-write-buf-3 (claims t) (put-long-at t) put-long.Post
-  unfolding decimal
-  slice-write-buf-3 c =
-      let l = c .before .before .before in
-      let p = l .before .before .before .before in
-      let w = l .put-long .ensures in
-      omega (arith, longer p, start p .pre .1 .1, w .next-is, wrote-length w)
+  slice-write-buf-3 c = omega (arith, after (c .before .before .before))
 
   add-result-2 : put-long-lts.Need-add-result-2 (claims t) (put-long-at t) put-long.Post
-  unfolding decimal
-  add-result-2 c =
-      let l = c .before .before .before in
-      let p = l .before .before .before .before in
-      let w = l .put-long .ensures in
-      omega (arith, longer p, start p .pre .1 .1, w .next-is, wrote-length w)
+  add-result-2 c = omega (arith, after (c .before .before .before))
 
   same-length-2 : put-long-lts.Need-same-length-2 (claims t) (put-long-at t) put-long.Post
   same-length-2 c = simp length-set (wrote-length (c .before .before .before .put-long .ensures))
@@ -131,7 +136,7 @@ module _ (t : ℕ) where
   unfolding decimal
   returns-2 c =
       let l = c .before .before .before in
-      let p = l .before .before .before .before in
+      let p = to-split l in
       wrote-tens (start p .args .x) _ _ _ (p .tens-of .ensures .0) (p .tens-of .ensures .1) (start p .pre .1 .0) (l .put-long .ensures) (c .decimal-digit3 .ensures)
 
 pub +put-long-spec : {M : Type 1} → statement M

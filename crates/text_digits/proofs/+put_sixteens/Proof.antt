@@ -71,6 +71,10 @@ module _ (t : ℕ) where
   two : (c : Two) → length (digits 16 (wide (low (start-two c)) (high (start-two c)))) ≡ 2
   two c = omega (arith, longer (start-two c), length-digit _ _ (front c))
 
+  room : (c : Two) → start-two c .args .at + 2 ≤ length (start-two c .args .buf .now)
+  unfolding hexadecimal
+  room c = omega (arith, two c, start-two c .pre .1 .1)
+
   -- more
   abbrev More : Type 0
   More = put-sixteens-lts.Else1 (claims t) (put-sixteens-at t) put-sixteens.Post
@@ -80,6 +84,17 @@ module _ (t : ℕ) where
 
   more : (c : More) → 16 ≤ without-last (low (start-more c)) (high (start-more c))
   more c = ltb-false _ 16 (sym (c .before .one-digit .ensures) ∙ c .if1 .left)
+
+  -- the digits but the last are written
+  abbrev Front : Type 0
+  Front = put-sixteens-lts.After-put-sixteens (claims t) (put-sixteens-at t) put-sixteens.Post
+
+  abbrev start-front : Front → Start
+  start-front c = start-more (c .before .before)
+
+  after : (c : Front) → c .put-sixteens .result + 1 ≤ length (c .put-sixteens .last .1 .1 .0)
+  unfolding hexadecimal
+  after c = let w = c .put-sixteens .ensures in omega (arith, longer (start-front c), start-front c .pre .1 .1, w .next-is, wrote-length w)
 
   -- ---- the needs
 
@@ -96,27 +111,22 @@ module _ (t : ℕ) where
   hex-digit-requires c κs = omega (arith, front c)
 
   slice-write-buf : put-sixteens-lts.Need-slice-write-buf (claims t) (put-sixteens-at t) put-sixteens.Post
-  unfolding hexadecimal
-  slice-write-buf c = let w = c .before in omega (arith, two w, start-two w .pre .1 .1)
+  slice-write-buf c = omega (arith, room (c .before))
 
   hex-digit-requires-2 : put-sixteens-lts.Need-hex-digit-requires-2 (claims t) (put-sixteens-at t) put-sixteens.Post
   hex-digit-requires-2 c κs = omega arith
 
   add-buf : put-sixteens-lts.Need-add-buf (claims t) (put-sixteens-at t) put-sixteens.Post
-  unfolding hexadecimal
-  add-buf c = let w = c .before .before in omega (arith, two w, start-two w .pre .1 .1)
+  add-buf c = omega (arith, room (c .before .before))
 
   slice-write-buf-2 : put-sixteens-lts.Need-slice-write-buf-2 (claims t) (put-sixteens-at t) put-sixteens.Post
-  unfolding hexadecimal
   slice-write-buf-2 c =
-      let d = c .before in
-      let w = d .before in
-      let s = start-two w in
-      omega (arith, two w, s .pre .1 .1, length-set (s .args .buf .now) (s .args .at) (d .hex-digit .result))
+      let w = c .before .before in
+      let b = start-two w .args in
+      omega (arith, room w, length-set (b .buf .now) (b .at) (c .before .hex-digit .result))
 
   add-result : put-sixteens-lts.Need-add-result (claims t) (put-sixteens-at t) put-sixteens.Post
-  unfolding hexadecimal
-  add-result c = let w = c .before .before in omega (arith, two w, start-two w .pre .1 .1)
+  add-result c = omega (arith, room (c .before .before))
 
   same-length : put-sixteens-lts.Need-same-length (claims t) (put-sixteens-at t) put-sixteens.Post
   same-length c = simp length-set
@@ -142,20 +152,10 @@ module _ (t : ℕ) where
   hex-digit-requires-3 c κs = omega arith
 
   slice-write-buf-3 : put-sixteens-lts.Need-slice-write-buf-3 (claims t) (put-sixteens-at t) put-sixteens.Post
-  unfolding hexadecimal
-  slice-write-buf-3 c =
-      let l = c .before .before .before in
-      let s = start-more (l .before .before) in
-      let w = l .put-sixteens .ensures in
-      omega (arith, longer s, s .pre .1 .1, w .next-is, wrote-length w)
+  slice-write-buf-3 c = omega (arith, after (c .before .before .before))
 
   add-result-2 : put-sixteens-lts.Need-add-result-2 (claims t) (put-sixteens-at t) put-sixteens.Post
-  unfolding hexadecimal
-  add-result-2 c =
-      let l = c .before .before .before in
-      let s = start-more (l .before .before) in
-      let w = l .put-sixteens .ensures in
-      omega (arith, longer s, s .pre .1 .1, w .next-is, wrote-length w)
+  add-result-2 c = omega (arith, after (c .before .before .before))
 
   same-length-2 : put-sixteens-lts.Need-same-length-2 (claims t) (put-sixteens-at t) put-sixteens.Post
   same-length-2 c = simp length-set (wrote-length (c .before .before .before .put-sixteens .ensures))
@@ -164,7 +164,7 @@ module _ (t : ℕ) where
   unfolding hexadecimal
   returns-2 c =
       let l = c .before .before .before in
-      let s = start-more (l .before .before) in
+      let s = start-front l in
       wrote-words (low s) (high s) _ (s .pre .1 .0) (l .put-sixteens .ensures) (c .hex-digit3 .ensures)
 
 pub +put-sixteens-spec : {M : Type 1} → statement M
