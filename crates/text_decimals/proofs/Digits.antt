@@ -1,104 +1,74 @@
 -- Padded numbers, and decimal numbers as these. Assumes nothing.
-use mathlib.Core.Path.{_≡_, refl, ap, _∙_, subst}
+use mathlib.Core.Path.{_≡_, refl, sym, ap, ap₂, _∙_, subst}
 use mathlib.Core.List.{List, [], _∷_, _++_}
-use Prim.Native.Nat.{ℕ, _+_, _*_, _/_, _%_, _≤_, _<_}
+use Prim.Native.Nat.{ℕ, zero, suc, _+_, _*_, _/_, _%_, _^_, _≤_, _<_}
 use native.Mathlib.Omega.{arith}
+use native.Mathlib.Nat.{mul-comm, div-one, div-div-eq-div-mul, pow-suc, pow-le-pow-right}
 use native.Mathlib.Numerals.{add-one}
+use lib.Arith.{digits-div, digits-mod, mod-mul}
 use lib.ListN.{length, set, length-set}
 use Rattle.terms.specs.Display.{digit, decimal}
 use Rattle.text_digits.specs.Writing.{Room, Wrote}
 use Rattle.text_digits.proofs.Laws.{digits, digits-one, digits-more, wrote-byte, wrote-then, wrote-as}
 use Rattle.text_decimals.specs.Padded.{padded}
 
--- the first digit and the others, as `place` gives them
+ten-pos : (k : ℕ) → 0 < 10 ^ k
+ten-pos k = pow-le-pow-right {n = 10} (omega arith) {i = 0} {j = k} (omega arith)
+
+-- the first digit and the others, as `place_of` gives them
+pub first : (k x d r : ℕ) → 10 ^ k * d + r ≡ x → r < 10 ^ k → padded (suc k) x ≡ digit d ∷ padded k r
+unfolding padded
+first k x d r e h =
+    let q : x ≡ d * 10 ^ k + r = sym e ∙ ap (λ (z : ℕ). z + r) (mul-comm (10 ^ k) d) in
+    ap (padded (suc k)) q ∙ ap₂ (λ (y z : ℕ). digit y ∷ padded k z) (digits-div d h) (digits-mod d h)
+
 pub first-2 : (x d r : ℕ) → 10 * d + r ≡ x → r < 10 → padded 2 x ≡ digit d ∷ digit r ∷ []
 unfolding padded
-first-2 x d r e h =
-    let p : x / 10 ≡ d = omega arith in
-    let q : x % 10 / 1 ≡ r = omega arith in
-    ap (λ (z : ℕ). digit z ∷ digit (x % 10 / 1) ∷ []) p ∙ ap (λ (z : ℕ). digit d ∷ digit z ∷ []) q
+first-2 x d r e h = first 1 x d r e h ∙ ap (λ (z : ℕ). digit d ∷ digit z ∷ []) (div-one r)
 
-pub first-3 : (x d r : ℕ) → 100 * d + r ≡ x → r < 100 → padded 3 x ≡ digit d ∷ padded 2 r
+pub length-padded : (k x : ℕ) → length (padded k x) ≡ k
 unfolding padded
-first-3 x d r e h =
-    let p : x / 100 ≡ d = omega arith in
-    let q : x % 100 ≡ r = omega arith in
-    ap (λ (z : ℕ). digit z ∷ padded 2 (x % 100)) p ∙ ap (λ (z : ℕ). digit d ∷ padded 2 z) q
-
-pub first-4 : (x d r : ℕ) → 1000 * d + r ≡ x → r < 1000 → padded 4 x ≡ digit d ∷ padded 3 r
-unfolding padded
-first-4 x d r e h =
-    let p : x / 1000 ≡ d = omega arith in
-    let q : x % 1000 ≡ r = omega arith in
-    ap (λ (z : ℕ). digit z ∷ padded 3 (x % 1000)) p ∙ ap (λ (z : ℕ). digit d ∷ padded 3 z) q
-
-pub first-5 : (x d r : ℕ) → 10000 * d + r ≡ x → r < 10000 → padded 5 x ≡ digit d ∷ padded 4 r
-unfolding padded
-first-5 x d r e h =
-    let p : x / 10000 ≡ d = omega arith in
-    let q : x % 10000 ≡ r = omega arith in
-    ap (λ (z : ℕ). digit z ∷ padded 4 (x % 10000)) p ∙ ap (λ (z : ℕ). digit d ∷ padded 4 z) q
-
-pub length-2 : (x : ℕ) → length (padded 2 x) ≡ 2
-unfolding padded
-length-2 x = refl
+length-padded zero x = refl
+length-padded (suc k) x = ap suc (length-padded k (x % 10 ^ k))
 
 -- the last digit
 last : (a b : List ℕ) (x : ℕ) → 10 ≤ x → digits 10 (x / 10) ≡ a → a ++ (digit (x % 10) ∷ []) ≡ b → digits 10 x ≡ b
 last a b x h e q = digits-more 10 x (omega arith) h ∙ ap (λ (l : List ℕ). l ++ (digit (x % 10) ∷ [])) e ∙ q
 
-four : (a b c d e f g h : ℕ) → a ≡ e → b ≡ f → c ≡ g → d ≡ h → _≡_ {A = List ℕ} (digit a ∷ digit b ∷ digit c ∷ digit d ∷ []) (digit e ∷ digit f ∷ digit g ∷ digit h ∷ [])
-four a b c d e f g h p q r s = rw (p, q, r, s)
+-- the digits of a number over ten, and its last digit
+shift : (k x : ℕ) → padded (suc k) (x / 10) ++ (digit (x % 10) ∷ []) ≡ padded (suc (suc k)) x
+unfolding padded
+shift zero x = ap₂ (λ (y z : ℕ). digit y ∷ digit z ∷ []) (div-one (x / 10)) (sym (div-one (x % 10)))
+shift (suc k) x =
+    let n = 10 ^ suc k in
+    let e : 10 ^ suc (suc k) ≡ n * 10 = pow-suc 10 (suc k) in
+    let y = x % 10 ^ suc (suc k) in
+    let m : y ≡ (x / 10 % n) * 10 + x % 10 = ap (λ (z : ℕ). x % z) e ∙ mod-mul x (ten-pos (suc k)) (omega arith) in
+    let h : x % 10 < 10 = omega arith in
+    let up : y / 10 ≡ x / 10 % n = ap (λ (z : ℕ). z / 10) m ∙ digits-div (x / 10 % n) h in
+    let low : y % 10 ≡ x % 10 = ap (λ (z : ℕ). z % 10) m ∙ digits-mod (x / 10 % n) h in
+    let top : x / 10 / n ≡ x / 10 ^ suc (suc k) = div-div-eq-div-mul x 10 n ∙ ap (λ (z : ℕ). x / z) (mul-comm 10 n ∙ sym e) in
+    ap₂ (λ (y z : ℕ). digit y ∷ (padded (suc k) z ++ (digit (x % 10) ∷ []))) top (sym up)
+    ∙ ap (λ (z : ℕ). digit (x / 10 ^ suc (suc k)) ∷ (padded (suc k) (y / 10) ++ (digit z ∷ []))) (sym low)
+    ∙ ap (λ (l : List ℕ). digit (x / 10 ^ suc (suc k)) ∷ l) (shift k y)
 
-pub decimal-2 : (x : ℕ) → 10 ≤ x → x < 100 → decimal x ≡ padded 2 x
+-- a number of so many digits has no zeros before it
+pub unpadded : (k x : ℕ) → 10 ^ k ≤ x → x < 10 ^ suc k → decimal x ≡ padded (suc k) x
 unfolding decimal padded
-decimal-2 x h l =
-    last (digit (x / 10) ∷ []) _ x h (digits-one 10 (x / 10) (omega arith))
-    (let q : x % 10 ≡ x % 10 / 1 = omega arith in ap (λ (z : ℕ). digit (x / 10) ∷ digit z ∷ []) q)
+unpadded zero x h l = digits-one 10 x l ∙ ap (λ (z : ℕ). digit z ∷ []) (sym (div-one x))
+unpadded (suc k) x h l =
+    let e : 10 ^ suc k ≡ 10 ^ k * 10 = pow-suc 10 k in
+    let f : 10 ^ suc (suc k) ≡ 10 ^ suc k * 10 = pow-suc 10 (suc k) in
+    let o : 0 < 10 ^ k = ten-pos k in
+    last (padded (suc k) (x / 10)) _ x (omega arith) (unpadded k (x / 10) (omega arith) (omega arith)) (shift k x)
 
-shift-3 : (x : ℕ) → padded 2 (x / 10) ++ (digit (x % 10) ∷ []) ≡ padded 3 x
-unfolding padded
-shift-3 x =
-    let p : x / 10 / 10 ≡ x / 100 = omega arith in
-    let q : x / 10 % 10 / 1 ≡ x % 100 / 10 = omega arith in
-    let s : x % 10 ≡ x % 100 % 10 / 1 = omega arith in
-    ap (λ (z : ℕ). digit z ∷ digit (x / 10 % 10 / 1) ∷ digit (x % 10) ∷ []) p
-    ∙ ap (λ (z : ℕ). digit (x / 100) ∷ digit z ∷ digit (x % 10) ∷ []) q
-    ∙ ap (λ (z : ℕ). digit (x / 100) ∷ digit (x % 100 / 10) ∷ digit z ∷ []) s
+pub size : (k x : ℕ) → 10 ^ k ≤ x → x < 10 ^ suc k → length (decimal x) ≡ suc k
+size k x h l = ap length (unpadded k x h l) ∙ length-padded (suc k) x
 
-pub decimal-3 : (x : ℕ) → 100 ≤ x → x < 1000 → decimal x ≡ padded 3 x
+-- 0 too has one digit
+pub size-1 : (x : ℕ) → x < 10 → length (decimal x) ≡ 1
 unfolding decimal
-decimal-3 x h l =
-    last (padded 2 (x / 10)) _ x (omega arith) (decimal-2 (x / 10) (omega arith) (omega arith))
-    (shift-3 x)
-
-shift-4 : (x : ℕ) → padded 3 (x / 10) ++ (digit (x % 10) ∷ []) ≡ padded 4 x
-unfolding padded
-shift-4 x =
-    let p : x / 10 / 100 ≡ x / 1000 = omega arith in
-    let q : x / 10 % 100 / 10 ≡ x % 1000 / 100 = omega arith in
-    let s : x / 10 % 100 % 10 / 1 ≡ x % 1000 % 100 / 10 = omega arith in
-    let t : x % 10 ≡ x % 1000 % 100 % 10 / 1 = omega arith in
-    four _ _ _ _ _ _ _ _ p q s t
-
-pub decimal-4 : (x : ℕ) → 1000 ≤ x → x < 10000 → decimal x ≡ padded 4 x
-unfolding decimal
-decimal-4 x h l = last (padded 3 (x / 10)) _ x (omega arith) (decimal-3 (x / 10) (omega arith) (omega arith)) (shift-4 x)
-
-shift-5 : (x : ℕ) → padded 4 (x / 10) ++ (digit (x % 10) ∷ []) ≡ padded 5 x
-unfolding padded
-shift-5 x =
-    let o : x / 10 / 1000 ≡ x / 10000 = omega arith in
-    let p : x / 10 % 1000 / 100 ≡ x % 10000 / 1000 = omega arith in
-    let q : x / 10 % 1000 % 100 / 10 ≡ x % 10000 % 1000 / 100 = omega arith in
-    let s : x / 10 % 1000 % 100 % 10 / 1 ≡ x % 10000 % 1000 % 100 / 10 = omega arith in
-    let t : x % 10 ≡ x % 10000 % 1000 % 100 % 10 / 1 = omega arith in
-    ap (λ (z : ℕ). digit z ∷ digit (x / 10 % 1000 / 100) ∷ digit (x / 10 % 1000 % 100 / 10) ∷ digit (x / 10 % 1000 % 100 % 10 / 1) ∷ digit (x % 10) ∷ []) o
-    ∙ ap (λ (l : List ℕ). digit (x / 10000) ∷ l) (four _ _ _ _ _ _ _ _ p q s t)
-
-pub decimal-5 : (x : ℕ) → 10000 ≤ x → x < 100000 → decimal x ≡ padded 5 x
-unfolding decimal
-decimal-5 x h l = last (padded 4 (x / 10)) _ x (omega arith) (decimal-4 (x / 10) (omega arith) (omega arith)) (shift-5 x)
+size-1 x l = ap length (digits-one 10 x l)
 
 -- a digit written before the others
 module _ {l : List ℕ} {i b : ℕ} {s t : List ℕ} where
@@ -116,24 +86,3 @@ module _ {l : List ℕ} {i b : ℕ} {s t : List ℕ} where
 pub wrote-last : {l : List ℕ} {i : ℕ} {t : List ℕ} {a b r q : ℕ} → r ≡ a → q ≡ b → t ≡ a ∷ b ∷ [] → Wrote l i t (i + 2) (set (set l i r) (i + 1) q)
 wrote-last {l} {i} {t} {a} {b} {r} {q} x y p =
     record { next-is = let h = ap length p in omega (arith, h); after-is = rw (p, x, y, add-one i) refl }
-
--- how many digits there are
-pub size-1 : (x : ℕ) → x < 10 → length (decimal x) ≡ 1
-unfolding decimal
-size-1 x l = ap length (digits-one 10 x l)
-
-pub size-2 : (x : ℕ) → 10 ≤ x → x < 100 → length (decimal x) ≡ 2
-unfolding padded
-size-2 x h l = ap length (decimal-2 x h l)
-
-pub size-3 : (x : ℕ) → 100 ≤ x → x < 1000 → length (decimal x) ≡ 3
-unfolding padded
-size-3 x h l = ap length (decimal-3 x h l)
-
-pub size-4 : (x : ℕ) → 1000 ≤ x → x < 10000 → length (decimal x) ≡ 4
-unfolding padded
-size-4 x h l = ap length (decimal-4 x h l)
-
-pub size-5 : (x : ℕ) → 10000 ≤ x → x < 100000 → length (decimal x) ≡ 5
-unfolding padded
-size-5 x h l = ap length (decimal-5 x h l)

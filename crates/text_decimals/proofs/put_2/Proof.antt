@@ -1,7 +1,7 @@
 -- `put_2` writes `padded 2`: the digit of the tens and what is left.
 use native.Mathlib.Omega.{arith}
 use lib.ListN.{length-set}
-use Rattle.text_decimals.proofs.Digits.{first-2, length-2, wrote-last}
+use Rattle.text_decimals.proofs.Digits.{first-2, length-padded, wrote-last}
 use borrow.Author.Needs.{needs}
 use Rattle.text_decimals.proofs.put_2.Statement.{statement}
 use Rattle.text_decimals.proofs.put_2.Tie as tie
@@ -14,8 +14,8 @@ figure-requires c κs = search needs
 
 slice-write-buf : tie.Need-slice-write-buf
 slice-write-buf c =
-    let at3 = c .before .before .before in
-    let st = at3 in omega (arith, st .pre .1 .room, length-2 (st .args .x))
+    let st = c .before .before .before in
+    omega (arith, st .pre .1 .room, length-padded 2 (st .args .x))
 
 figure-requires-2 : tie.Need-figure-requires-2
 figure-requires-2 c κs = search needs
@@ -26,8 +26,8 @@ add-buf c = search needs
 slice-write-buf-2 : tie.Need-slice-write-buf-2
 slice-write-buf-2 c =
     let at-figure = c .before in
-    let at4 = at-figure .before .before .before in
-    let st = at4 in omega (arith, st .pre .1 .room, length-2 (st .args .x), length-set (st .args .buf .now) (st .args .at) (at-figure .figure .result))
+    let st = at-figure .before .before .before in
+    omega (arith, st .pre .1 .room, length-padded 2 (st .args .x), length-set (st .args .buf .now) (st .args .at) (at-figure .figure .result))
 
 add-result : tie.Need-add-result
 add-result c = search needs

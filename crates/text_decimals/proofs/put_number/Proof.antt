@@ -1,23 +1,49 @@
 -- `put_number` writes the decimal text: a number of k digits has no zeros before it, so `padded k` is its text.
-use mathlib.Core.Path.{ap}
+use mathlib.Core.Path.{_≡_}
 use native.Mathlib.Omega.{arith}
-use lib.ListN.{length}
 use Rattle.terms.specs.Display.{decimal}
-use Rattle.text_digits.proofs.Laws.{digits-one, wrote-one, wrote-as, room-as}
-use Rattle.text_decimals.proofs.Digits.{decimal-2, decimal-3, decimal-4, decimal-5}
+use Rattle.text_decimals.specs.Padded.{padded}
+use Rattle.text_digits.proofs.Laws.{wrote-one, wrote-as, room-as}
+use Rattle.text_decimals.proofs.Digits.{unpadded, size-1}
 use borrow.Author.Needs.{needs}
 use Rattle.text_decimals.proofs.put_number.Statement.{statement}
 use Rattle.text_decimals.proofs.put_number.Tie as tie
+
+-- ---- the entry, from past the tests of 100, 1,000, 10,000, and where the digits are that many
+
+abbrev over-99 : tie.Else1 → tie.Start
+over-99 c = c .before .before
+
+abbrev over-999 : tie.Else3 → tie.Start
+over-999 c = over-99 (c .before)
+
+abbrev over-9999 : tie.Else4 → tie.Start
+over-9999 c = over-999 (c .before)
+
+abbrev below-100 : tie.Then1 → tie.Start
+below-100 c = c .before .before
+
+two : (c : tie.Else2) → let x = below-100 (c .before) .args .x in decimal x ≡ padded 2 x
+two c = unpadded 1 (below-100 (c .before) .args .x) (c .if2 .left) (c .before .if1 .taken)
+
+three : (c : tie.Then3) → let x = over-99 (c .before) .args .x in decimal x ≡ padded 3 x
+three c = unpadded 2 (over-99 (c .before) .args .x) (c .before .if1 .left) (c .if3 .taken)
+
+four : (c : tie.Then4) → let x = over-999 (c .before) .args .x in decimal x ≡ padded 4 x
+four c = unpadded 3 (over-999 (c .before) .args .x) (c .before .if3 .left) (c .if4 .taken)
+
+five : (c : tie.Then5) → let x = over-9999 (c .before) .args .x in decimal x ≡ padded 5 x
+five c = unpadded 4 (over-9999 (c .before) .args .x) (c .before .if4 .left) (c .if5 .taken)
+
+-- ---- the needs
 
 figure-requires : tie.Need-figure-requires
 figure-requires c κs = search needs
 
 slice-write-buf : tie.Need-slice-write-buf
-unfolding decimal
 slice-write-buf c =
-    let at-if2 = c .before in
-    let at4 = at-if2 .before .before .before in
-    let st = at4 in omega (arith, ap length (digits-one 10 (st .args .x) (at-if2 .if2 .taken)), st .pre)
+    let s = below-100 (c .before .before) in
+    omega (arith, size-1 (s .args .x) (c .before .if2 .taken), s .pre)
 
 add-result : tie.Need-add-result
 add-result c = search needs
@@ -28,81 +54,44 @@ same-length c = search needs
 returns : tie.Need-returns
 unfolding decimal
 returns c =
-    let at-if2 = c .before in
-    let at-args = at-if2 .before .before .before in
-    let a = at-args .args in wrote-one 10 (a .buf .now) (a .at) (a .x) _ (at-if2 .if2 .taken) (c .figure .ensures)
+    let a = below-100 (c .before .before) .args in
+    wrote-one 10 (a .buf .now) (a .at) (a .x) _ (c .before .if2 .taken) (c .figure .ensures)
 
 put-2-requires : tie.Need-put-2-requires
-put-2-requires c κs =
-    let at-if2 = c .before in
-    let at-if1 = at-if2 .before in
-    let at4 = at-if1 .before .before in
-    let st = at4 in (at-if1 .if1 .taken, room-as (decimal-2 (st .args .x) (at-if2 .if2 .left) (at-if1 .if1 .taken)) (st .pre))
+put-2-requires c κs = let e = c .before in (e .before .if1 .taken, room-as (two e) (below-100 (e .before) .pre))
 
 same-length-2 : tie.Need-same-length-2
 same-length-2 c = search needs
 
 returns-2 : tie.Need-returns-2
-returns-2 c =
-    let at-put-2 = c .before .before in
-    let at-if2 = at-put-2 .before .before in
-    let at-if1 = at-if2 .before in
-    let at7 = at-if1 .before .before in
-    let st = at7 in wrote-as (decimal-2 (st .args .x) (at-if2 .if2 .left) (at-if1 .if1 .taken)) (at-put-2 .put-2 .ensures)
+returns-2 c = let w = c .before .before in wrote-as (two (w .before .before)) (w .put-2 .ensures)
 
 put-3-requires : tie.Need-put-3-requires
-put-3-requires c κs =
-    let at-if3 = c .before in
-    let at-if1 = at-if3 .before in
-    let at4 = at-if1 .before .before in
-    let st = at4 in (at-if3 .if3 .taken, room-as (decimal-3 (st .args .x) (at-if1 .if1 .left) (at-if3 .if3 .taken)) (st .pre))
+put-3-requires c κs = let e = c .before in (e .if3 .taken, room-as (three e) (over-99 (e .before) .pre))
 
 same-length-3 : tie.Need-same-length-3
 same-length-3 c = search needs
 
 returns-3 : tie.Need-returns-3
-returns-3 c =
-    let at-put-3 = c .before .before in
-    let at-if3 = at-put-3 .before .before in
-    let at-if1 = at-if3 .before in
-    let at7 = at-if1 .before .before in
-    let st = at7 in wrote-as (decimal-3 (st .args .x) (at-if1 .if1 .left) (at-if3 .if3 .taken)) (at-put-3 .put-3 .ensures)
+returns-3 c = let w = c .before .before in wrote-as (three (w .before .before)) (w .put-3 .ensures)
 
 put-4-requires : tie.Need-put-4-requires
-put-4-requires c κs =
-    let at-if4 = c .before in
-    let at-if3 = at-if4 .before in
-    let at5 = at-if3 .before .before .before in
-    let st = at5 in (at-if4 .if4 .taken, room-as (decimal-4 (st .args .x) (at-if3 .if3 .left) (at-if4 .if4 .taken)) (st .pre))
+put-4-requires c κs = let e = c .before in (e .if4 .taken, room-as (four e) (over-999 (e .before) .pre))
 
 same-length-4 : tie.Need-same-length-4
 same-length-4 c = search needs
 
 returns-4 : tie.Need-returns-4
-returns-4 c =
-    let at-put-4 = c .before .before in
-    let at-if4 = at-put-4 .before .before in
-    let at-if3 = at-if4 .before in
-    let at8 = at-if3 .before .before .before in
-    let st = at8 in wrote-as (decimal-4 (st .args .x) (at-if3 .if3 .left) (at-if4 .if4 .taken)) (at-put-4 .put-4 .ensures)
+returns-4 c = let w = c .before .before in wrote-as (four (w .before .before)) (w .put-4 .ensures)
 
 put-5-requires : tie.Need-put-5-requires
-put-5-requires c κs =
-    let at-if5 = c .before in
-    let at-if4 = at-if5 .before in
-    let at6 = at-if4 .before .before .before .before in
-    let st = at6 in (at-if5 .if5 .taken, room-as (decimal-5 (st .args .x) (at-if4 .if4 .left) (at-if5 .if5 .taken)) (st .pre))
+put-5-requires c κs = let e = c .before in (e .if5 .taken, room-as (five e) (over-9999 (e .before) .pre))
 
 same-length-5 : tie.Need-same-length-5
 same-length-5 c = search needs
 
 returns-5 : tie.Need-returns-5
-returns-5 c =
-    let at-put-5 = c .before .before in
-    let at-if5 = at-put-5 .before .before in
-    let at-if4 = at-if5 .before in
-    let at9 = at-if4 .before .before .before .before in
-    let st = at9 in wrote-as (decimal-5 (st .args .x) (at-if4 .if4 .left) (at-if5 .if5 .taken)) (at-put-5 .put-5 .ensures)
+returns-5 c = let w = c .before .before in wrote-as (five (w .before .before)) (w .put-5 .ensures)
 
 put-decimal-requires : tie.Need-put-decimal-requires
 put-decimal-requires c κs = search needs
