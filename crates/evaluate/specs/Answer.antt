@@ -1,9 +1,9 @@
 -- What asking for a term's value answers (document 02, S-6): 1, 5, 11, the first in order.
 use mathlib.Core.List.{List}
 use mathlib.Core.Path.{_≡_}
-use Prim.Native.Nat.{ℕ, zero, suc, _≤_}
+use Prim.Native.Nat.{ℕ, _≤_}
 use lib.Dec.{leb}
-use Rattle.facts.specs.Refuse.{unless}
+use Rattle.facts.specs.Refuse.{byNumber, unless}
 use Rattle.pool.specs.Rules.{nodeNumber}
 use Rattle.wide.specs.Number.{words}
 use Rattle.evaluate.specs.declared.Evaluated.{Evaluated}
@@ -12,11 +12,6 @@ use Rattle.evaluate.specs.Visits.{valueAt, visitsAt}
 -- 11 where the definition's visits are more than the allowance
 abbrev pub evaluateNumber : List ℕ → List ℕ → (count n allowance : ℕ) → ℕ
 evaluateNumber ws regs count n allowance = nodeNumber ws count n (unless (leb (visitsAt ws regs n) allowance) 11 0)
-
--- what comes back, by the number: 0 with a refusal
-abbrev pub byNumber : (number x : ℕ) → ℕ
-byNumber zero x = x
-byNumber (suc k) x = 0
 
 abbrev pub noValue : ℕ → Evaluated
 noValue number = record { number = number; low = 0; high = 0; top = 0; visits = 0 }

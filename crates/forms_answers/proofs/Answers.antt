@@ -12,7 +12,7 @@ use Rattle.neon.specs.Refusal.{reserve, Legal, AllLegal, recordNumber, recordsR
 use Rattle.block_record_check.specs.Record.{instruction}
 use Rattle.line_columns.specs.Columns.{columns, characterOf}
 use Rattle.line_columns.proofs.Characters.{columns-are}
-use Rattle.line_fields.specs.Fields.{inColumns, lineNumber, fields, recordOf}
+use Rattle.line_fields.specs.Fields.{inColumns, fields, recordOf}
 use Rattle.line_fields.proofs.Meaning.{lineOf, written-read}
 use Rattle.line.specs.Line.{answerNumber, answer}
 use Rattle.line.specs.Output.{outputFrom}
@@ -68,7 +68,7 @@ module _ (p : ℕ) (c : Instruction) (legal : Legal c) where
   accepted-one room = rw (le-leb (32 + reserve) p room, eq-eqb (recordNumber c) 0 legal)
 
   answer-is : 32 + reserve ≤ p → answer p text ≡ answerTo c
-  unfolding answer answerNumber lineNumber
+  unfolding answer answerNumber
   answer-is room = rw (back .0, record-back, accepted-one room)
 
   line-taken : (rest : List ℕ) → outputFrom p [] (line c ++ rest) ≡ answer p text ++ outputFrom p [] rest

@@ -4,17 +4,19 @@ use mathlib.Core.List.{List, [], _∷_, _++_}
 use mathlib.Core.Path.{_≡_, refl, ap, _∙_}
 use Prim.Native.Nat.{ℕ, zero, suc, _+_, _-_, _≤_}
 use native.Mathlib.Omega.{arith}
-use lib.Dec.{leb}
+use lib.Dec.{leb, eqb}
 use lib.ListN.{length, length-append}
 use lib.Seq.{sets, length-sets}
-use borrow.Author.Tests.{leb-true}
+use borrow.Author.Tests.{leb-true, ne-eqb}
+use Rattle.facts.specs.Refuse.{unless}
+use Rattle.facts.proofs.Tests.{passed}
 use Rattle.neon.specs.Refusal.{blockRefusal}
 use Rattle.text_digits.specs.Writing.{Wrote}
 use Rattle.line_columns.specs.Columns.{columns}
-use Rattle.line_fields.specs.Fields.{inColumns, lineNumber, recordOf}
+use Rattle.line_fields.specs.Fields.{inColumns, recordOf}
 use Rattle.line_output.specs.Answer.{textRoom, answerRoom, roomNumber, written}
 use Rattle.line_output.proofs.Texts.{length-columns}
-use Rattle.line.specs.Line.{recordText, orElse, answerNumber, answer, answerIn}
+use Rattle.line.specs.Line.{recordText, answerNumber, answer, answerIn}
 use Rattle.line.proofs.Records.{block-low}
 
 -- ---- every number of an answer is at most 10, and 0 only where the text has room
@@ -23,13 +25,9 @@ cond-le : (b : Bool) (x y m : ℕ) → x ≤ m → y ≤ m → cond b x y ≤ m
 cond-le true x y m h k = h
 cond-le false x y m h k = k
 
-or-le : (a b m : ℕ) → a ≤ m → b ≤ m → orElse a b ≤ m
-or-le zero b m h k = k
-or-le (suc a) b m h k = h
-
-or-zero : (a b : ℕ) → orElse a b ≡ 0 → b ≡ 0
-or-zero zero b e = e
-or-zero (suc a) b e = absurd (omega arith)
+or-zero : (n rest : ℕ) → unless (eqb n 0) n rest ≡ 0 → rest ≡ 0
+or-zero zero rest e = e
+or-zero (suc n) rest e = absurd (omega (arith, rw (ne-eqb (suc n) 0 (λ z. absurd (omega (arith, z)))) at e))
 
 room-zero : (s : List ℕ) → roomNumber s ≡ 0 → length s ≤ textRoom
 room-zero s e = go (leb (length s) textRoom) refl e
@@ -37,10 +35,6 @@ room-zero s e = go (leb (length s) textRoom) refl e
     go : (b : Bool) → leb (length s) textRoom ≡ b → _≡_ {A = ℕ} (cond b 0 9) 0 → length s ≤ textRoom
     go true f z = leb-true (length s) textRoom f
     go false f z = absurd (omega arith)
-
-line-low : (line : List ℕ) → lineNumber line ≤ 10
-unfolding lineNumber
-line-low line = cond-le (inColumns line) 0 10 10 (omega arith) (omega arith)
 
 -- ---- its bytes
 
@@ -58,8 +52,10 @@ answer-fits p line =
     let n = blockRefusal p (recordOf line ∷ []) .number in
     let low : roomNumber s ≤ 10 = cond-le (leb (length s) textRoom) 0 9 10 (omega arith) (omega arith) in
     let block : n ≤ 10 = omega (arith, block-low p (recordOf line)) in
-    written-fits (orElse (lineNumber line) (orElse n (roomNumber s))) s (or-le (lineNumber line) _ 10 (line-low line) (or-le n _ 10 block low))
-    (λ e. room-zero s (or-zero n (roomNumber s) (or-zero (lineNumber line) (orElse n (roomNumber s)) e)))
+    let after = unless (eqb n 0) n (roomNumber s) in
+    written-fits (unless (inColumns line) 10 after) s
+    (cond-le (inColumns line) after 10 10 (cond-le (eqb n 0) (roomNumber s) n 10 low block) (omega arith))
+    (λ e. room-zero s (or-zero n (roomNumber s) (passed (inColumns line) (λ z. absurd (omega (arith, z))) e .1)))
 
 -- where there may be too little room, nothing is written
 answer-in-fits : (room p : ℕ) (line : List ℕ) → length (answerIn room p line) ≤ room

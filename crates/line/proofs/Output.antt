@@ -8,7 +8,7 @@ use lib.Dec.{leb, eqb}
 use lib.ListN.{length, take, drop}
 use lib.Seq.{take-all, length-take-le}
 use borrow.Author.Tests.{leb-true, leb-false, ne-eqb}
-use Rattle.line_fields.specs.Fields.{inColumns, lineNumber}
+use Rattle.line_fields.specs.Fields.{inColumns}
 use Rattle.line_pieces.specs.declared.Gathered.{Gathered}
 use Rattle.line_pieces.specs.Pieces.{upTo, ends, one, Gathers}
 use Rattle.line.specs.Line.{answer, answerNumber}
@@ -47,7 +47,7 @@ unfolding inColumns
 not-columns l f = rw (ne-eqb (length l) 24 f)
 
 answer-cut : (p h : ℕ) (l : List ℕ) → 25 ≤ h → answer p (take h l) ≡ answer p l
-unfolding answer answerNumber lineNumber
+unfolding answer answerNumber
 answer-cut p h l g = go (leb (length l) h) refl
   where
     go : (t : Bool) → leb (length l) h ≡ t → answer p (take h l) ≡ answer p l

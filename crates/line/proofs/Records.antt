@@ -7,7 +7,7 @@ use Prim.Native.Nat.{ℕ, zero, suc, _+_, _-_, _*_, _≤_, _<_}
 use native.Mathlib.Omega.{arith}
 use lib.Dec.{leb, eqb}
 use lib.ListN.{length}
-use borrow.Author.Tests.{le-leb, lt-leb, eqb-true}
+use borrow.Author.Tests.{le-leb, lt-leb, eqb-true, ne-eqb}
 use Rattle.terms.specs.Display.{display}
 use Rattle.facts.specs.Refuse.{unless}
 use Rattle.facts.proofs.Tests.{and-both}
@@ -28,8 +28,7 @@ use Rattle.block_map.specs.Map.{nodeOf}
 use Rattle.block.specs.declared.BlockAnswer.{BlockAnswer}
 use Rattle.block.specs.Block.{VarAt, Answered}
 use Rattle.line_columns.specs.Columns.{columns}
-use Rattle.line_fields.specs.Fields.{inColumns, lineNumber, fields, recordOf}
-use Rattle.line_fields.proofs.Numbers.{in-columns, not-in-columns}
+use Rattle.line_fields.specs.Fields.{inColumns, fields, recordOf}
 use Rattle.line_output.specs.Answer.{answerRoom, roomNumber, written}
 use Rattle.line.specs.Line.{recordText, answerNumber, answer, answerIn, PoolAfter}
 
@@ -80,23 +79,22 @@ module _ (p : ℕ) (line : List ℕ) where
   abbrev c : Instruction
   c = recordOf line
 
-  answer-other : (k : ℕ) → k ≡ lineNumber line → 0 < k → answer p line ≡ columns k ++ (10 ∷ [])
+  answer-other : inColumns line ≡ false → answer p line ≡ columns 10 ++ (10 ∷ [])
   unfolding answer answerNumber
-  answer-other zero f h = absurd (omega arith)
-  answer-other (suc k) f h = rw (← f)
+  answer-other e = rw e
 
-  answer-refused : lineNumber line ≡ 0 → (k : ℕ) → k ≡ blockRefusal p (c ∷ []) .number → 0 < k → answer p line ≡ columns k ++ (10 ∷ [])
+  answer-refused : inColumns line ≡ true → (k : ℕ) → k ≡ blockRefusal p (c ∷ []) .number → 0 < k → answer p line ≡ columns k ++ (10 ∷ [])
   unfolding answer answerNumber
   answer-refused e zero f h = absurd (omega arith)
-  answer-refused e (suc k) f h = rw (e, ← f)
+  answer-refused e (suc k) f h = rw (e, ← f, ne-eqb (suc k) 0 (λ z. absurd (omega (arith, z))))
 
-  answer-done : lineNumber line ≡ 0 → blockRefusal p (c ∷ []) .number ≡ 0 → (s : List ℕ) → s ≡ recordText c → answer p line ≡ written (roomNumber s) s
+  answer-done : inColumns line ≡ true → blockRefusal p (c ∷ []) .number ≡ 0 → (s : List ℕ) → s ≡ recordText c → answer p line ≡ written (roomNumber s) s
   unfolding answer answerNumber
   answer-done e f s g = rw (e, f, ← g)
 
-  pub long : lineNumber line ≡ 0 → length line ≡ 24
+  pub long : inColumns line ≡ true → length line ≡ 24
   unfolding inColumns
-  long e = eqb-true (length line) 24 (and-both (eqb (length line) 24) _ (in-columns line e) .0)
+  long e = eqb-true (length line) 24 (and-both (eqb (length line) 24) _ e .0)
 
 -- the first 32 nodes of an accepted block's pool are registers
 var-low : (ws : List ℕ) (r : ℕ) → VarAt ws r → kindNumber ws r < 3
@@ -137,13 +135,13 @@ module _ (old line out : List ℕ) (at : ℕ) where
   pub left-little : length out - at < answerRoom → PoolAfter old line (length out - at) old
   left-little h = left (rw (lt-leb answerRoom (length out - at) h))
 
-  pub left-other : answerRoom ≤ length out - at → 0 < lineNumber line → PoolAfter old line (length out - at) old
-  left-other h e = left (rw (le-leb answerRoom (length out - at) h) (not-in-columns line e))
+  pub left-other : answerRoom ≤ length out - at → inColumns line ≡ false → PoolAfter old line (length out - at) old
+  left-other h e = left (rw (le-leb answerRoom (length out - at) h) e)
 
-  pub lowered-one : {new : List ℕ} {a : BlockAnswer} → answerRoom ≤ length out - at → lineNumber line ≡ 0 → Answered old (recordOf line ∷ []) new a
+  pub lowered-one : {new : List ℕ} {a : BlockAnswer} → answerRoom ≤ length out - at → inColumns line ≡ true → Answered old (recordOf line ∷ []) new a
       → PoolAfter old line (length out - at) new
   lowered-one {a = a} h e b =
-      let q : looks ≡ true = rw (le-leb answerRoom (length out - at) h) (in-columns line e) in
+      let q : looks ≡ true = rw (le-leb answerRoom (length out - at) h) e in
       record { lowered = λ t. (a, b); kept = λ t. absurd (false≢true (sym t ∙ q)) }
 
   -- no room
@@ -157,16 +155,16 @@ module _ (old line out : List ℕ) (at : ℕ) where
       → Wrote out at (answerIn (length out - at) (places old) line) r after
   room s h e w = wrote-as (rw (le-leb answerRoom (length out - at) h) e) w
 
-  pub other : {after : List ℕ} {k r : ℕ} → answerRoom ≤ length out - at → k ≡ lineNumber line → 0 < k → Wrote out at (columns k ++ (10 ∷ [])) r after
+  pub other : {after : List ℕ} {r : ℕ} → answerRoom ≤ length out - at → inColumns line ≡ false → Wrote out at (columns 10 ++ (10 ∷ [])) r after
       → Wrote out at (answerIn (length out - at) (places old) line) r after
-  other {k = k} h e l w = room (columns k ++ (10 ∷ [])) h (answer-other (places old) line k e l) w
+  other h e w = room (columns 10 ++ (10 ∷ [])) h (answer-other (places old) line e) w
 
-  pub refused : {new after : List ℕ} {a : BlockAnswer} {r : ℕ} → answerRoom ≤ length out - at → lineNumber line ≡ 0
+  pub refused : {new after : List ℕ} {a : BlockAnswer} {r : ℕ} → answerRoom ≤ length out - at → inColumns line ≡ true
       → Answered old (recordOf line ∷ []) new a → 0 < a .number → Wrote out at (columns (a .number) ++ (10 ∷ [])) r after
       → Wrote out at (answerIn (length out - at) (places old) line) r after
   refused {a = a} h e b k w = room (columns (a .number) ++ (10 ∷ [])) h (answer-refused (places old) line e (a .number) (b .number) k) w
 
-  pub done : {new after : List ℕ} {a : BlockAnswer} {r : ℕ} (n : ℕ) → answerRoom ≤ length out - at → lineNumber line ≡ 0
+  pub done : {new after : List ℕ} {a : BlockAnswer} {r : ℕ} (n : ℕ) → answerRoom ≤ length out - at → inColumns line ≡ true
       → Answered old (recordOf line ∷ []) new a → a .number ≡ 0 → n ≡ nodeOf (a .map) (recordOf line .d)
       → Wrote out at (written (roomNumber (text new n)) (text new n)) r after → Wrote out at (answerIn (length out - at) (places old) line) r after
   done {new = new} n h e b z f w =

@@ -2,8 +2,9 @@
 use mathlib.Core.Bool.{true, false, cond, _&&_}
 use mathlib.Core.List.{List, [], _∷_}
 use mathlib.Core.Path.{_≡_}
-use Prim.Native.Nat.{ℕ, zero, suc}
-use lib.Dec.{leb}
+use Prim.Native.Nat.{ℕ}
+use lib.Dec.{leb, eqb}
+use Rattle.facts.specs.Refuse.{unless}
 use Rattle.terms.specs.Expr.{Var}
 use Rattle.terms.specs.Display.{display}
 use Rattle.neon.specs.declared.Instruction.{Instruction}
@@ -11,23 +12,19 @@ use Rattle.neon.specs.Refusal.{blockRefusal}
 use Rattle.trees.specs.Block.{treeRun}
 use Rattle.block.specs.declared.BlockAnswer.{BlockAnswer}
 use Rattle.block.specs.Block.{Answered}
-use Rattle.line_fields.specs.Fields.{inColumns, lineNumber, recordOf}
+use Rattle.line_fields.specs.Fields.{inColumns, recordOf}
 use Rattle.line_output.specs.Answer.{answerRoom, roomNumber, written}
 
 -- the text of register d after a block of one
 unfoldable pub recordText : Instruction → List ℕ
 recordText c = display (treeRun (c ∷ []) Var (c .d))
 
--- k where it refuses, else what follows
-abbrev pub orElse : ℕ → ℕ → ℕ
-orElse zero rest = rest
-orElse (suc k) rest = suc k
-
 -- in order: 10, then the number of the block of one for a pool of so many places, then 9
 unfoldable pub answerNumber : (places : ℕ) → List ℕ → ℕ
 answerNumber places line =
     let c = recordOf line in
-    orElse (lineNumber line) (orElse (blockRefusal places (c ∷ []) .number) (roomNumber (recordText c)))
+    let block = blockRefusal places (c ∷ []) .number in
+    unless (inColumns line) 10 (unless (eqb block 0) block (roomNumber (recordText c)))
 
 unfoldable pub answer : (places : ℕ) → List ℕ → List ℕ
 answer places line = written (answerNumber places line) (recordText (recordOf line))

@@ -1,7 +1,7 @@
 // A line of the program `lanes`: what it means and what is written for it (document 01, "Text and program"). The Rust has no
 // counterpart.
 use line_fields::fields_of;
-use line_fields::line_number;
+use line_fields::in_columns;
 use line_output::ANSWER_ROOM;
 use line_output::put_number;
 use line_output::put_term;
@@ -30,9 +30,8 @@ pub fn answer_line(pool: &mut [u64], line: &[u8], out: &mut [u8], at: usize) -> 
     if out.len() - at < ANSWER_ROOM {
         return at;
     }
-    let number = line_number(line);
-    if 0 < number {
-        return put_number(number, out, at);
+    if !in_columns(line) {
+        return put_number(10, out, at);
     }
     let numbers = fields_of(line);
     let answer = block::lower_block(pool, &numbers);

@@ -4,7 +4,6 @@ use mathlib.Core.List.{List, [], _∷_}
 use Prim.Native.Nat.{ℕ}
 use lib.Dec.{eqb}
 use lib.ListN.{length}
-use Rattle.facts.specs.Refuse.{unless}
 use Rattle.neon.specs.declared.Instruction.{Instruction}
 use Rattle.line_columns.specs.Columns.{fieldAt, isField}
 
@@ -13,10 +12,6 @@ unfoldable pub inColumns : List ℕ → Bool
 inColumns line =
     eqb (length line) 24
     && (isField line 0 && isField line 4 && isField line 8 && isField line 12 && isField line 16 && isField line 20)
-
--- 10 for a line that is not in columns
-unfoldable pub lineNumber : List ℕ → ℕ
-lineNumber line = unless (inColumns line) 10 0
 
 abbrev pub fields : List ℕ → List ℕ
 fields line = fieldAt line 0 ∷ fieldAt line 4 ∷ fieldAt line 8 ∷ fieldAt line 12 ∷ fieldAt line 16 ∷ fieldAt line 20 ∷ []

@@ -4,10 +4,10 @@ use line_columns::is_field;
 ghost use mathlib.Core.Path.{_≡_};
 ghost use Prim.Native.Nat.{_≤_};
 ghost use lib.ListN.{length};
-ghost use Rattle.line_fields.specs.Fields.{inColumns, lineNumber, fields};
+ghost use Rattle.line_fields.specs.Fields.{inColumns, fields};
 
 // Whether a line is six fields.
-fn in_columns(line: &[u8]) -> bool
+pub fn in_columns(line: &[u8]) -> bool
     ensures { λ r. ⌜ r ≡ inColumns (now (line .entry)) ⌝ }
 {
     if line.len() != 24 {
@@ -19,13 +19,6 @@ fn in_columns(line: &[u8]) -> bool
         & is_field(line, 12)
         & is_field(line, 16)
         & is_field(line, 20)
-}
-
-// 10 for a line that is not in columns, else 0.
-pub fn line_number(line: &[u8]) -> u64
-    ensures { λ r. ⌜ r ≡ lineNumber (now (line .entry)) ⌝ }
-{
-    if in_columns(line) { 0 } else { 10 }
 }
 
 // The six numbers of a line.

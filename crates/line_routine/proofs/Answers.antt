@@ -12,7 +12,7 @@ use lib.Seq.{sets-eq}
 use borrow.Author.Tests.{eqb-true, ne-eqb, le-leb, lt-leb}
 use Rattle.facts.specs.Refuse.{unless}
 use Rattle.neon.specs.Refusal.{Refusal, refusal}
-use Rattle.line_fields.specs.Fields.{inColumns, lineNumber, fields}
+use Rattle.line_fields.specs.Fields.{inColumns, fields}
 use Rattle.text_digits.specs.Writing.{Wrote}
 use Rattle.text_series.proofs.Places.{rows-length}
 use Rattle.line_routine.proofs.First.{all-pass, first-fails}
@@ -46,40 +46,22 @@ getD-any [] i d e h = absurd (not-suc-le-zero h)
 getD-any (x ∷ l) zero d e h = refl
 getD-any (x ∷ l) (suc i) d e h = getD-any l i d e (le-of-suc-le-suc h)
 
-columns-by : (line : List ℕ) (b : Bool) → inColumns line ≡ b → lineNumber line ≡ unless b 10 0
-unfolding lineNumber
-columns-by line b e = rw e
-
-in-columns : (line : List ℕ) → lineNumber line ≡ 0 → inColumns line ≡ true
-in-columns line h = go (inColumns line) refl
-  where
-    go : (b : Bool) → inColumns line ≡ b → inColumns line ≡ true
-    go true e = e
-    go false e = absurd (omega (arith, h, columns-by line false e))
-
-not-in-columns : (line : List ℕ) → 0 < lineNumber line → inColumns line ≡ false
-not-in-columns line h = go (inColumns line) refl
-  where
-    go : (b : Bool) → inColumns line ≡ b → inColumns line ≡ false
-    go true e = absurd (omega (arith, h, columns-by line true e))
-    go false e = e
-
 -- the part of the input that is line j
 pub part-is : (bs : List ℕ) (at j : ℕ) → at ≡ 25 * j → take (at + 24 - at) (drop at bs) ≡ lineAt bs j
 part-is bs at j e = let n : at + 24 - at ≡ 24 = omega arith in rw (n, e)
 
-module _ (bs : List ℕ) (j : ℕ) (n : ℕ) (is : n ≡ lineNumber (lineAt bs j)) where
-  pub bad-columns : 0 < n → isLine bs j ≡ false
+module _ (bs : List ℕ) (j : ℕ) where
+  pub bad-columns : inColumns (lineAt bs j) ≡ false → isLine bs j ≡ false
   unfolding isLine
-  bad-columns h = rw (not-in-columns (lineAt bs j) (omega arith))
+  bad-columns h = rw h
 
-  pub byte-after : n ≤ 0 → 25 * j + 24 < length bs → isLine bs j ≡ eqb (getD bs (25 * j + 24) 0) 10
+  pub byte-after : inColumns (lineAt bs j) ≡ true → 25 * j + 24 < length bs → isLine bs j ≡ eqb (getD bs (25 * j + 24) 0) 10
   unfolding isLine
-  byte-after h l = rw (in-columns (lineAt bs j) (omega arith), getD-any bs (25 * j + 24) 10 0 l)
+  byte-after h l = rw (h, getD-any bs (25 * j + 24) 10 0 l)
 
-  pub none-after : n ≤ 0 → length bs ≤ 25 * j + 24 → isLine bs j ≡ true
+  pub none-after : inColumns (lineAt bs j) ≡ true → length bs ≤ 25 * j + 24 → isLine bs j ≡ true
   unfolding isLine
-  none-after h l = rw (in-columns (lineAt bs j) (omega arith), List·getD-eq-default bs 10 l)
+  none-after h l = rw (h, List·getD-eq-default bs 10 l)
 
 -- six numbers, stored one after the other
 pub wrote-six : (l : List ℕ) (at : ℕ) (f line : List ℕ) → f ≡ fields line

@@ -1,12 +1,13 @@
 -- A routine in document 01's columns: lines of 24 characters, each ended by a newline; the last newline may be missing.
-use mathlib.Core.Bool.{Bool, true, false, cond, _&&_}
-use mathlib.Core.List.{List, [], _∷_, _++_}
+use mathlib.Core.Bool.{Bool, true, false, _&&_}
+use mathlib.Core.List.{List}
 use mathlib.Core.Path.{_≡_}
-use Prim.Native.Nat.{ℕ, zero, suc, _+_, _*_, _/_, _≤_, _<_}
+use Prim.Native.Nat.{ℕ, _+_, _*_, _/_, _≤_, _<_}
 use lib.Dec.{leb, eqb}
 use lib.ListN.{length, getD, take, drop}
+use Rattle.facts.specs.Refuse.{byNumber, listBy, unless}
 use Rattle.neon.specs.declared.Instruction.{Instruction}
-use Rattle.neon.specs.Refusal.{Refusal, refusal}
+use Rattle.neon.specs.Refusal.{Refusal, refusal, firstOf}
 use Rattle.block_check.specs.Records.{recordsOf}
 use Rattle.line_fields.specs.Fields.{inColumns, fields}
 use Rattle.text_series.specs.Series.{upTo}
@@ -31,9 +32,7 @@ linesRefusal bs = firstRefusal (isLine bs) 10 (lineCount bs) 0
 
 -- then 8 where there are more lines than a list of so many numbers holds
 unfoldable pub readRefusal : List ℕ → (room : ℕ) → Refusal
-readRefusal bs room =
-    let r = linesRefusal bs in
-    cond (eqb (r .number) 0) (cond (leb (6 * lineCount bs) room) (refusal 0 0) (refusal 8 0)) r
+readRefusal bs room = firstOf (linesRefusal bs) (refusal (unless (leb (6 * lineCount bs) room) 8 0) 0)
 
 -- the numbers of all lines, six each, and the records that they are
 unfoldable pub numbersIn : List ℕ → List ℕ
@@ -44,22 +43,13 @@ routineOf bs = recordsOf (numbersIn bs)
 
 -- the first line that is not in columns; then what refuses the block of the records
 unfoldable pub routineRefusal : List ℕ → (block : Refusal) → Refusal
-routineRefusal bs block = let r = linesRefusal bs in cond (eqb (r .number) 0) block r
-
-abbrev pub countBy : (number count : ℕ) → ℕ
-countBy zero n = n
-countBy (suc k) n = 0
-
--- what was written and the old numbers after it; a refusal writes nothing
-abbrev pub listBy : (number : ℕ) (new old : List ℕ) → List ℕ
-listBy zero new old = new ++ drop (length new) old
-listBy (suc k) new old = old
+routineRefusal bs block = firstOf (linesRefusal bs) block
 
 -- lines were read
 pub record LinesRead (bs old : List ℕ) (r : Answer) (new : List ℕ) : Type 0 where
   pub number-is : r .number ≡ readRefusal bs (length old) .number
   pub position-is : r .position ≡ readRefusal bs (length old) .position
-  pub count-is : r .count ≡ countBy (readRefusal bs (length old) .number) (lineCount bs)
+  pub count-is : r .count ≡ byNumber (readRefusal bs (length old) .number) (lineCount bs)
   pub list-is : new ≡ listBy (readRefusal bs (length old) .number) (numbersIn bs) old
 
 -- the first r lines are in columns, and line r, if there is one, is not

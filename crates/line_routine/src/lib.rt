@@ -1,6 +1,6 @@
 // A routine as lines of document 01's columns, read into records of flat numbers, six each.
 use line_fields::fields_of;
-use line_fields::line_number;
+use line_fields::in_columns;
 ghost use mathlib.Core.Path.{_≡_};
 ghost use Prim.Native.Nat.{_+_, _*_, _≤_, _<_};
 ghost use lib.ListN.{length};
@@ -36,7 +36,7 @@ fn is_line(bytes: &[u8], j: usize) -> bool
         return false;
     }
     let end = at + 24;
-    if 0 < line_number(&bytes[at..end]) {
+    if !in_columns(&bytes[at..end]) {
         return false;
     }
     if end < bytes.len() {

@@ -9,12 +9,13 @@ use lib.Dec.{ltb, leb}
 use lib.ListN.{length}
 use lib.Bits.{bitOr}
 use borrow.Author.Tests.{lt-ltb, leb-true}
+use Rattle.facts.specs.Refuse.{byNumber}
 use Rattle.facts.proofs.Tests.{and-both}
 use Rattle.terms.specs.Expr.{Expr}
 use Rattle.terms.specs.Registers.{registers}
 use Rattle.pool.specs.Node.{Kind, bad, var, const, bv, compare, ite, extract, concat, zext, sext, Cell, cellAt, setAt, places}
 use Rattle.pool.specs.Rules.{okKind, widthBefore, setOver, setBefore, okPool, poolOk, nodeNumber, Valid}
-use Rattle.pool_registers.specs.Answer.{setBy, Named}
+use Rattle.pool_registers.specs.Answer.{Named}
 use Rattle.pool.specs.Unfold.{shapeOf, earlier, unfoldTo, unfoldAt}
 use Rattle.pool.proofs.Facts.{valid-node, valid-set}
 use Rattle.pool_rules.proofs.Kept.{bv-tests, compare-tests, ite-tests, extract-tests, concat-tests, zext-tests}
@@ -54,7 +55,7 @@ module _ (ws : List ℕ) (count n : ℕ) where
   pub refused : (k : ℕ) → k ≡ nodeNumber ws count n 0 → 0 < k → Named ws count n k 0
   refused k e h = record { number-is = e; set-is = rw (← e) (none k _ h) }
     where
-      none : (k s : ℕ) → 0 < k → 0 ≡ setBy k s
+      none : (k s : ℕ) → 0 < k → 0 ≡ byNumber k s
       none zero s h = absurd (omega (arith, h))
       none (suc k) s h = refl
 

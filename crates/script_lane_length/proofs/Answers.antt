@@ -3,14 +3,12 @@ use mathlib.Core.Bool.{Bool, true, false, _&&_}
 use mathlib.Core.List.{List}
 use mathlib.Core.Path.{_≡_, refl, sym, ap, _∙_}
 use Prim.Native.Nat.{ℕ, _≤_, _<_}
-use native.Mathlib.Nat.{not-suc-le-zero}
 use native.Mathlib.Omega.{arith}
 use lib.Dec.{ltb, leb}
 use lib.ListN.{length}
 use borrow.Author.Tests.{lt-ltb, le-ltb, le-leb, lt-leb, ltb-true, leb-true}
-use Rattle.facts.specs.Refuse.{unless}
+use Rattle.facts.specs.Refuse.{byNumber, unless}
 use Rattle.facts.proofs.Tests.{and-both}
-use Rattle.text_length.specs.Answer.{lengthBy}
 use Rattle.script_length.specs.Answer.{scriptNumber}
 use Rattle.script_length.proofs.Answers.{Good, good, past, refusal, no-length}
 use Rattle.script_lane_meaning.specs.LaneScript.{laneScriptOf}
@@ -80,11 +78,11 @@ module _ (ws : List ℕ) (count a b hi lo : ℕ) where
   pub unmeasured : {k : ℕ} → k ≡ laneNumber ws count a b hi lo 0 → 0 < k → LaneMeasured ws count a b hi lo k 0
   unmeasured {k} e h = record {
     number-is = e;
-    length-is = sym (no-length k (length (laneScriptOf ws count a b hi lo)) h) ∙ ap (λ (j : ℕ). lengthBy j (length (laneScriptOf ws count a b hi lo))) e;
+    length-is = sym (no-length k (length (laneScriptOf ws count a b hi lo)) h) ∙ ap (λ (j : ℕ). byNumber j (length (laneScriptOf ws count a b hi lo))) e;
   }
 
   pub measured : {l : ℕ} → laneNumber ws count a b hi lo 0 ≡ 0 → l ≡ length (laneScriptOf ws count a b hi lo) → LaneMeasured ws count a b hi lo 0 l
   measured {l} z e = record {
     number-is = sym z;
-    length-is = e ∙ ap (λ (j : ℕ). lengthBy j (length (laneScriptOf ws count a b hi lo))) (sym z);
+    length-is = e ∙ ap (λ (j : ℕ). byNumber j (length (laneScriptOf ws count a b hi lo))) (sym z);
   }

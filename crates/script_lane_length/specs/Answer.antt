@@ -5,8 +5,7 @@ use mathlib.Core.Path.{_≡_}
 use Prim.Native.Nat.{ℕ}
 use lib.Dec.{ltb, leb}
 use lib.ListN.{length}
-use Rattle.facts.specs.Refuse.{unless}
-use Rattle.text_length.specs.Answer.{lengthBy}
+use Rattle.facts.specs.Refuse.{byNumber, unless}
 use Rattle.script_length.specs.Answer.{scriptNumber}
 use Rattle.script_lane_meaning.specs.LaneScript.{laneScriptOf}
 
@@ -21,4 +20,4 @@ laneNumber ws count a b hi lo rest = scriptNumber ws count a b (unless (isCut hi
 -- the length of the script that asks whether nodes a and b differ in the bits from hi down to lo was asked for
 pub record LaneMeasured (ws : List ℕ) (count a b hi lo : ℕ) (number len : ℕ) : Type 0 where
   pub number-is : number ≡ laneNumber ws count a b hi lo 0
-  pub length-is : len ≡ lengthBy (laneNumber ws count a b hi lo 0) (length (laneScriptOf ws count a b hi lo))
+  pub length-is : len ≡ byNumber (laneNumber ws count a b hi lo 0) (length (laneScriptOf ws count a b hi lo))

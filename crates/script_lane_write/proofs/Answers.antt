@@ -5,8 +5,7 @@ use Prim.Native.Nat.{ℕ, _≤_, _<_}
 use native.Mathlib.Omega.{arith}
 use lib.ListN.{length}
 use borrow.Author.Tests.{le-leb, lt-leb}
-use Rattle.text_length.specs.Answer.{lengthBy}
-use Rattle.text.specs.Answer.{bufferBy}
+use Rattle.facts.specs.Refuse.{byNumber, listBy}
 use Rattle.text_digits.specs.Writing.{Wrote}
 use Rattle.script_length.proofs.Answers.{no-length}
 use Rattle.script_write.proofs.Answers.{old-bytes, at-front}
@@ -32,8 +31,8 @@ module _ (ws : List ℕ) (count a b hi lo : ℕ) where
   pub refused : {k : ℕ} (old : List ℕ) → k ≡ writeNumber ws count a b hi lo (length old) → 0 < k → LaneAnswered ws count a b hi lo old k 0 old
   refused {k} old e h = record {
     number-is = e;
-    length-is = sym (no-length k (length text) h) ∙ ap (λ (j : ℕ). lengthBy j (length text)) e;
-    buffer-is = sym (old-bytes k text old h) ∙ ap (λ (j : ℕ). bufferBy j text old) e;
+    length-is = sym (no-length k (length text) h) ∙ ap (λ (j : ℕ). byNumber j (length text)) e;
+    buffer-is = sym (old-bytes k text old h) ∙ ap (λ (j : ℕ). listBy j text old) e;
   }
 
   pub written : {old new : List ℕ} {len end : ℕ} → writeNumber ws count a b hi lo (length old) ≡ 0 → length text ≤ length old → len ≡ length text
@@ -41,6 +40,6 @@ module _ (ws : List ℕ) (count a b hi lo : ℕ) where
       → LaneAnswered ws count a b hi lo old 0 len new
   written {old} e h l w = record {
     number-is = sym e;
-    length-is = l ∙ ap (λ (j : ℕ). lengthBy j (length text)) (sym e);
-    buffer-is = at-front text h w ∙ ap (λ (j : ℕ). bufferBy j text old) (sym e);
+    length-is = l ∙ ap (λ (j : ℕ). byNumber j (length text)) (sym e);
+    buffer-is = at-front text h w ∙ ap (λ (j : ℕ). listBy j text old) (sym e);
   }

@@ -4,9 +4,7 @@ use mathlib.Core.Path.{_≡_}
 use Prim.Native.Nat.{ℕ}
 use lib.Dec.{leb}
 use lib.ListN.{length}
-use Rattle.facts.specs.Refuse.{unless}
-use Rattle.text_length.specs.Answer.{lengthBy}
-use Rattle.text.specs.Answer.{bufferBy}
+use Rattle.facts.specs.Refuse.{byNumber, listBy, unless}
 use Rattle.script_lane_meaning.specs.LaneScript.{laneScriptOf}
 use Rattle.script_lane_length.specs.Answer.{laneNumber}
 
@@ -17,5 +15,5 @@ writeNumber ws count a b hi lo room = laneNumber ws count a b hi lo (unless (leb
 -- the buffer had the bytes old and has new
 pub record LaneAnswered (ws : List ℕ) (count a b hi lo : ℕ) (old : List ℕ) (number len : ℕ) (new : List ℕ) : Type 0 where
   pub number-is : number ≡ writeNumber ws count a b hi lo (length old)
-  pub length-is : len ≡ lengthBy (writeNumber ws count a b hi lo (length old)) (length (laneScriptOf ws count a b hi lo))
-  pub buffer-is : new ≡ bufferBy (writeNumber ws count a b hi lo (length old)) (laneScriptOf ws count a b hi lo) old
+  pub length-is : len ≡ byNumber (writeNumber ws count a b hi lo (length old)) (length (laneScriptOf ws count a b hi lo))
+  pub buffer-is : new ≡ listBy (writeNumber ws count a b hi lo (length old)) (laneScriptOf ws count a b hi lo) old

@@ -8,11 +8,10 @@ use native.Mathlib.Omega.{arith}
 use lib.Dec.{ltb, leb, eqb}
 use lib.ListN.{length}
 use borrow.Author.Tests.{lt-ltb, le-ltb, ltb-true, leb-true, eqb-true}
-use Rattle.facts.specs.Refuse.{unless}
+use Rattle.facts.specs.Refuse.{byNumber, unless}
 use Rattle.facts.proofs.Tests.{and-both}
 use Rattle.pool.specs.Node.{places, widthAt}
 use Rattle.pool.specs.Rules.{okPool, poolOk, Valid}
-use Rattle.text_length.specs.Answer.{lengthBy}
 use Rattle.text_length.proofs.Answers.{ready}
 use Rattle.script_meaning.specs.Script.{scriptOf}
 use Rattle.script_length.specs.Answer.{AllNamed, chosen, scriptNumber, Measured}
@@ -100,7 +99,7 @@ module _ (ws : List ℕ) (count : ℕ) where
 
 -- ---- the answers
 
-pub no-length : (k l : ℕ) → 0 < k → lengthBy k l ≡ 0
+pub no-length : (k l : ℕ) → 0 < k → byNumber k l ≡ 0
 no-length zero l h = absurd (not-suc-le-zero h)
 no-length (suc k) l h = refl
 
@@ -108,11 +107,11 @@ module _ (ws : List ℕ) (count a b : ℕ) where
   pub unmeasured : {k : ℕ} → k ≡ scriptNumber ws count a b 0 → 0 < k → Measured ws count a b k 0
   unmeasured {k} e h = record {
     number-is = e;
-    length-is = sym (no-length k (length (scriptOf ws count a b)) h) ∙ ap (λ (j : ℕ). lengthBy j (length (scriptOf ws count a b))) e;
+    length-is = sym (no-length k (length (scriptOf ws count a b)) h) ∙ ap (λ (j : ℕ). byNumber j (length (scriptOf ws count a b))) e;
   }
 
   pub measured : {l : ℕ} → scriptNumber ws count a b 0 ≡ 0 → l ≡ length (scriptOf ws count a b) → Measured ws count a b 0 l
   measured {l} z e = record {
     number-is = sym z;
-    length-is = e ∙ ap (λ (j : ℕ). lengthBy j (length (scriptOf ws count a b))) (sym z);
+    length-is = e ∙ ap (λ (j : ℕ). byNumber j (length (scriptOf ws count a b))) (sym z);
   }

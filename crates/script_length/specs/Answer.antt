@@ -5,11 +5,10 @@ use mathlib.Core.Path.{_≡_}
 use Prim.Native.Nat.{ℕ, _<_}
 use lib.Dec.{ltb, eqb}
 use lib.ListN.{length}
-use Rattle.facts.specs.Refuse.{unless}
+use Rattle.facts.specs.Refuse.{byNumber, unless}
 use Rattle.pool.specs.Node.{widthAt}
 use Rattle.pool.specs.Rules.{poolOk}
 use Rattle.text_parts.specs.Text.{Ready}
-use Rattle.text_length.specs.Answer.{lengthBy}
 use Rattle.script_meaning.specs.Script.{scriptOf}
 
 -- a node below the count, 128 wide
@@ -23,7 +22,7 @@ scriptNumber ws count a b rest = unless (poolOk ws count) 1 (unless (chosen ws c
 -- the length of the script that asks whether nodes a and b differ was asked for
 pub record Measured (ws : List ℕ) (count a b : ℕ) (number len : ℕ) : Type 0 where
   pub number-is : number ≡ scriptNumber ws count a b 0
-  pub length-is : len ≡ lengthBy (scriptNumber ws count a b 0) (length (scriptOf ws count a b))
+  pub length-is : len ≡ byNumber (scriptNumber ws count a b 0) (length (scriptOf ws count a b))
 
 -- a node that may be written, with a number of at most five digits
 pub record Named (ws : List ℕ) (n : ℕ) : Type 0 where

@@ -1,18 +1,17 @@
 -- What is answered to a routine and two registers, by the way that it took. Assumes nothing.
 use mathlib.Core.Bool.{Bool, true, false, _&&_, _||_, false≢true}
 use mathlib.Core.List.{List}
-use mathlib.Core.Path.{_≡_, refl, sym, ap, _∙_, subst}
+use mathlib.Core.Path.{_≡_, refl, sym, _∙_, subst}
 use Prim.Native.Nat.{ℕ, _*_, _≤_, _<_}
 use native.Mathlib.Omega.{arith}
 use lib.Dec.{leb, ltb}
 use lib.ListN.{length, take}
 use borrow.Author.Tests.{le-leb, lt-leb, leb-true, le-ltb, ltb-false}
+use Rattle.facts.specs.Refuse.{byNumber, unless}
 use Rattle.neon.specs.declared.Instruction.{Instruction}
 use Rattle.neon.specs.Refusal.{Refusal, refusal, sizeNumber, blockRefusal}
-use Rattle.facts.specs.Refuse.{unless}
 use Rattle.pool.specs.Node.{places}
 use Rattle.pool.specs.Rules.{poolOk}
-use Rattle.text_length.specs.Answer.{lengthBy}
 use Rattle.script_meaning.specs.Script.{scriptOf}
 use Rattle.script_length.specs.Answer.{chosen}
 use Rattle.block_map.specs.Map.{nodeOf}
@@ -25,11 +24,11 @@ use Rattle.line_routine.specs.Routine.{routineOf, routineRefusal, LinesRead}
 use Rattle.line_routine.proofs.Blocks as blocks
 use Rattle.line_routine.proofs.Blocks.{count-fits, block-is, records-are}
 use Rattle.script_lines.specs.declared.Given.{Given}
-use Rattle.script_lines.specs.Output.{askedRefusal, Refused, Asked, ScriptGiven}
+use Rattle.script_lines.specs.Output.{askedRefusal, ScriptGiven}
 
 -- ---- a script that is written fits
 
-fits-by : (p c l : Bool) (n room : ℕ) → (l ≡ true → n ≤ room) → lengthBy (unless p 1 (unless c 5 (unless l 9 0))) n ≤ room
+fits-by : (p c l : Bool) (n room : ℕ) → (l ≡ true → n ≤ room) → byNumber (unless p 1 (unless c 5 (unless l 9 0))) n ≤ room
 fits-by true true true n room h = h refl
 fits-by true true false n room h = omega arith
 fits-by true false l n room h = omega arith

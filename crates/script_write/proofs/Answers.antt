@@ -5,17 +5,16 @@ use Prim.Native.Nat.{ℕ, zero, suc, _≤_, _<_}
 use native.Mathlib.Nat.{zero-add, not-suc-le-zero}
 use native.Mathlib.Omega.{arith}
 use lib.ListN.{length, take, drop}
-use lib.Seq.{sets, sets-eq}
+use lib.Seq.{sets-eq}
 use borrow.Author.Tests.{le-leb, lt-leb}
-use Rattle.text_length.specs.Answer.{lengthBy}
-use Rattle.text.specs.Answer.{bufferBy}
+use Rattle.facts.specs.Refuse.{byNumber, listBy}
 use Rattle.text_digits.specs.Writing.{Wrote}
 use Rattle.script_meaning.specs.Script.{scriptOf}
 use Rattle.script_length.specs.Answer.{scriptNumber}
 use Rattle.script_length.proofs.Answers.{Good, past, refusal, no-length}
 use Rattle.script_write.specs.Answer.{writeNumber, Answered}
 
-pub old-bytes : (k : ℕ) (s old : List ℕ) → 0 < k → bufferBy k s old ≡ old
+pub old-bytes : (k : ℕ) (s old : List ℕ) → 0 < k → listBy k s old ≡ old
 old-bytes zero s old h = absurd (not-suc-le-zero h)
 old-bytes (suc k) s old h = refl
 
@@ -28,10 +27,10 @@ front [] t = refl
 front (x ∷ s) t = ap (λ (l : List ℕ). x ∷ l) (front s t)
 
 -- with the number 0 the bytes up to the length are the text
-pub front-is : (k : ℕ) (s old : List ℕ) (len : ℕ) (new : List ℕ) → 0 ≡ k → len ≡ lengthBy k (length s) → new ≡ bufferBy k s old → take len new ≡ s
+pub front-is : (k : ℕ) (s old : List ℕ) (len : ℕ) (new : List ℕ) → 0 ≡ k → len ≡ byNumber k (length s) → new ≡ listBy k s old → take len new ≡ s
 front-is k s old len new z e f =
-    ap (λ (j : ℕ). take j new) (e ∙ ap (λ (k : ℕ). lengthBy k (length s)) (sym z))
-    ∙ ap (take (length s)) (f ∙ ap (λ (k : ℕ). bufferBy k s old) (sym z))
+    ap (λ (j : ℕ). take j new) (e ∙ ap (λ (k : ℕ). byNumber k (length s)) (sym z))
+    ∙ ap (take (length s)) (f ∙ ap (λ (k : ℕ). listBy k s old) (sym z))
     ∙ front s (drop (length s) old)
 
 module _ (ws : List ℕ) (count a b : ℕ) where
@@ -48,8 +47,8 @@ module _ (ws : List ℕ) (count a b : ℕ) where
   pub refused : {k : ℕ} (old : List ℕ) → k ≡ writeNumber ws count a b (length old) → 0 < k → Answered ws count a b old k 0 old
   refused {k} old e h = record {
     number-is = e;
-    length-is = sym (no-length k (length (scriptOf ws count a b)) h) ∙ ap (λ (j : ℕ). lengthBy j (length (scriptOf ws count a b))) e;
-    buffer-is = sym (old-bytes k (scriptOf ws count a b) old h) ∙ ap (λ (j : ℕ). bufferBy j (scriptOf ws count a b) old) e;
+    length-is = sym (no-length k (length (scriptOf ws count a b)) h) ∙ ap (λ (j : ℕ). byNumber j (length (scriptOf ws count a b))) e;
+    buffer-is = sym (old-bytes k (scriptOf ws count a b) old h) ∙ ap (λ (j : ℕ). listBy j (scriptOf ws count a b) old) e;
   }
 
   pub written : {old new : List ℕ} {len end : ℕ} → writeNumber ws count a b (length old) ≡ 0 → length (scriptOf ws count a b) ≤ length old
@@ -58,6 +57,6 @@ module _ (ws : List ℕ) (count a b : ℕ) where
       → Answered ws count a b old 0 len new
   written {old} e h l w = record {
     number-is = sym e;
-    length-is = l ∙ ap (λ (j : ℕ). lengthBy j (length (scriptOf ws count a b))) (sym e);
-    buffer-is = at-front (scriptOf ws count a b) h w ∙ ap (λ (j : ℕ). bufferBy j (scriptOf ws count a b) old) (sym e);
+    length-is = l ∙ ap (λ (j : ℕ). byNumber j (length (scriptOf ws count a b))) (sym e);
+    buffer-is = at-front (scriptOf ws count a b) h w ∙ ap (λ (j : ℕ). listBy j (scriptOf ws count a b) old) (sym e);
   }

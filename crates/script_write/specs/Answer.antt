@@ -4,9 +4,7 @@ use mathlib.Core.Path.{_≡_}
 use Prim.Native.Nat.{ℕ}
 use lib.Dec.{leb}
 use lib.ListN.{length}
-use Rattle.facts.specs.Refuse.{unless}
-use Rattle.text_length.specs.Answer.{lengthBy}
-use Rattle.text.specs.Answer.{bufferBy}
+use Rattle.facts.specs.Refuse.{byNumber, listBy, unless}
 use Rattle.script_meaning.specs.Script.{scriptOf}
 use Rattle.script_length.specs.Answer.{scriptNumber}
 
@@ -18,5 +16,5 @@ writeNumber ws count a b room = scriptNumber ws count a b (unless (leb (length (
 -- a refusal, the old bytes
 pub record Answered (ws : List ℕ) (count a b : ℕ) (old : List ℕ) (number len : ℕ) (new : List ℕ) : Type 0 where
   pub number-is : number ≡ writeNumber ws count a b (length old)
-  pub length-is : len ≡ lengthBy (writeNumber ws count a b (length old)) (length (scriptOf ws count a b))
-  pub buffer-is : new ≡ bufferBy (writeNumber ws count a b (length old)) (scriptOf ws count a b) old
+  pub length-is : len ≡ byNumber (writeNumber ws count a b (length old)) (length (scriptOf ws count a b))
+  pub buffer-is : new ≡ listBy (writeNumber ws count a b (length old)) (scriptOf ws count a b) old

@@ -1,27 +1,27 @@
 -- What `write_text` answers, by the way that it took. Assumes nothing.
-use mathlib.Core.Bool.{Bool, true, false}
+use mathlib.Core.Bool.{true}
 use mathlib.Core.List.{List, _++_}
 use mathlib.Core.Path.{_≡_, refl, sym, ap, _∙_}
 use Prim.Native.Nat.{ℕ, zero, suc, _≤_, _<_}
 use native.Mathlib.Nat.{zero-add}
 use native.Mathlib.Omega.{arith}
-use lib.Dec.{leb, ltb}
+use lib.Dec.{leb}
 use lib.ListN.{length, drop}
 use lib.Seq.{sets-eq}
 use borrow.Author.Tests.{le-leb, lt-leb}
-use Rattle.facts.specs.Refuse.{unless}
+use Rattle.facts.specs.Refuse.{listBy, unless}
 use Rattle.pool.specs.Rules.{poolOk, nodeNumber}
 use Rattle.pool_check.proofs.Number.{good-node, first-refusal}
 use Rattle.text_digits.specs.Writing.{Wrote}
 use Rattle.text_parts.specs.Text.{text}
 use Rattle.text_length.proofs.Answers.{no-length}
-use Rattle.text.specs.Answer.{textNumber, bufferBy, Answered}
+use Rattle.text.specs.Answer.{textNumber, Answered}
 
 none : {A : Type 0} → 0 < 0 → A
 none h = absurd (omega arith)
 
 -- a refusal leaves the buffer
-pub no-text : (number : ℕ) (s old : List ℕ) → 0 < number → bufferBy number s old ≡ old
+pub no-text : (number : ℕ) (s old : List ℕ) → 0 < number → listBy number s old ≡ old
 no-text zero s old h = none h
 no-text (suc k) s old h = refl
 

@@ -7,18 +7,19 @@ use native.Mathlib.Omega.{arith}
 use lib.Dec.{leb}
 use lib.ListN.{length}
 use borrow.Author.Tests.{leb-true}
+use Rattle.facts.specs.Refuse.{byNumber}
 use Rattle.facts.proofs.Tests.{and-both}
 use Rattle.pool.specs.Node.{places}
 use Rattle.pool.specs.Rules.{okPool, poolOk, nodeNumber}
 use Rattle.text_parts.specs.Text.{text, Ready}
 use Rattle.text_parts.proofs.Operands.{ready-of}
-use Rattle.text_length.specs.Answer.{lengthBy, Measured}
+use Rattle.text_length.specs.Answer.{Measured}
 
 not-zero : {k : ℕ} → 0 < k → k ≡ 0 → ⊥
 not-zero h e = omega arith
 
 -- a refusal has length 0
-pub no-length : (number l : ℕ) → 0 < number → lengthBy number l ≡ 0
+pub no-length : (number l : ℕ) → 0 < number → byNumber number l ≡ 0
 no-length zero l h = absurd (not-zero h refl)
 no-length (suc k) l h = refl
 

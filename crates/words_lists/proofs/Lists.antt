@@ -11,7 +11,9 @@ use lib.ListN.{length, getD, take, drop}
 use lib.Seq.{take-all}
 use borrow.Author.Tests.{eq-eqb, eqb-true, eqb-false}
 use Rattle.neon.specs.declared.Instruction.{Instruction}
-use Rattle.neon.specs.Refusal.{Refusal, refusal, recordNumber, recordsRefusal, Legal}
+use Rattle.facts.specs.Refuse.{unless}
+use Rattle.facts.proofs.Tests.{passed}
+use Rattle.neon.specs.Refusal.{Refusal, refusal, firstOf, recordNumber, recordsRefusal, Legal}
 use Rattle.block_record_check.specs.Record.{instruction, recordAt}
 use Rattle.block_check.specs.Records.{recordsFrom, recordsOf}
 use Rattle.words_encoding.specs.declared.Decoded.{Decoded}
@@ -106,13 +108,17 @@ module _ (fs : List ℕ) (good : AllGood fs) where
   accepted : (room : ℕ) → 6 * count ≤ room → readRefusal written room ≡ refusal 0 0
   accepted room h = no-refusal written room count all-read (omega (arith, count-is)) (omega (arith, words-length fs)) (omega (arith, count-is))
 
+-- neither of two refuses
+first-zero : (r rest : Refusal) → firstOf r rest .number ≡ 0 → (r .number ≡ 0) × (rest .number ≡ 0)
+first-zero r rest e = go (eqb (r .number) 0) refl e
+  where
+    go : (b : Bool) → eqb (r .number) 0 ≡ b → cond b rest r .number ≡ 0 → (r .number ≡ 0) × (rest .number ≡ 0)
+    go true q z = (eqb-true (r .number) 0 q, z)
+    go false q z = absurd (eqb-false (r .number) 0 q z)
+
 none-refused : (fs : List ℕ) (room : ℕ) → writeRefusal fs room .number ≡ 0 → recordsRefusal 0 (recordsOf fs) .number ≡ 0
 unfolding writeRefusal
-none-refused fs room e = go (recordsRefusal 0 (recordsOf fs)) (eqb (recordsRefusal 0 (recordsOf fs) .number) 0) refl e
-  where
-    go : (r : Refusal) (b : Bool) → eqb (r .number) 0 ≡ b → cond b (cond (leb (4 * (length fs / 6)) room) (refusal 0 0) (refusal 9 0)) r .number ≡ 0 → r .number ≡ 0
-    go r true q z = eqb-true (r .number) 0 q
-    go r false q z = z
+none-refused fs room e = first-zero (recordsRefusal 0 (recordsOf fs)) _ e .0
 
 pub reads-written : ReadsWritten
 reads-written fs room e room′ h = let g = all-good fs (none-refused fs room e) in (accepted fs g room′ h, read-back fs g)
@@ -148,14 +154,10 @@ module _ (bs : List ℕ) (byte : (j : ℕ) → getD bs j 0 < 256) where
 
     whole : (words .number ≡ 0) × (length bs % 4 ≡ 0)
     unfolding readRefusal
-    whole = go (eqb (words .number) 0) refl (eqb (length bs % 4) 0) refl e
-      where
-        go : (p : Bool) → eqb (words .number) 0 ≡ p → (q : Bool) → eqb (length bs % 4) 0 ≡ q
-            → cond p (cond q (cond (leb (6 * wholeWords bs) room) (refusal 0 0) (refusal 9 0)) (refusal 12 (wholeWords bs))) words .number ≡ 0
-            → (words .number ≡ 0) × (length bs % 4 ≡ 0)
-        go true a true b z = (eqb-true (words .number) 0 a, eqb-true (length bs % 4) 0 b)
-        go true a false b z = absurd (omega (arith, z))
-        go false a q b z = absurd (eqb-false (words .number) 0 a z)
+    whole =
+        let later = first-zero words _ e in
+        let last = first-zero (refusal (unless (eqb (length bs % 4) 0) 12 0) (wholeWords bs)) _ (later .1) in
+        (later .0, eqb-true (length bs % 4) 0 (passed (eqb (length bs % 4) 0) (λ z. absurd (omega (arith, z))) (last .0) .0))
 
     abbrev many : ℕ
     many = wholeWords bs

@@ -1,12 +1,13 @@
 -- Lists of A64 words (document 02, S-7): little endian bytes, and records as flat numbers, six each.
-use mathlib.Core.Bool.{Bool, true, false, cond}
-use mathlib.Core.List.{List, [], _∷_, _++_}
+use mathlib.Core.Bool.{Bool, true, false}
+use mathlib.Core.List.{List, [], _∷_}
 use mathlib.Core.Path.{_≡_}
 use Prim.Native.Nat.{ℕ, zero, suc, _+_, _*_, _/_, _%_, _≤_, _<_}
 use lib.Dec.{leb, eqb}
-use lib.ListN.{length, getD, drop}
+use lib.ListN.{length, getD}
+use Rattle.facts.specs.Refuse.{byNumber, listBy, unless}
 use Rattle.neon.specs.declared.Instruction.{Instruction}
-use Rattle.neon.specs.Refusal.{Refusal, refusal, recordsRefusal, Legal}
+use Rattle.neon.specs.Refusal.{Refusal, refusal, firstOf, recordsRefusal, Legal}
 use Rattle.words_encoding.specs.declared.Decoded.{Decoded}
 use Rattle.words_encoding.specs.declared.Decoded.the-variants.{Record, Nothing}
 use Rattle.words_encoding.specs.Decode.{decode}
@@ -49,28 +50,18 @@ wordsRefusal bs (suc k) j = elim (isRecord (decode (wordAt bs j))) [ true ↦ wo
 -- a broken last word is such a word; then 9 where the lent list is too short
 unfoldable pub readRefusal : List ℕ → (room : ℕ) → Refusal
 readRefusal bs room =
-    let r = wordsRefusal bs (wholeWords bs) 0 in
-    cond (eqb (r .number) 0)
-    (cond (eqb (length bs % 4) 0) (cond (leb (6 * wholeWords bs) room) (refusal 0 0) (refusal 9 0)) (refusal 12 (wholeWords bs))) r
+    firstOf (wordsRefusal bs (wholeWords bs) 0)
+    (firstOf (refusal (unless (eqb (length bs % 4) 0) 12 0) (wholeWords bs)) (refusal (unless (leb (6 * wholeWords bs) room) 9 0) 0))
 
 -- the records of all words
 unfoldable pub recordsIn : List ℕ → List ℕ
 recordsIn bs = upTo (wholeWords bs) λ j. flat (decode (wordAt bs j))
 
-abbrev pub countBy : (number count : ℕ) → ℕ
-countBy zero n = n
-countBy (suc k) n = 0
-
--- what was written and the old numbers after it; a refusal writes nothing
-abbrev pub listBy : (number : ℕ) (new old : List ℕ) → List ℕ
-listBy zero new old = new ++ drop (length new) old
-listBy (suc k) new old = old
-
 -- words were read
 pub record WordsRead (bs old : List ℕ) (r : Answer) (new : List ℕ) : Type 0 where
   pub number-is : r .number ≡ readRefusal bs (length old) .number
   pub position-is : r .position ≡ readRefusal bs (length old) .position
-  pub count-is : r .count ≡ countBy (readRefusal bs (length old) .number) (wholeWords bs)
+  pub count-is : r .count ≡ byNumber (readRefusal bs (length old) .number) (wholeWords bs)
   pub list-is : new ≡ listBy (readRefusal bs (length old) .number) (recordsIn bs) old
 
 -- the first r whole words encode legal forms, and word r, if there is one, does not
@@ -87,9 +78,7 @@ wordBytes w = w % 256 ∷ w / 256 % 256 ∷ w / 65536 % 256 ∷ w / 16777216 % 2
 
 -- 2, 3, 4 or 7 for the first bad record, with its position; then 9 where the lent bytes are too few
 unfoldable pub writeRefusal : List ℕ → (room : ℕ) → Refusal
-writeRefusal fs room =
-    let r = recordsRefusal 0 (recordsOf fs) in
-    cond (eqb (r .number) 0) (cond (leb (4 * (length fs / 6)) room) (refusal 0 0) (refusal 9 0)) r
+writeRefusal fs room = firstOf (recordsRefusal 0 (recordsOf fs)) (refusal (unless (leb (4 * (length fs / 6)) room) 9 0) 0)
 
 -- the words of all whole records
 unfoldable pub wordsIn : List ℕ → List ℕ
@@ -99,7 +88,7 @@ wordsIn fs = upTo (length fs / 6) λ j. wordBytes (encode (recordAt fs j))
 pub record WordsWritten (fs old : List ℕ) (r : Answer) (new : List ℕ) : Type 0 where
   pub number-is : r .number ≡ writeRefusal fs (length old) .number
   pub position-is : r .position ≡ writeRefusal fs (length old) .position
-  pub count-is : r .count ≡ countBy (writeRefusal fs (length old) .number) (length fs / 6)
+  pub count-is : r .count ≡ byNumber (writeRefusal fs (length old) .number) (length fs / 6)
   pub list-is : new ≡ listBy (writeRefusal fs (length old) .number) (wordsIn fs) old
 
 -- every whole record is legal

@@ -1,17 +1,18 @@
 -- `answer_line`, by the way that a line takes: no room, not in columns, refused, accepted. Assumes nothing.
 use native.Mathlib.Omega.{arith}
 use mathlib.Core.List.{List, [], _∷_}
-use mathlib.Core.Path.{_≡_, ap, _∙_}
+use mathlib.Core.Bool.{true}
+use mathlib.Core.Path.{_≡_, sym, ap, _∙_}
 use Prim.Native.Nat.{ℕ, _+_, _≤_}
 use lib.ListN.{length, getD}
 use Rattle.pool.specs.Node.{places}
 use Rattle.block_map.specs.Map.{nodeOf}
 use Rattle.block.specs.Block.{Answered}
-use Rattle.line_fields.specs.Fields.{lineNumber, recordOf}
-use Rattle.line_fields.proofs.Numbers.{line-low}
+use Rattle.line_fields.specs.Fields.{inColumns, recordOf}
 use Rattle.line_output.specs.Answer.{answerRoom}
 use Rattle.line.proofs.Fits.{inside}
 use Rattle.line.proofs.Records.{block-low, answered-one, long, low-d, node-under, registers, left-little, left-other, lowered-one, no-room, little-room, other, refused, done}
+use borrow.Author.Tests.{not-true, not-false}
 use borrow.Author.Needs.{needs}
 use Rattle.line.proofs.answer_line.Statement.{statement}
 use Rattle.line.proofs.answer_line.Tie as tie
@@ -27,8 +28,8 @@ abbrev roomy : tie.Else3 → tie.Else2
 roomy c = c .before .before
 
 -- past the third the line is in columns
-in-columns : (c : tie.Else3) → lineNumber (entry (roomy c) .args .line .now) ≡ 0
-in-columns c = omega (arith, c .before .line-number .ensures, c .if3 .left)
+in-columns : (c : tie.Else3) → inColumns (entry (roomy c) .args .line .now) ≡ true
+in-columns c = sym (c .before .in-columns .ensures) ∙ not-false _ (c .if3 .left)
 
 abbrev ordered : tie.After-lower-block → tie.Else3
 ordered c = c .before .before .before .before
@@ -67,13 +68,13 @@ returns-2 c =
     let w = little-room (a .pool .now) (a .line .now) (a .out .now) (a .at) (c .if2 .taken) in
     (w, (left-little (a .pool .now) (a .line .now) (a .out .now) (a .at) (c .if2 .taken), inside (places (a .pool .now)) (a .line .now) w))
 
-line-number-requires : tie.Need-line-number-requires
-line-number-requires c κs = search needs
+in-columns-requires : tie.Need-in-columns-requires
+in-columns-requires c κs = search needs
 
 put-number-requires : tie.Need-put-number-requires
 put-number-requires c κs =
     let n = c .before .before in
-    (omega (arith, n .line-number .ensures, line-low (entry (n .before) .args .line .now)), room (n .before))
+    (omega arith, room (n .before))
 
 same-length : tie.Need-same-length
 same-length c = search needs
@@ -84,8 +85,9 @@ returns-3 c =
     let t = p .before .before in
     let n = t .before in
     let a = entry (n .before) .args in
-    let w = other (a .pool .now) (a .line .now) (a .out .now) (a .at) (n .before .if2 .left) (n .line-number .ensures) (t .if3 .taken) (p .put-number .ensures) in
-    let same = left-other (a .pool .now) (a .line .now) (a .out .now) (a .at) (n .before .if2 .left) (omega (arith, n .line-number .ensures, t .if3 .taken)) in
+    let bad = sym (n .in-columns .ensures) ∙ not-true _ (t .if3 .taken) in
+    let w = other (a .pool .now) (a .line .now) (a .out .now) (a .at) (n .before .if2 .left) bad (p .put-number .ensures) in
+    let same = left-other (a .pool .now) (a .line .now) (a .out .now) (a .at) (n .before .if2 .left) bad in
     (w, (same, inside (places (a .pool .now)) (a .line .now) w))
 
 fields-of-requires : tie.Need-fields-of-requires
@@ -158,7 +160,7 @@ answer-line-spec =
     returns
     sub-if2
     returns-2
-    line-number-requires
+    in-columns-requires
     put-number-requires
     same-length
     returns-3
