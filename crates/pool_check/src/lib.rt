@@ -16,8 +16,8 @@ ghost use Rattle.pool.specs.Node.{none};
 ghost use Rattle.pool.specs.Rules.{okNode, okPool, poolOk, nodeNumber};
 ghost use Rattle.pool_check.specs.Plain.{plainAt, plainFrom};
 
-// Whether node n obeys the rules, and is no Var from node `plain` on. Kinds that are rarer than those of two operands are asked for one by
-// one: of a pool in random order the processor then guesses a kind wrong at most once.
+// Whether node n obeys the rules, and is no Var from node `plain` on. Kinds that are rarer than those of two operands are asked for first, one
+// by one: where kinds come in random order the processor then guesses wrong less often.
 fn node_ok(pool: &[u64], n: Node, plain: usize) -> bool
     requires { ⌜ (4 * n .0 + 3 < length (now pool)) × (n .0 < none) ⌝ }
     ensures { λ r. ⌜ r ≡ (okNode (now (pool .entry)) (n .0) && plainAt (now (pool .entry)) plain (n .0)) ⌝ }
