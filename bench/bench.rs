@@ -265,16 +265,22 @@ fn joins(rounds: u64, all: &[Record]) {
     println!("join {:.2}", time / (2 * half - 31) as f64);
 }
 
-/// Canonical pools of 65,535 nodes, ns a node: a chain, pairs of equal nodes, random sums, and constants whose keys differ in their last bits alone.
+fn var(register: u64) -> Node {
+    Node { kind: 1, width: 128, operands: [0; 3], data: [register, 0] }
+}
+
+fn sum(a: usize, b: usize) -> Node {
+    Node { kind: 3, width: 128, operands: [a, b, 0], data: [0; 2] }
+}
+
+/// Canonical pools of 65,535 nodes, ns a node: a chain, pairs of equal nodes, random sums, and three pools whose keys are built to collide.
 fn canonicals(rounds: u64) {
-    let var = |r: u64| Node { kind: 1, width: 128, operands: [0; 3], data: [r, 0] };
-    let sum = |a: usize, b: usize| Node { kind: 3, width: 128, operands: [a, b, 0], data: [0; 2] };
     let mut r = Rng(0x9e37_79b9_7f4a_7c15);
     let mut some = |n: usize| r.below(n as u64) as usize;
     let chain = (0..65535).map(|n| if n == 0 { var(0) } else { sum(n - 1, 0) }).collect();
     let pairs = (0..65535).map(|n| if n < 2 { var(0) } else { sum((n & !1) - 1, (n & !1) - 2) }).collect();
     let random = (0..65535).map(|n| if n < 32 { var(n as u64) } else { sum(some(n), some(n)) }).collect();
-    for (name, nodes) in [("chain", chain), ("pairs", pairs), ("random", random), ("collide", colliding())] {
+    for (name, nodes) in [("chain", chain), ("pairs", pairs), ("random", random), ("collide", one_bucket()), ("ites", ites()), ("twice", two_buckets())] {
         let pool: Vec<u64> = pool_words(&nodes);
         let mut out = words(&vec![0; pool.len()]);
         let time = best(rounds.div_ceil(10), || assert_eq!(black_box(canonical((&pool, nodes.len(), nodes.len() - 1), &mut out)).0, 0));
@@ -282,20 +288,71 @@ fn canonicals(rounds: u64) {
     }
 }
 
-/// The bucket that crates/canonical_classes has for a constant of 128 bits.
-fn bucket(low: u64, high: u64) -> u64 {
-    let mix = |x: u64| (x % (1 << 32)) * 227832187 + (x >> 32) * 251658257;
-    let start = mix(mix(2 + (128 << 16)));
-    mix(mix(start + low % (1 << 62)) + high % (1 << 62)) / (1 << 20) % 65536
+const CONSTANT: u64 = 2 + (128 << 16);
+
+/// `mix` and `other_mix` of crates/canonical_classes.
+fn mix(x: u64) -> u64 {
+    (x % (1 << 32)) * 227832187 + (x >> 32) * 251658257
 }
 
-/// Constants of one bucket that differ in their last bits alone, as many as a chain of sums can keep.
-fn colliding() -> Vec<Node> {
-    let constants = (0..).map(|k: u64| k << 24).filter(|&high| bucket(0, high) == bucket(0, 0)).take(32768);
-    let mut nodes: Vec<Node> = constants.map(|high| Node { kind: 2, width: 128, operands: [0; 3], data: [0, high] }).collect();
+fn other_mix(x: u64) -> u64 {
+    (x % (1 << 32)) * 198491317 + (x >> 32) * 217645199
+}
+
+/// The bucket that crates/canonical_classes has in its first table for a node of these words, its operands' classes in the second.
+fn bucket([word, operands, x, y]: [u64; 4]) -> u64 {
+    let start = mix(mix(word) + operands);
+    mix(mix(start + x % (1 << 62)) + y % (1 << 62)) / (1 << 20) % 65536
+}
+
+/// And in its second.
+fn second_bucket([word, operands, x, y]: [u64; 4]) -> u64 {
+    let start = other_mix(other_mix(y) + x % (1 << 62));
+    other_mix(other_mix(start + operands) + word % (1 << 62)) / (1 << 20) % 65536
+}
+
+/// Constants, as many as a chain of sums can keep, and the sums.
+fn with_sums(constants: impl Iterator<Item = [u64; 2]>) -> Vec<Node> {
+    let mut nodes: Vec<Node> = constants.take(32768).map(|data| Node { kind: 2, width: 128, operands: [0; 3], data }).collect();
     for k in 1..32768 {
         let last = if k == 1 { 0 } else { nodes.len() - 1 };
-        nodes.push(Node { kind: 3, width: 128, operands: [last, k, 0], data: [0; 2] });
+        nodes.push(sum(last, k));
+    }
+    nodes
+}
+
+/// Constants of one bucket of the first table that differ in their last bits alone.
+fn one_bucket() -> Vec<Node> {
+    let of = |high: u64| bucket([CONSTANT, 0, 0, high]);
+    with_sums((0..).map(|k: u64| k << 24).filter(|&high| of(high) == of(0)).map(|high| [0, high]))
+}
+
+/// Constants of one bucket of the first table and one of the second: the high word makes up for what the low one adds to the first mix.
+fn two_buckets() -> Vec<Node> {
+    let data = |k: u64| [k << 20, (1 << 61) - mix(mix(mix(CONSTANT)) + (k << 20))];
+    let second = |[x, y]: [u64; 2]| second_bucket([CONSTANT, 0, x, y]);
+    let all = (0..).map(data).filter(|&d| second(d) == second(data(0)));
+    with_sums(all.inspect(|&[x, y]| assert_eq!(bucket([CONSTANT, 0, x, y]), (mix(1 << 61) >> 20) % 65536)))
+}
+
+/// Ites of one bucket of the first table, each on the one before. 512 conditions and sums come first, enough for each to find two operands.
+fn ites() -> Vec<Node> {
+    let mut nodes: Vec<Node> = (0..32).map(var).collect();
+    nodes.extend((0..512).map(|k| Node { kind: 12, width: 0, operands: [k / 16, k % 16, 0], data: [0; 2] }));
+    nodes.push(sum(31, 0));
+    (1..3552).for_each(|k| nodes.push(sum(nodes.len() - 1, k % 31)));
+    let word = 15 + (128 << 16) + (0xffff_ffff << 32);
+    let mut r = Rng(0x9e37_79b9_7f4a_7c15);
+    while nodes.len() < 65535 {
+        let last = nodes.len() - 1;
+        let operands = loop {
+            let a = r.next();
+            let [c, k] = [32 + a as usize % 512, 544 + (a >> 32) as usize % (nodes.len() - 544)];
+            if bucket([word, (c | last << 16 | k << 32) as u64, 0, 0]) == 0 {
+                break [c, last, k];
+            }
+        };
+        nodes.push(Node { kind: 15, width: 128, operands, data: [0; 2] });
     }
     nodes
 }

@@ -11,7 +11,7 @@
  * deepest pool. A level has 5 characters or more, so a buffer or a ceiling of 140,000 bytes or less needs 1.8 MB at most. In this
  * neon_text_length's lengths of all nodes are counted: 0.5 MB, beside 32 bytes a level up to a ceiling of 2,097,150 and no level above
  * it. The other functions take a few kilobytes. neon_value calls itself too, and takes 80 bytes a level: 5.3 MB for the deepest pool;
- * neon_canonical takes 0.95 MB, whatever the pool.
+ * neon_canonical takes 0.8 MB, whatever the pool.
  *
  * Pool. Four words a node; places = words / 4, or 65,535 if that is less; nodes 0 to count - 1 are in use.
  *   word 0   kind + 65,536 * width + 2^32 * set; the width is 1 to 129 bits, or 0 for a condition; bit r of the set is up

@@ -1,3 +1,4 @@
+pub mod Slots
 pub mod Search
 pub mod Keys
 pub mod Steps

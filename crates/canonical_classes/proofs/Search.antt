@@ -6,13 +6,14 @@ use Prim.Native.Nat.{ℕ, zero, suc, _+_, _-_, _*_, _%_, _≤_, _<_}
 use native.Mathlib.Omega.{arith}
 use native.Mathlib.Numerals.{add-one}
 use lib.ListN.{getD}
-use borrow.Author.Tests.{eqb-true, eq-eqb}
+use lib.Dec.{ltb}
+use borrow.Author.Tests.{eqb-true, eq-eqb, ne-eqb, ltb-true, ltb-false}
 use Rattle.facts.proofs.Tests.{and-both}
 use Rattle.canonical_classes.specs.declared.Key.{Key}
 use Rattle.pool.specs.Node.{wordAt, kindNumber, aOf, bOf, cOf}
 use Rattle.pool_operands.specs.Operands.{hasA, hasB, hasC}
-use Rattle.canonical_classes.specs.Key.{classIf, keyOf, sameKey, bucketOf, wayOf}
-use Rattle.canonical_classes.specs.Class.{On, Holds, Low, Rises, under}
+use Rattle.canonical_classes.specs.Key.{classIf, keyOf, sameKey, bucketOf, wayOf, spreadOf, under, nextOf}
+use Rattle.canonical_classes.specs.Class.{On, Holds, Low, Rises}
 
 -- ---- keys
 
@@ -56,18 +57,38 @@ key-made ws class n kind a b c p q r ek ep eq er ea eb ec =
     let fc = ec ∙ ap (λ (t : Bool). classIf t class (cOf (wordAt ws n 1) % 65536)) (er ∙ ap hasC ek) in
     λ i. record { word = getD ws (4 * n) 0; a = fa i; b = fb i; c = fc i; x = wordAt ws n 2; y = wordAt ws n 3 }
 
--- ---- the way of a key
+-- ---- the slots of a key
+
+way-less : (k : Key) (level : ℕ) → wayOf k level < 2
+unfolding wayOf
+way-less k level = omega arith
+
+first-less : (k : Key) (m : ℕ) → nextOf k m 0 < 131072 + 2 * (m + 1)
+unfolding nextOf
+first-less k m = omega arith
+
+pub next-later : (k : Key) (m level : ℕ) → 0 < level → nextOf k m level ≡ under m (wayOf k level)
+unfolding nextOf
+next-later k m level h = rw (ne-eqb level 0 (λ e. omega (arith, e, h)))
+
+pub next-less : (k : Key) (m level : ℕ) → nextOf k m level < 131072 + 2 * (m + 1)
+next-less k m zero = first-less k m
+next-less k m (suc level) = omega (arith, next-later k m (suc level) (omega arith), way-less k (suc level))
+
+-- past the second table links rise
+pub next-rises : (slots : List ℕ) → Rises slots → (k : Key) (m level : ℕ) → 0 < level → 0 < getD slots (nextOf k m level) 0 → m + 1 < getD slots (nextOf k m level) 0
+next-rises slots rises k m level h = rw (next-later k m level h) (rises m (wayOf k level) (way-less k level))
 
 on-free : (slots : List ℕ) (k : Key) (s level j : ℕ) → getD slots s 0 ≡ 0 → On slots k s level j → ⊥
 on-free slots k s level j z (On.here e) = omega (arith, z, e)
 on-free slots k s level j z (On.there e o) = omega (arith, z, e)
 
 on-next : (slots : List ℕ) (k : Key) (s level m j : ℕ) → getD slots s 0 ≡ suc m → On slots k s level j → (j ≡ m → ⊥)
-    → On slots k (under m (wayOf k level)) (suc level) j
+    → On slots k (nextOf k m level) (suc level) j
 on-next slots k s level m j h (On.here e) f = absurd (f (omega (arith, h, e)))
 on-next slots k s level m j h (On.there {m = p} e o) f =
     let q : p ≡ m = omega (arith, h, e) in
-    subst (λ (x : ℕ). On slots k (under x (wayOf k level)) (suc level) j) q o
+    subst (λ (x : ℕ). On slots k (nextOf k x level) (suc level) j) q o
 
 -- more links lead where fewer did
 pub on-holds : (slots new : List ℕ) (k : Key) → Holds slots new → {s level j : ℕ} → On slots k s level j → On new k s level j
@@ -76,40 +97,55 @@ on-holds slots new k h (On.there {s = s} {m = m} e o) = On.there (h s m e) (on-h
 
 -- where the search for k stands: all that it has to meet is yet to come, and what is met from here on is met from the bucket
 pub record Searching (ws class slots : List ℕ) (n : ℕ) (k : Key) (slot level : ℕ) : Type 0 where
-  pub slot-less : slot < 65536 + 2 * n
-  pub deeper : 0 < getD slots slot 0 → level < getD slots slot 0
+  pub slot-less : slot < 131072 + 2 * n
+  pub deeper : 0 < getD slots slot 0 → level ≤ getD slots slot 0
   pub left : (j : ℕ) → On slots k (bucketOf k) 0 j → keyOf ws class j ≡ k → On slots k slot level j
   pub back : (new : List ℕ) → Holds slots new → (j : ℕ) → On new k slot level j → On new k (bucketOf k) 0 j
 
 pub search-first : (ws class slots : List ℕ) (n : ℕ) (k : Key) → bucketOf k < 65536 → Searching ws class slots n k (bucketOf k) 0
 search-first ws class slots n k h =
-    record { slot-less = omega arith; deeper = λ p. p; left = λ j o e. o; back = λ new g j o. o }
+    record { slot-less = omega arith; deeper = λ p. omega arith; left = λ j o e. o; back = λ new g j o. o }
 
 module _ (ws class slots : List ℕ) (n : ℕ) (k : Key) where
   -- past node m, which has another key
-  pub search-next : Low slots n → Rises slots → (slot level m : ℕ) → getD slots slot 0 ≡ suc m → wayOf k level < 2 → sameKey (keyOf ws class m) k ≡ false
+  pub search-next : Low slots n → Rises slots → (slot level m : ℕ) → getD slots slot 0 ≡ suc m → sameKey (keyOf ws class m) k ≡ false
       → Searching ws class slots n k slot level
-      → Searching ws class slots n k (under m (wayOf k level)) (level + 1)
-  search-next low rises slot level m e w d S =
+      → Searching ws class slots n k (nextOf k m level) (level + 1)
+  search-next low rises slot level m e d S =
       let l : suc m ≤ n = rw e at (low slot) in
       let z : level + 1 ≡ suc level = add-one level in
       record {
-        slot-less = omega arith;
-        deeper = λ p. omega (arith, rises m (wayOf k level) w p, S .deeper (omega (arith, e)), e);
+        slot-less = omega (arith, next-less k m level, l);
+        deeper = λ p. deep (ltb 0 level) refl p;
         left = λ j o f.
             rw z (on-next slots k slot level m j e (S .left j o f) (λ q. keys-differ (keyOf ws class m) k d (ap (keyOf ws class) (sym q) ∙ f)));
         back = λ new g j o. S .back new g j (On.there (g slot m e) (rw z at o));
       }
+    where
+      deep : (t : Bool) → ltb 0 level ≡ t → 0 < getD slots (nextOf k m level) 0 → level + 1 ≤ getD slots (nextOf k m level) 0
+      deep true h p = omega (arith, next-rises slots rises k m level (ltb-true 0 level h) p, S .deeper (omega (arith, e)), e)
+      deep false h p = omega (arith, ltb-false 0 level h, p)
 
   pub search-none : (slot level : ℕ) → getD slots slot 0 ≡ 0 → Searching ws class slots n k slot level → (j : ℕ) → On slots k (bucketOf k) 0 j → keyOf ws class j ≡ k → ⊥
   search-none slot level z S j o e = on-free slots k slot level j z (S .left j o e)
 
--- what falls: links rise, and there are no more than 65,535
-abbrev pub ahead : ℕ → ℕ
+-- what falls: from the first table to the second, and then links rise, of which there are no more than 65,535
+abbrev ahead : ℕ → ℕ
 ahead zero = 0
 ahead (suc m) = 65536 - m
 
-pub ahead-less : (link next : ℕ) → 0 < link → link ≤ 65535 → (0 < next → link < next) → next ≤ 65535 → ahead next < ahead link
-ahead-less zero next h g f l = absurd (omega arith)
-ahead-less (suc m) zero h g f l = omega arith
-ahead-less (suc m) (suc p) h g f l = omega (arith, f (omega arith))
+abbrev pub toGo : (level link : ℕ) → ℕ
+toGo level link = 65537 * (1 - level) + ahead link
+
+ahead-most : (link : ℕ) → ahead link ≤ 65536
+ahead-most zero = omega arith
+ahead-most (suc m) = omega arith
+
+ahead-less : (link next : ℕ) → 0 < link → link ≤ 65535 → (0 < next → link < next) → ahead next < ahead link
+ahead-less zero next h g f = absurd (omega arith)
+ahead-less (suc m) zero h g f = omega arith
+ahead-less (suc m) (suc p) h g f = omega (arith, f (omega arith))
+
+pub falls : (level link next : ℕ) → 0 < link → link ≤ 65535 → (0 < level → 0 < next → link < next) → toGo (level + 1) next < toGo level link
+falls zero link next h g f = omega (arith, ahead-most next)
+falls (suc level) link next h g f = omega (arith, ahead-less link next h g (f (omega arith)))

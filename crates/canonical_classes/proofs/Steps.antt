@@ -15,12 +15,12 @@ use Rattle.facts.proofs.Tests.{and-both}
 use Rattle.pool.specs.Unfold.{unfoldAt}
 use Rattle.canonical_classes.specs.declared.Place.{Place}
 use Rattle.pool_operands.specs.Operands.{hasA, hasB, hasC}
-use Rattle.canonical_classes.specs.Key.{classIf, keyOf, bucketOf}
-use Rattle.canonical_classes.specs.Class.{Classes, Empty, On, Holds, Found, Long, Kept, under}
+use Rattle.canonical_classes.specs.Key.{classIf, keyOf, bucketOf, under}
+use Rattle.canonical_classes.specs.Class.{Classes, Empty, On, Holds, Found, Long, Kept}
 use Rattle.canonical_classes.proofs.Search.{on-holds}
 use Rattle.canonical_classes.proofs.Keys.{node-read, key-tree, tree-key}
 
-pub kept-first : (ws class slots : List ℕ) → Long class → length slots ≡ 196608 → Empty slots → Kept ws 0 class slots
+pub kept-first : (ws class slots : List ℕ) → Long class → length slots ≡ 262144 → Empty slots → Kept ws 0 class slots
 kept-first ws class slots lc ls e =
     record {
       class-long = lc;

@@ -1,12 +1,12 @@
 -- The class of a node: the first node with the same tree; and the slots by which the first nodes are found.
-use mathlib.Core.List.{List}
+use mathlib.Core.List.{List, _++_}
 use mathlib.Core.Path.{_≡_}
 use Prim.Native.Nat.{ℕ, suc, _+_, _-_, _*_, _≤_, _<_}
-use lib.ListN.{length, getD}
+use lib.ListN.{length, getD, set}
 use Rattle.pool.specs.Unfold.{unfoldAt}
 use Rattle.canonical_classes.specs.declared.Key.{Key}
 use Rattle.canonical_classes.specs.declared.Place.{Place}
-use Rattle.canonical_classes.specs.Key.{keyOf, bucketOf, wayOf}
+use Rattle.canonical_classes.specs.Key.{keyOf, bucketOf, under, nextOf}
 
 -- the classes of the nodes below n
 pub record Classes (ws : List ℕ) (n : ℕ) (class : List ℕ) : Type 0 where
@@ -14,15 +14,15 @@ pub record Classes (ws : List ℕ) (n : ℕ) (class : List ℕ) : Type 0 where
   pub tree : (m : ℕ) → m < n → unfoldAt ws (getD class m 0) ≡ unfoldAt ws m
   pub one : (m p : ℕ) → m < n → p < n → unfoldAt ws m ≡ unfoldAt ws p → getD class m 0 ≡ getD class p 0
 
--- a slot has a link: 0, or one more than a node. A bucket has a slot, and each node two: the search for a key goes on from a node with another
--- key by the next bit of the key
-abbrev pub under : (m way : ℕ) → ℕ
-under m way = 65536 + 2 * m + way
+-- a slot has a link: 0, or one more than a node. Each table has 65,536 slots, and each node two: the search for a key goes from its bucket in the
+-- first table to its bucket in the second, and on from a node with another key by the next bit
+abbrev pub slotsOf : (first second ways : List ℕ) → List ℕ
+slotsOf first second ways = first ++ (second ++ ways)
 
 -- the search for the key k, from slot s on, meets node j
 pub data On (slots : List ℕ) (k : Key) : (s level j : ℕ) → Type 0 where
   here : {s level j : ℕ} → getD slots s 0 ≡ suc j → On slots k s level j
-  there : {s level m j : ℕ} → getD slots s 0 ≡ suc m → On slots k (under m (wayOf k level)) (suc level) j → On slots k s level j
+  there : {s level m j : ℕ} → getD slots s 0 ≡ suc m → On slots k (nextOf k m level) (suc level) j → On slots k s level j
 
 -- no link yet
 abbrev pub Empty : List ℕ → Type 0
@@ -46,17 +46,28 @@ pub record Found (ws class slots : List ℕ) (n : ℕ) (r : Place) : Type 0 wher
   pub found : 0 < r .link → (r .link ≤ n) × (keyOf ws class (r .link - 1) ≡ keyOf ws class n)
   pub missed : r .link ≡ 0 → let k = keyOf ws class n in (j : ℕ) → On slots k (bucketOf k) 0 j → keyOf ws class j ≡ k → ⊥
   pub free : r .link ≡ 0 → getD slots (r .slot) 0 ≡ 0
-  pub slot-less : r .slot < 65536 + 2 * n
+  pub slot-less : r .slot < 131072 + 2 * n
   pub leads : r .link ≡ 0 → let k = keyOf ws class n in (new : List ℕ) → Holds slots new → getD new (r .slot) 0 ≡ suc n → On new k (bucketOf k) 0 n
 
 -- a place for each number
 abbrev pub Long : List ℕ → Type 0
 Long l = length l ≡ 65536
 
+-- both tables, and two slots a node
+pub record Laid (first second ways : List ℕ) : Type 0 where
+  pub first-long : Long first
+  pub second-long : Long second
+  pub ways-long : length ways ≡ 131072
+
+-- slot s has got the link to node n
+pub record Linked (first second ways : List ℕ) (s n : ℕ) (first′ second′ ways′ : List ℕ) : Type 0 where
+  pub laid : Laid first′ second′ ways′
+  pub is : slotsOf first′ second′ ways′ ≡ set (slotsOf first second ways) s (n + 1)
+
 -- the classes of the nodes below n, and each node that is the first of its class on the way of its key
 pub record Kept (ws : List ℕ) (n : ℕ) (class slots : List ℕ) : Type 0 where
   pub class-long : Long class
-  pub slots-long : length slots ≡ 196608
+  pub slots-long : length slots ≡ 262144
   pub classes : Classes ws n class
   pub low : Low slots n
   pub rises : Rises slots

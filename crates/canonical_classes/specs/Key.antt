@@ -38,10 +38,28 @@ bucketOf k =
     let g = mixOf (h + k .x % 4611686018427387904) in
     mixOf (g + k .y % 4611686018427387904) / 1048576 % 65536
 
--- a key's words as one row of 256 bits: the 64 from `level` on, and bit `level`
+-- another function of the key, by other numbers and from its words in another order
+unfoldable pub otherMixOf : ℕ → ℕ
+otherMixOf x = x % 4294967296 * 198491317 + x / 4294967296 * 217645199
+
+unfoldable pub spreadOf : Key → ℕ
+spreadOf k =
+    let h = otherMixOf (otherMixOf (k .y) + k .x % 4611686018427387904) in
+    otherMixOf (otherMixOf (h + k .a + 65536 * k .b + 4294967296 * k .c) + k .word % 4611686018427387904)
+
+-- 24 bits of the spread and the key's words as one row of 280 bits: the 64 in which `level` stands, and bit `level`
 abbrev pub rowOf : Key → ℕ → ℕ
 rowOf k level =
-    cond (ltb level 64) (k .x) (cond (ltb level 128) (k .y) (cond (ltb level 192) (k .a + 65536 * k .b + 4294967296 * k .c) (k .word)))
+    cond (ltb level 24) (spreadOf k / 68719476736)
+    (cond (ltb level 88) (k .x) (cond (ltb level 152) (k .y) (cond (ltb level 216) (k .a + 65536 * k .b + 4294967296 * k .c) (k .word))))
 
 unfoldable pub wayOf : Key → ℕ → ℕ
 wayOf k level = rowOf k level / 2 ^ (level % 64) % 2
+
+-- the two slots under node m
+abbrev pub under : (m way : ℕ) → ℕ
+under m way = 131072 + 2 * m + way
+
+-- the slot to go on to from node m, which has another key: at first one of the second table, then one under m
+unfoldable pub nextOf : Key → (m level : ℕ) → ℕ
+nextOf k m level = cond (eqb level 0) (65536 + spreadOf k / 1048576 % 65536) (under m (wayOf k level))

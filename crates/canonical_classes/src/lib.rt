@@ -6,10 +6,10 @@ use pool_operands::has_b;
 use pool_operands::has_c;
 ghost use mathlib.Core.Path.{_≡_};
 ghost use Prim.Native.Nat.{_+_, _*_, _≤_, _<_};
-ghost use lib.ListN.{length};
+ghost use lib.ListN.{length, getD};
 ghost use Rattle.pool.specs.Rules.{Valid};
-ghost use Rattle.canonical_classes.specs.Key.{classIf, keyOf, sameKey, mixOf, bucketOf, rowOf, wayOf};
-ghost use Rattle.canonical_classes.specs.Class.{Empty, Low, Rises, Found, Classes, Long, Kept};
+ghost use Rattle.canonical_classes.specs.Key.{classIf, keyOf, sameKey, mixOf, bucketOf, otherMixOf, spreadOf, rowOf, wayOf, nextOf};
+ghost use Rattle.canonical_classes.specs.Class.{Empty, Low, Rises, Found, Classes, Long, Laid, Linked, Kept, slotsOf};
 
 // A node's word 0, the classes of its operands, 0 for an operand that its kind has not, and its words 2 and 3.
 pub struct Key {
@@ -78,29 +78,95 @@ fn bucket(k: Key) -> usize
     (mix(g + k.y % 4611686018427387904) / 1048576 % 65536) as usize
 }
 
-// A key's words as one row of bits: 64 of each, from `level` on.
-fn row(k: Key, level: u64) -> u64
+fn other_mix(x: u64) -> u64
+    ensures { λ r. ⌜ (r ≡ otherMixOf x) × (r < 2305843009213693952) ⌝ }
+{
+    x % 4294967296 * 198491317 + x / 4294967296 * 217645199
+}
+
+// Another number that goes by the key: keys of one bucket differ in it, whatever bits of theirs differ.
+fn spread(k: Key) -> u64
     requires { ⌜ (k .a < 65536) × (k .b < 65536) × (k .c < 65536) ⌝ }
+    ensures { λ r. ⌜ r ≡ spreadOf k ⌝ }
+{
+    let h = other_mix(other_mix(k.y) + k.x % 4611686018427387904);
+    other_mix(other_mix(h + k.a + 65536 * k.b + 4294967296 * k.c) + k.word % 4611686018427387904)
+}
+
+// Bits of the spread and a key's words as one row of bits: those in which `level` stands. 68719476736 is 2^36.
+fn row(k: Key, spread: u64, level: u64) -> u64
+    requires { ⌜ (k .a < 65536) × (k .b < 65536) × (k .c < 65536) × (spread ≡ spreadOf k) ⌝ }
     ensures { λ r. ⌜ r ≡ rowOf k level ⌝ }
 {
-    if level < 64 {
+    if level < 24 {
+        return spread / 68719476736;
+    }
+    if level < 88 {
         return k.x;
     }
-    if level < 128 {
+    if level < 152 {
         return k.y;
     }
-    if level < 192 {
+    if level < 216 {
         return k.a + 65536 * k.b + 4294967296 * k.c;
     }
     k.word
 }
 
-// Bit `level` of the key.
-fn way(k: Key, level: u64) -> usize
-    requires { ⌜ (k .a < 65536) × (k .b < 65536) × (k .c < 65536) ⌝ }
+// Bit `level` of the row.
+fn way(k: Key, spread: u64, level: u64) -> usize
+    requires { ⌜ (k .a < 65536) × (k .b < 65536) × (k .c < 65536) × (spread ≡ spreadOf k) ⌝ }
     ensures { λ r. ⌜ (r ≡ wayOf k level) × (r < 2) ⌝ }
 {
-    ((row(k, level) >> (level % 64)) % 2) as usize
+    ((row(k, spread, level) >> (level % 64)) % 2) as usize
+}
+
+// The slot to go on to from node m, which has another key.
+fn next(k: Key, spread: u64, m: usize, level: u64) -> usize
+    requires { ⌜ (k .a < 65536) × (k .b < 65536) × (k .c < 65536) × (spread ≡ spreadOf k) × (m < 65535) ⌝ }
+    ensures { λ r. ⌜ (r ≡ nextOf k m level) × (r < 131072 + 2 * (m + 1)) ⌝ }
+{
+    if level == 0 {
+        return 65536 + (spread / 1048576 % 65536) as usize;
+    }
+    131072 + 2 * m + way(k, spread, level)
+}
+
+// The link in a slot.
+fn link_at(first: &[u16; 65536], second: &[u16; 65536], ways: &[u16; 131072], slot: usize) -> usize
+    requires { ⌜ Laid (now first) (now second) (now ways) × (slot < 262144) ⌝ }
+    ensures { λ r. ⌜ (r ≡ getD (slotsOf (now (first .entry)) (now (second .entry)) (now (ways .entry))) slot 0) × (r < 65536) ⌝ }
+{
+    if slot < 65536 {
+        return wide(first[slot]) as usize;
+    }
+    if slot < 131072 {
+        return wide(second[slot - 65536]) as usize;
+    }
+    wide(ways[slot - 131072]) as usize
+}
+
+// Puts the link to node n into a slot.
+fn set_link(
+    first: &mut [u16; 65536],
+    second: &mut [u16; 65536],
+    ways: &mut [u16; 131072],
+    slot: usize,
+    n: usize,
+)
+    requires { ⌜ Laid (now first) (now second) (now ways) × (slot < 262144) × (n < 65535) ⌝ }
+    ensures { λ r. ⌜ Linked (now (first .entry)) (now (second .entry)) (now (ways .entry)) slot n (now (first .exit)) (now (second .exit)) (now (ways .exit)) ⌝ }
+{
+    let link = (n + 1) as u16;
+    if slot < 65536 {
+        first[slot] = link;
+        return;
+    }
+    if slot < 131072 {
+        second[slot - 65536] = link;
+        return;
+    }
+    ways[slot - 131072] = link;
 }
 
 // A link, 0 or one more than a node, and the slot that it stands in.
@@ -110,34 +176,50 @@ pub struct Place {
 }
 
 // The node with the key of node n; link 0 where none has it, and then the slot is the one that n belongs in. Two keys differ in one of
-// their 256 bits, so that no more than 256 nodes are met on the way, whatever the keys.
-fn find(pool: &[u64], class: &[u16; 65536], slots: &[u16; 196608], n: usize) -> Place
-    requires { ⌜ (4 * (n + 1) ≤ length (now pool)) × (n < 65535) ⌝ }
-    requires { ⌜ Low (now slots) n × Rises (now slots) ⌝ }
-    ensures { λ r. ⌜ Found (now (pool .entry)) (now (class .entry)) (now (slots .entry)) n r ⌝ }
+// their 256 bits, so that no more than 281 nodes are met on the way, whatever the keys.
+fn find(
+    pool: &[u64],
+    class: &[u16; 65536],
+    first: &[u16; 65536],
+    second: &[u16; 65536],
+    ways: &[u16; 131072],
+    n: usize,
+) -> Place
+    requires { ⌜ (4 * (n + 1) ≤ length (now pool)) × (n < 65535) × Laid (now first) (now second) (now ways) ⌝ }
+    requires { ⌜ Low (slotsOf (now first) (now second) (now ways)) n × Rises (slotsOf (now first) (now second) (now ways)) ⌝ }
+    ensures { λ r. ⌜ Found (now (pool .entry)) (now (class .entry)) (slotsOf (now (first .entry)) (now (second .entry)) (now (ways .entry))) n r ⌝ }
 {
     let k = key_of(pool, class, n);
+    let spread = spread(k);
     let mut slot = bucket(k);
     let mut level = 0;
-    let mut link = wide(slots[slot]) as usize;
+    let mut link = link_at(first, second, ways, slot);
     while 0 < link {
         if same(key_of(pool, class, link - 1), k) {
             return Place { link, slot };
         }
-        slot = 65536 + 2 * (link - 1) + way(k, level);
+        slot = next(k, spread, link - 1, level);
         level += 1;
-        link = wide(slots[slot]) as usize;
+        link = link_at(first, second, ways, slot);
     }
     Place { link, slot }
 }
 
 // The class of node n, the nodes below it having theirs.
-fn class_one(pool: &[u64], n: usize, class: &mut [u16; 65536], slots: &mut [u16; 196608])
-    requires { ⌜ (Valid (now pool) (n + 1)) × (4 * (n + 1) ≤ length (now pool)) × (n < 65535) ⌝ }
-    requires { ⌜ Kept (now pool) n (now class) (now slots) ⌝ }
-    ensures { λ r. ⌜ Kept (now (pool .entry)) (n + 1) (now (class .exit)) (now (slots .exit)) ⌝ }
+fn class_one(
+    pool: &[u64],
+    n: usize,
+    class: &mut [u16; 65536],
+    first: &mut [u16; 65536],
+    second: &mut [u16; 65536],
+    ways: &mut [u16; 131072],
+)
+    requires { ⌜ (Valid (now pool) (n + 1)) × (4 * (n + 1) ≤ length (now pool)) × (n < 65535) × Laid (now first) (now second) (now ways) ⌝ }
+    requires { ⌜ Kept (now pool) n (now class) (slotsOf (now first) (now second) (now ways)) ⌝ }
+    ensures { λ r. ⌜ Laid (now (first .exit)) (now (second .exit)) (now (ways .exit)) ⌝ }
+    ensures { λ r. ⌜ Kept (now (pool .entry)) (n + 1) (now (class .exit)) (slotsOf (now (first .exit)) (now (second .exit)) (now (ways .exit))) ⌝ }
 {
-    let place = find(pool, class, slots, n);
+    let place = find(pool, class, first, second, ways, n);
     let link = place.link;
     let slot = place.slot;
     if 0 < link {
@@ -145,18 +227,26 @@ fn class_one(pool: &[u64], n: usize, class: &mut [u16; 65536], slots: &mut [u16;
         return;
     }
     class[n] = n as u16;
-    slots[slot] = (n + 1) as u16;
+    set_link(first, second, ways, slot, n);
 }
 
 // Fills `class` for the nodes below count: the first node with the same tree.
-pub fn classes(pool: &[u64], count: usize, class: &mut [u16; 65536], slots: &mut [u16; 196608])
+pub fn classes(
+    pool: &[u64],
+    count: usize,
+    class: &mut [u16; 65536],
+    first: &mut [u16; 65536],
+    second: &mut [u16; 65536],
+    ways: &mut [u16; 131072],
+)
     requires { ⌜ (Valid (now pool) count) × (4 * count ≤ length (now pool)) × (count ≤ 65535) ⌝ }
-    requires { ⌜ Long (now class) × (length (now slots) ≡ 196608) × Empty (now slots) ⌝ }
-    ensures { λ r. ⌜ Classes (now (pool .entry)) count (now (class .exit)) ⌝ }
+    requires { ⌜ Long (now class) × Laid (now first) (now second) (now ways) ⌝ }
+    requires { ⌜ Empty (now first) × Empty (now second) × Empty (now ways) ⌝ }
+    ensures { λ r. ⌜ Classes (now (pool .entry)) count (now (class .exit)) × Long (now (first .exit)) × Long (now (second .exit)) ⌝ }
 {
     let mut n = 0;
     while n < count {
-        class_one(pool, n, class, slots);
+        class_one(pool, n, class, first, second, ways);
         n += 1;
     }
 }

@@ -104,9 +104,9 @@ fn write(
     }
 }
 
-// An array of zeros, one of 65,535 everywhere, and slots without links.
+// An array of zeros, one of 65,535 everywhere, and two slots a node without links.
 fn zeros() -> [u16; 65536]
-    ensures { λ r. ⌜ Long r ⌝ }
+    ensures { λ r. ⌜ Long r × Empty r ⌝ }
 {
     [0u16; 65536]
 }
@@ -117,31 +117,39 @@ fn nones() -> [u16; 65536]
     [65535u16; 65536]
 }
 
-fn free_slots() -> [u16; 196608]
-    ensures { λ r. ⌜ (length r ≡ 196608) × Empty r ⌝ }
+fn free_ways() -> [u16; 131072]
+    ensures { λ r. ⌜ (length r ≡ 131072) × Empty r ⌝ }
 {
-    [0u16; 196608]
+    [0u16; 131072]
 }
 
-// Counts the distinct subtrees before it writes a word.
+// Counts the distinct subtrees before it writes a word. The tables are free once the classes are known: the walk has them for the order and the
+// nodes that wait.
 fn canonise_root(pool: &[u64], root: usize, out: &mut [u64]) -> Canonised
     requires { ⌜ (Valid (now pool) (root + 1)) × (4 * (root + 1) ≤ length (now pool)) × (root < 65535) ⌝ }
     ensures { λ r. ⌜ RootAnswered (now (pool .entry)) root (now (out .entry)) (now (out .exit)) r ⌝ }
 {
     let mut class = zeros();
-    let mut slots = free_slots();
-    classes(pool, root + 1, &mut class, &mut slots);
+    let mut first = zeros();
+    let mut second = zeros();
+    let mut ways = free_ways();
+    classes(
+        pool,
+        root + 1,
+        &mut class,
+        &mut first,
+        &mut second,
+        &mut ways,
+    );
     let mut number = nones();
-    let mut order = zeros();
-    let mut stack = zeros();
-    let all = walk(pool, &class, root, &mut number, &mut order, &mut stack);
+    let all = walk(pool, &class, root, &mut number, &mut first, &mut second);
     if pool::places(out) < all {
         return Canonised {
             number: 6,
             count: 0,
         };
     }
-    write(pool, &class, root, &number, &order, all, out);
+    write(pool, &class, root, &number, &first, all, out);
     Canonised {
         number: 0,
         count: all,

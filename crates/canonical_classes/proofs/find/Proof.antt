@@ -7,23 +7,30 @@ use native.Mathlib.Omega.{arith}
 use lib.ListN.{getD}
 use Rattle.canonical_classes.specs.declared.Key.{Key}
 use Rattle.canonical_classes.specs.Key.{keyOf, sameKey, bucketOf}
-use Rattle.canonical_classes.specs.Class.{On, Holds}
-use Rattle.canonical_classes.proofs.Search.{Searching, search-first, search-next, search-none, keys-same, ahead, ahead-less}
+use Rattle.canonical_classes.specs.Class.{On, Holds, slotsOf}
+use Rattle.canonical_classes.proofs.Search.{Searching, search-first, search-next, search-none, keys-same, next-rises, toGo, falls}
 use borrow.Author.Needs.{needs}
 use Rattle.canonical_classes.proofs.find.Statement.{statement}
 use Rattle.canonical_classes.proofs.find.Tie as tie
 
 abbrev Inv-loop : tie.InvT-loop
-Inv-loop pool class slots n k slot₀ level₀ link₀ slot level link = (link ≡ getD slots slot 0) × Searching pool class slots n k slot level
+Inv-loop pool class first second ways n k spread slot₀ level₀ link₀ slot level link =
+    (link ≡ getD (slotsOf first second ways) slot 0) × Searching pool class (slotsOf first second ways) n k slot level
 
 abbrev μ-loop : tie.MeasureT-loop
-μ-loop pool class slots n k slot₀ level₀ link₀ slot level link = ahead link
+μ-loop pool class first second ways n k spread slot₀ level₀ link₀ slot level link = toGo level link
+
+abbrev spreaded : tie.At-loop Inv-loop μ-loop → tie.After-spread Inv-loop μ-loop
+spreaded c = c .before .before .before
 
 abbrev keyed : tie.At-loop Inv-loop μ-loop → tie.After-key-of Inv-loop μ-loop
-keyed c = c .before .before .before .before
+keyed c = spreaded c .before
 
 abbrev entry : tie.At-loop Inv-loop μ-loop → tie.Start Inv-loop μ-loop
 entry c = keyed c .before .before
+
+abbrev slotsIn : tie.Start Inv-loop μ-loop → List ℕ
+slotsIn s = slotsOf (s .args .first .now) (s .args .second .now) (s .args .ways .now)
 
 -- the link is to a node below n
 link-low : (c : tie.At-loop Inv-loop μ-loop) → c .loop .link ≤ entry c .args .n
@@ -39,25 +46,23 @@ tested c = c .before .before .before
 key-of-requires : tie.Need-key-of-requires Inv-loop μ-loop
 key-of-requires c κs = search needs
 
+spread-requires : tie.Need-spread-requires Inv-loop μ-loop
+spread-requires c κs = search needs
+
 bucket-requires : tie.Need-bucket-requires Inv-loop μ-loop
 bucket-requires c κs = search needs
 
-mul-wide : tie.Need-mul-wide Inv-loop μ-loop
-mul-wide c = search needs
-
-element-copy-out-wide : tie.Need-element-copy-out-wide Inv-loop μ-loop
-element-copy-out-wide c = search needs
-
-wide-requires : tie.Need-wide-requires Inv-loop μ-loop
-wide-requires c κs = search needs
+link-at-requires : tie.Need-link-at-requires Inv-loop μ-loop
+link-at-requires c κs = (c .before .before .before .before .pre .0 .2, omega (arith, c .bucket .ensures .1))
 
 loop-holds : tie.Need-loop-holds Inv-loop μ-loop
 loop-holds c =
-    let at-bucket = c .before .before in
-    let at-key = at-bucket .before in
-    let a = at-key .before .before .args in
+    let at-bucket = c .before in
+    let at-key = at-bucket .before .before in
+    let s = at-key .before .before in
+    let a = s .args in
     let e = at-bucket .bucket .ensures in
-    (c .wide .ensures .0, rw (e .0) (search-first (a .pool .now) (a .class .now) (a .slots .now) (a .n) (at-key .key-of .result) (rw (e .0) at (e .1))))
+    (c .link-at .ensures .0, rw (e .0) (search-first (a .pool .now) (a .class .now) (slotsIn s) (a .n) (at-key .key-of .result) (rw (e .0) at (e .1))))
 
 sub-key-of : tie.Need-sub-key-of Inv-loop μ-loop
 sub-key-of c = search needs
@@ -85,84 +90,71 @@ returns c =
       leads = λ z. absurd (no z);
     }
 
-sub-slot : tie.Need-sub-slot Inv-loop μ-loop
-sub-slot c = search needs
+sub-next : tie.Need-sub-next Inv-loop μ-loop
+sub-next c = search needs
 
-mul-slot : tie.Need-mul-slot Inv-loop μ-loop
-mul-slot c = omega (arith, link-low (looped c), entry (looped c) .pre .0)
-
-add-slot : tie.Need-add-slot Inv-loop μ-loop
-add-slot c = omega (arith, link-low (looped c), entry (looped c) .pre .0)
-
-way-requires : tie.Need-way-requires Inv-loop μ-loop
-way-requires c κs = let e = keyed (looped c) .key-of .ensures in (e .1, e .2, e .3)
-
-add-slot-2 : tie.Need-add-slot-2 Inv-loop μ-loop
-add-slot-2 c = let l = looped (c .before) in omega (arith, link-low l, entry l .pre .0, c .way .ensures .1)
+next-requires : tie.Need-next-requires Inv-loop μ-loop
+next-requires c κs =
+    let l = looped c in
+    let e = keyed l .key-of .ensures in
+    (e .1, e .2, e .3, spreaded l .spread .ensures, omega (arith, link-low l, entry l .pre .0))
 
 add-level : tie.Need-add-level Inv-loop μ-loop
 add-level c =
     let l = looped (c .before) in
     omega (arith, link-low l, entry l .pre .0, l .loop .inv .0, l .loop .inv .1 .deeper (omega (arith, l .loop .inv .0, tested (c .before) .loop-test .taken)))
 
-mul-wide-2 : tie.Need-mul-wide-2 Inv-loop μ-loop
-mul-wide-2 c = let l = looped (c .before) in omega (arith, link-low l, entry l .pre .0, c .way .ensures .1)
-
-element-copy-out-wide-2 : tie.Need-element-copy-out-wide-2 Inv-loop μ-loop
-element-copy-out-wide-2 c = let l = looped (c .before) in omega (arith, link-low l, entry l .pre .0, c .way .ensures .1)
-
-wide-requires-2 : tie.Need-wide-requires-2 Inv-loop μ-loop
-wide-requires-2 c κs = search needs
+link-at-requires-2 : tie.Need-link-at-requires-2 Inv-loop μ-loop
+link-at-requires-2 c κs = let l = looped (c .before) in (entry l .pre .0 .2, omega (arith, link-low l, entry l .pre .0, c .next .ensures .1))
 
 loop-less : tie.Need-loop-less Inv-loop μ-loop
 loop-less c =
-    let at-way = c .before .before in
-    let l = looped (at-way .before) in
+    let at-next = c .before in
+    let l = looped (at-next .before) in
     let s = entry l in
-    let w = at-way .way in
+    let k = keyed l .key-of .result in
+    let e = c .link-at2 .ensures .0 ∙ ap (λ (i : ℕ). getD (slotsIn s) i 0) (at-next .next .ensures .0) in
     let m = l .loop .link - 1 in
-    let t = tested (at-way .before) .loop-test .taken in
-    ahead-less (l .loop .link) (c .wide2 .result) t (omega (arith, link-low l, s .pre .0))
-    (λ h. omega (arith, c .wide2 .ensures .0, s .pre .1 .1 m (w .result) (w .ensures .1) (omega (arith, h, c .wide2 .ensures .0)), t))
-    (omega (arith, c .wide2 .ensures .1))
+    let t = tested (at-next .before) .loop-test .taken in
+    falls (l .loop .level) (l .loop .link) (c .link-at2 .result) t (omega (arith, link-low l, s .pre .0))
+    (λ h g. omega (arith, e, next-rises (slotsIn s) (s .pre .1 .1) k m (l .loop .level) h (omega (arith, g, e)), t))
 
 loop-again : tie.Need-loop-again Inv-loop μ-loop
 loop-again c =
-    let at-way = c .before .before in
-    let e = at-way .before in
+    let at-next = c .before in
+    let e = at-next .before in
     let at-key2 = e .before .before in
     let l = looped e in
     let s = entry l in
     let a = s .args in
     let k = keyed l .key-of .result in
-    let w = at-way .way in
     let m = l .loop .link - 1 in
-    let here : getD (a .slots .now) (l .loop .slot) 0 ≡ suc m = omega (arith, l .loop .inv .0, tested e .loop-test .taken) in
+    let here : getD (slotsIn s) (l .loop .slot) 0 ≡ suc m = omega (arith, l .loop .inv .0, tested e .loop-test .taken) in
     let other : sameKey (keyOf (a .pool .now) (a .class .now) m) k ≡ false =
     sym (e .before .same .ensures ∙ ap (λ (x : Key). sameKey x k) (at-key2 .key-of2 .ensures .0)) ∙ e .if1 .left in (
-      c .wide2 .ensures .0,
-      rw (w .ensures .0)
-          (search-next (a .pool .now) (a .class .now) (a .slots .now) (a .n) k (s .pre .1 .0) (s .pre .1 .1) (l .loop .slot) (l .loop .level) m here
-          (rw (w .ensures .0) at (w .ensures .1)) other (l .loop .inv .1)),
+      c .link-at2 .ensures .0,
+      rw (at-next .next .ensures .0)
+          (search-next (a .pool .now) (a .class .now) (slotsIn s) (a .n) k (s .pre .1 .0) (s .pre .1 .1) (l .loop .slot) (l .loop .level) m here other (l .loop .inv .1)),
     )
 
 returns-2 : tie.Need-returns-2 Inv-loop μ-loop
 returns-2 c =
     let l = c .before .loop in
-    let a = entry (c .before) .args in
+    let s = entry (c .before) in
+    let a = s .args in
     let at-key = keyed (c .before) in
     let k = at-key .key-of .result in
     let e = at-key .key-of .ensures .0 in
-    let z : getD (a .slots .now) (l .slot) 0 ≡ 0 = omega (arith, l .inv .0, c .loop-test .left) in
+    let z : getD (slotsIn s) (l .slot) 0 ≡ 0 = omega (arith, l .inv .0, c .loop-test .left) in
     record {
       found = λ h. absurd (omega (arith, h, c .loop-test .left));
       missed = λ q.
-          subst (λ (k : Key). (j : ℕ) → On (a .slots .now) k (bucketOf k) 0 j → keyOf (a .pool .now) (a .class .now) j ≡ k → ⊥) e
-          (search-none (a .pool .now) (a .class .now) (a .slots .now) (a .n) k (l .slot) (l .level) z (l .inv .1));
+          subst (λ (k : Key). (j : ℕ) → On (slotsIn s) k (bucketOf k) 0 j → keyOf (a .pool .now) (a .class .now) j ≡ k → ⊥) e
+          (search-none (a .pool .now) (a .class .now) (slotsIn s) (a .n) k (l .slot) (l .level) z (l .inv .1));
       free = λ q. z;
       slot-less = l .inv .1 .slot-less;
       leads = λ q.
-          subst (λ (k : Key). (new : List ℕ) → Holds (a .slots .now) new → getD new (l .slot) 0 ≡ suc (a .n) → On new k (bucketOf k) 0 (a .n)) e
+          subst (λ (k : Key). (new : List ℕ) → Holds (slotsIn s) new → getD new (l .slot) 0 ≡ suc (a .n) → On new k (bucketOf k) 0 (a .n)) e
           (λ new h f. l .inv .1 .back new h (a .n) (On.here f));
     }
 
@@ -173,24 +165,18 @@ find-spec =
     Inv-loop
     μ-loop
     key-of-requires
+    spread-requires
     bucket-requires
-    mul-wide
-    element-copy-out-wide
-    wide-requires
+    link-at-requires
     loop-holds
     sub-key-of
     key-of-requires-2
     same-requires
     returns
-    sub-slot
-    mul-slot
-    add-slot
-    way-requires
-    add-slot-2
+    sub-next
+    next-requires
     add-level
-    mul-wide-2
-    element-copy-out-wide-2
-    wide-requires-2
+    link-at-requires-2
     loop-less
     loop-again
     returns-2)

@@ -1,4 +1,4 @@
--- `way` gives `wayOf`, one bit of the key.
+-- `way` gives `wayOf`, one bit of the row.
 use native.Mathlib.Omega.{arith}
 use mathlib.Core.Path.{ap}
 use Prim.Native.Nat.{ℕ, _/_, _%_, _^_}

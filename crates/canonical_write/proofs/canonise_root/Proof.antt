@@ -7,28 +7,23 @@ use Rattle.canonical_write.proofs.canonise_root.Tie as tie
 
 -- after the walk
 abbrev filled : tie.After-walk → tie.After-nones
-filled c = c .before .before .before .before .before .before .before
+filled c = c .before .before .before .before .before
 
 abbrev classed : tie.After-walk → tie.After-classes
 classed c = filled c .before
 
+-- the four arrays, before the classes
+abbrev arrays : tie.After-classes → tie.After-free-ways
+arrays c = c .before .before .before .before .before
+
+abbrev start : tie.After-free-ways → tie.Start
+start c = c .before .before .before .before .before .before
+
 abbrev entry : tie.After-walk → tie.Start
-entry c = classed c .before .before .before .before .before .before .before
+entry c = start (arrays (classed c))
 
 zeros-requires : tie.Need-zeros-requires
 zeros-requires c κs = search needs
-
-free-slots-requires : tie.Need-free-slots-requires
-free-slots-requires c κs = search needs
-
-add-classes : tie.Need-add-classes
-add-classes c = search needs
-
-classes-requires : tie.Need-classes-requires
-classes-requires c κs = search needs
-
-nones-requires : tie.Need-nones-requires
-nones-requires c κs = search needs
 
 zeros-requires-2 : tie.Need-zeros-requires-2
 zeros-requires-2 c κs = search needs
@@ -36,13 +31,37 @@ zeros-requires-2 c κs = search needs
 zeros-requires-3 : tie.Need-zeros-requires-3
 zeros-requires-3 c κs = search needs
 
+free-ways-requires : tie.Need-free-ways-requires
+free-ways-requires c κs = search needs
+
+add-classes : tie.Need-add-classes
+add-classes c = search needs
+
+classes-requires : tie.Need-classes-requires
+classes-requires c κs =
+    let ways = c .before .before .before .before in
+    let second = ways .before in
+    let first = second .before in
+    let class = first .before in
+    let s = start ways in
+    let e = first .zeros2 .ensures in
+    let f = second .zeros3 .ensures in
+    let g = ways .free-ways .ensures in (
+      (s .pre .0, s .pre .1, omega (arith, s .pre .2)),
+      ((class .zeros .ensures .0, record { first-long = e .0; second-long = f .0; ways-long = g .0 }), (e .1, f .1, g .1)),
+    )
+
+nones-requires : tie.Need-nones-requires
+nones-requires c κs = search needs
+
 walk-requires : tie.Need-walk-requires
 walk-requires c κs =
-    let stack = c .before .before .before .before in
-    let order = stack .before in
-    let number = order .before in
-    let s = number .before .before .before .before .before .before .before .before in
-    (s .pre, (number .before .classes .ensures, ((number .nones .ensures .0, order .zeros2 .ensures, stack .zeros3 .ensures), number .nones .ensures .1)))
+    let number = c .before .before .before .before in
+    let at-classes = number .before in
+    let s = start (arrays at-classes) in
+    let k = at-classes .classes .ensures in
+    let n = number .nones .ensures in
+    (s .pre, (k .0, ((n .0, k .1, k .2), n .1)))
 
 places-requires : tie.Need-places-requires
 places-requires c κs = search needs
@@ -62,7 +81,7 @@ write-requires c κs =
     let t = c .before .before .before .before in
     let p = t .before in
     let w = p .before .before in
-    (entry w .pre, (classed w .classes .ensures, (w .walk .ensures, (omega (arith, p .places .ensures, t .if1 .left), omega (arith, p .places .ensures, t .if1 .left)))))
+    (entry w .pre, (classed w .classes .ensures .0, (w .walk .ensures, (omega (arith, p .places .ensures, t .if1 .left), omega (arith, p .places .ensures, t .if1 .left)))))
 
 same-length-2 : tie.Need-same-length-2
 same-length-2 c = search needs
@@ -81,12 +100,12 @@ canonise-root-spec =
     tie.close
     (tie.spec
     zeros-requires
-    free-slots-requires
+    zeros-requires-2
+    zeros-requires-3
+    free-ways-requires
     add-classes
     classes-requires
     nones-requires
-    zeros-requires-2
-    zeros-requires-3
     walk-requires
     places-requires
     same-length
