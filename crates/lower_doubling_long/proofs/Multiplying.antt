@@ -5,12 +5,9 @@ use mathlib.Core.Bool.{Bool, true, false, false≢true}
 use mathlib.Core.List.{List, [], _∷_}
 use native.Mathlib.Omega.{arith}
 use native.Mathlib.Nat.{mul-le-mul-left}
-use Rattle.facts.proofs.Numbers.{small}
 use Rattle.terms.specs.declared.BinOp.{BinOp}
-use Rattle.terms.specs.declared.BinOp.the-variants.{Mul, Shl}
 use Rattle.pool.specs.declared.Node.{Node}
 use Rattle.pool.specs.declared.Built.{Built}
-use Rattle.pool_nodes.specs.Builders.{MadeConst, MadeBv}
 use Rattle.pool.proofs.Steps.{start, step, finish, stay, given, spare}
 use Rattle.trees.specs.declared.SaturateTo.the-variants.{Signed}
 use Rattle.trees.specs.declared.Combine.{Combine}
@@ -18,62 +15,40 @@ use Rattle.trees.specs.declared.Combine.the-variants.{Nothing, With}
 use Rattle.trees.specs.Simd.{concatLanes}
 use Rattle.trees.specs.Arith.{clamp, doublingProduct, sourceLane, doublingLongLane, doublingLongLanes}
 use Rattle.lower_simd.specs.Cut.{MadeLane}
-use Rattle.lower.specs.Builds.{Builds1, Builds2, Lowers, read, readIf, unread, MadeExtend}
+use Rattle.lower.specs.Builds.{Builds1, Builds2, Lowers, read, readIf, unread}
 use Rattle.lower.proofs.Lanes.{lane-fits, source-kept}
+use Rattle.lower_exact.specs.Exact.{joined, twice}
+use Rattle.lower_exact.proofs.Exactly.{then2}
 use Rattle.lower_doubling_long.specs.declared.Element.{Element}
 use Rattle.lower_doubling_long.specs.declared.Element.the-variants.{One, PerLane}
 use Rattle.lower_doubling_long.specs.Elements.{accumulates, elementSource, elementNodes, factorBits, secondFactorBits, MadeElement}
 use Rattle.lower_doubling_long.specs.Lanes.{combinedAt, doubledAt}
 
-pub product-made : {w0 w1 w2 w3 w4 w5 w6 : List ℕ} {k : ℕ} {r1 r2 r3 r4 r5 r6 : Built} {a b : Node} {n : ℕ}
-    → 2 ≤ n
-    → n ≤ 64
-    → MadeExtend w0 k w1 r1 a (n + 1) true
-    → MadeExtend w1 (r1 .count) w2 r2 b (n + 1) true
-    → MadeBv w2 (r2 .count) w3 r3 Mul (r1 .node) (r2 .node)
-    → MadeConst w3 (r3 .count) w4 r4 1 0 (n + 1)
-    → MadeBv w4 (r4 .count) w5 r5 Shl (r3 .node) (r4 .node)
-    → Builds1 w5 (r5 .count) w6 r6 7 (r5 .node) (n + 1) n (λ v. clamp v (n + 1) n Signed) ((r5 .node) .0 ∷ [])
-    → Builds2 w0 k w6 r6 12 a (n / 2) b (n / 2) n (λ a b. doublingProduct a b n) (a .0 ∷ b .0 ∷ [])
+pub product-made : {w0 w1 w2 : List ℕ} {k : ℕ} {r1 r2 : Built} {a b : Node} (n : ℕ)
+    → Builds2 w0 k w1 r1 5 a (n / 2) b (n / 2) (n + 1) (λ a b. twice a b (n + 1)) (a .0 ∷ b .0 ∷ [])
+    → Builds1 w1 (r1 .count) w2 r2 7 (r1 .node) (n + 1) n (λ v. clamp v (n + 1) n Signed) ((r1 .node) .0 ∷ [])
+    → Builds2 w0 k w2 r2 12 a (n / 2) b (n / 2) n (λ a b. doublingProduct a b n) (a .0 ∷ b .0 ∷ [])
 unfolding doublingProduct
-product-made {a = a} {b = b} {n = n} l m e1 e2 e3 e4 e5 e6 =
-    let some : 1 ≤ n / 2 = omega arith in
-    record {
-      sized = omega (arith, e1 .sized, e2 .sized, e3 .sized, e4 .sized, e5 .sized, e6 .sized);
-      made = λ {ta} {tb} v x y.
-          let s0 = start v (given (a .0) (n / 2) ta ∷ given (b .0) (n / 2) tb ∷ []) (x, (y, tt)) in
-          let s1 = step s0 (0 ∷ []) (e1 .made (s0 .valid) some (omega arith) (omega arith) (s0 .env .0)) in
-          let s2 = step s1 (2 ∷ []) (e2 .made (s1 .valid) some (omega arith) (omega arith) (s1 .env .1 .1 .0)) in
-          let s3 = step s2 (1 ∷ 0 ∷ []) (e3 .made (s2 .valid) (omega arith) (omega arith) (s2 .env .1 .0) (s2 .env .0)) in
-          let s4 = step s3 [] (e4 .made (s3 .valid) (omega arith) (omega arith) refl (small 1 1 (n + 1) (omega arith) (omega arith))) in
-          let s5 = step s4 (1 ∷ 0 ∷ []) (e5 .made (s4 .valid) (omega arith) (omega arith) (s4 .env .1 .0) (s4 .env .0)) in
-          finish (step s5 (0 ∷ []) (e6 .made (s5 .valid) (s5 .env .0))) tt;
-    }
+product-made n e1 e2 = then2 e1 e2
 
-pub combined-with : {w0 w1 w2 w3 w4 w5 : List ℕ} {k : ℕ} {r1 r2 r3 r4 r5 : Built} {product d : Node} {op : BinOp} {combine : Combine} {n lanes j : ℕ}
+pub combined-with : {w0 w1 w2 w3 : List ℕ} {k : ℕ} {r1 r2 r3 : Built} {product d : Node} {op : BinOp} {combine : Combine} {n lanes j : ℕ}
     → 2 ≤ n
-    → n ≤ 64
     → j < lanes
-    → n * lanes ≤ 128
     → combine ≡ With op
     → MadeLane w0 k w1 r1 d n j
-    → MadeExtend w1 (r1 .count) w2 r2 (r1 .node) (n + 1) true
-    → MadeExtend w2 (r2 .count) w3 r3 product (n + 1) true
-    → MadeBv w3 (r3 .count) w4 r4 op (r2 .node) (r3 .node)
-    → Builds1 w4 (r4 .count) w5 r5 7 (r4 .node) (n + 1) n (λ v. clamp v (n + 1) n Signed) ((r4 .node) .0 ∷ [])
-    → Lowers w0 k w5 r5 11 n (readIf (accumulates combine) d (n * lanes)) (read product n) unread (λ d p b. combinedAt combine n d p j) (product .0 ∷ [])
-combined-with {product = product} {d = d} {n = n} {lanes = lanes} {j = j} l m h b q e1 e2 e3 e4 e5 =
+    → Builds2 w1 (r1 .count) w2 r2 3 (r1 .node) n product n (n + 1) (λ d p. joined op d true p true (n + 1)) ((r1 .node) .0 ∷ product .0 ∷ [])
+    → Builds1 w2 (r2 .count) w3 r3 7 (r2 .node) (n + 1) n (λ v. clamp v (n + 1) n Signed) ((r2 .node) .0 ∷ [])
+    → Lowers w0 k w3 r3 11 n (readIf (accumulates combine) d (n * lanes)) (read product n) unread (λ d p b. combinedAt combine n d p j) (product .0 ∷ [])
+combined-with {product = product} {d = d} {n = n} {lanes = lanes} {j = j} l h q e1 e2 e3 =
     let fits : n * j + n ≤ n * lanes = lane-fits n j lanes h (omega arith) in
     rw q
     (record {
-      sized = omega (arith, e1 .sized, e2 .sized, e3 .sized, e4 .sized, e5 .sized);
+      sized = omega (arith, e1 .sized, e2 .sized, e3 .sized);
       made = λ {td} {ta} {tb} v x y z.
           let s0 = start v (given (product .0) n ta ∷ spare (d .0) (n * lanes) td ∷ []) ((y refl), ((x refl), tt)) in
           let s1 = step s0 [] (e1 .made (s0 .valid) fits (s0 .env .1 .0)) in
-          let s2 = step s1 (0 ∷ []) (e2 .made (s1 .valid) (omega arith) (omega arith) (omega arith) (s1 .env .0)) in
-          let s3 = step s2 (2 ∷ []) (e3 .made (s2 .valid) (omega arith) (omega arith) (omega arith) (s2 .env .1 .1 .0)) in
-          let s4 = step s3 (1 ∷ 0 ∷ []) (e4 .made (s3 .valid) (omega arith) (omega arith) (s3 .env .1 .0) (s3 .env .0)) in
-          finish (step s4 (0 ∷ []) (e5 .made (s4 .valid) (s4 .env .0))) tt;
+          let s2 = step s1 (0 ∷ 1 ∷ []) (e2 .made (s1 .valid) (s1 .env .0) (s1 .env .1 .0)) in
+          finish (step s2 (0 ∷ []) (e3 .made (s2 .valid) (s2 .env .0))) tt;
     })
 
 pub combined-nothing : {ws : List ℕ} {k : ℕ} {r : Built} {product d : Node} {combine : Combine} (n lanes j : ℕ) → combine ≡ Nothing → product .0 < k → r .node .0 ≡ product .0 → r .count ≡ k

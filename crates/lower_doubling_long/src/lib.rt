@@ -1,8 +1,9 @@
 // The Rust's neon/lower/arith.rs: doubling_long_lanes.
+use lower_exact::join;
+use lower_exact::product::double;
 use neon::Lane;
 use pool::Built;
 use pool::Node;
-use terms::BinOp;
 use trees::Combine;
 use trees::SaturateTo;
 ghost use mathlib.Core.Path.{_≡_};
@@ -30,11 +31,7 @@ fn doubling_product(pool: &mut [u64], count: usize, a: Node, b: Node, lane_bits:
         (λ a b. doublingProduct a b «lane_bits») (a .0 ∷ b .0 ∷ []) ⌝ }
 {
     let wide = lane_bits + 1;
-    let wide_a = lower::extend(pool, count, a, wide, true);
-    let wide_b = lower::extend(pool, wide_a.count, b, wide, true);
-    let product = pool_nodes::bv(pool, wide_b.count, BinOp::Mul, wide_a.node, wide_b.node);
-    let one = pool_nodes::konst(pool, product.count, 1, 0, wide);
-    let doubled = pool_nodes::bv(pool, one.count, BinOp::Shl, product.node, one.node);
+    let doubled = double(pool, count, a, b, lane_bits / 2, wide);
     lower::arith::clamp(
         pool,
         doubled.count,
@@ -70,14 +67,16 @@ fn combine_at(
         Combine::With(op) => {
             let wide = lane_bits + 1;
             let prior = lower_simd::extract_lane(pool, count, d, lane_bits, index);
-            let wide_prior = lower::extend(pool, prior.count, prior.node, wide, true);
-            let wide_product = lower::extend(pool, wide_prior.count, product, wide, true);
-            let sum = pool_nodes::bv(
+            let sum = join(
                 pool,
-                wide_product.count,
+                prior.count,
                 op,
-                wide_prior.node,
-                wide_product.node,
+                prior.node,
+                true,
+                product,
+                true,
+                lane_bits,
+                wide,
             );
             lower::arith::clamp(
                 pool,

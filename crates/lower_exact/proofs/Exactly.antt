@@ -1,18 +1,18 @@
 -- The exact values of one lane, from what their calls build. Assumes nothing.
 use Prim.Native.Nat.{ℕ, _+_, _-_, _*_, _^_, _≤_, _<_}
 use mathlib.Core.Path.{_≡_, refl}
-use mathlib.Core.Bool.{Bool, true, false, cond}
+use mathlib.Core.Bool.{Bool, true, false, cond, false≢true}
 use mathlib.Core.List.{List, [], _∷_}
 use native.Mathlib.Omega.{arith}
 use lib.Pow.{pow-pos}
 use Rattle.facts.proofs.Numbers.{small}
 use Rattle.terms.specs.declared.BinOp.{BinOp}
-use Rattle.terms.specs.declared.BinOp.the-variants.{Add, Sub, Mul, Shl, AShr, LShr}
+use Rattle.terms.specs.declared.BinOp.the-variants.{Sub, Mul, Shl, AShr, LShr}
 use Rattle.terms.specs.declared.CmpOp.the-variants.{Slt}
 use Rattle.terms.specs.Expr.{Expr, Const}
 use Rattle.pool.specs.declared.Node.{Node}
 use Rattle.pool.specs.declared.Built.{Built}
-use Rattle.pool_nodes.specs.Builders.{MadeConst, MadeBv, MadeCompare, MadeIte}
+use Rattle.pool_nodes.specs.Builders.{MadeConst, MadeBv, MadeCompare, MadeIte, MadeSignExtend}
 use Rattle.pool.proofs.Steps.{start, step, finish, stay, given}
 use Rattle.trees.specs.declared.SaturateTo.{SaturateTo}
 use Rattle.trees.specs.declared.Saturate.{Saturate}
@@ -20,8 +20,8 @@ use Rattle.trees.specs.declared.SaturatingKind.{SaturatingKind}
 use Rattle.trees.specs.declared.SaturatingKind.the-variants.{AddSub, Halving, Narrow, ShiftNarrow, DoublingMultiplyHigh, Unary}
 use Rattle.trees.specs.Arith.{plusIf, negated, kindBits}
 use Rattle.lower.specs.Builds.{Builds1, Builds2, BuildsIf, MadeExtend}
-use Rattle.lower_kinds.specs.Sources.{usesSecond}
-use Rattle.lower_exact.specs.Exact.{joined, twice, shifted, exactLane, exactBits}
+use Rattle.lower_kinds.specs.Sources.{usesSecond, KindIn}
+use Rattle.lower_exact.specs.Exact.{joined, twice, shifted, scaled, exactLane, exactBits}
 
 -- ---- one builder on another's answer
 pub then1 : {w0 w1 w2 : List ℕ} {k m1 m2 : ℕ} {r1 r2 : Built} {a : Node} {wa u w : ℕ} {f g : Expr → Expr}
@@ -49,6 +49,32 @@ then2 {a = a} {b = b} {wa = wa} {wb = wb} e1 e2 =
           let s1 = step s0 (0 ∷ 1 ∷ []) (e1 .made (s0 .valid) (s0 .env .0) (s0 .env .1 .0)) in
           finish (step s1 (0 ∷ []) (e2 .made (s1 .valid) (s1 .env .0))) tt;
     }
+
+pub then-if : {w0 w1 w2 : List ℕ} {k m1 m2 : ℕ} {r1 r2 : Built} {a b : Node} {wa wb u w : ℕ} (used : Bool) {f : Expr → Expr → Expr} {g : Expr → Expr}
+    → BuildsIf w0 k w1 r1 m1 a wa used b wb u f
+    → Builds1 w1 (r1 .count) w2 r2 m2 (r1 .node) u w g ((r1 .node) .0 ∷ [])
+    → BuildsIf w0 k w2 r2 (m1 + m2) a wa used b wb w (λ t s. g (f t s))
+then-if {a = a} {b = b} {wa = wa} {wb = wb} true e1 e2 =
+    record {
+      sized = omega (arith, e1 .sized, e2 .sized);
+      made = λ {ta} {tb} v x y.
+          let s0 = start v (given (a .0) wa ta ∷ given (b .0) wb tb ∷ []) (x, (y refl, tt)) in
+          let s1 = step s0 (0 ∷ 1 ∷ []) (e1 .made (s0 .valid) (s0 .env .0) (λ c. s0 .env .1 .0)) in
+          finish (step s1 (0 ∷ []) (e2 .made (s1 .valid) (s1 .env .0))) tt;
+    }
+then-if {a = a} {wa = wa} false e1 e2 =
+    record {
+      sized = omega (arith, e1 .sized, e2 .sized);
+      made = λ {ta} {tb} v x y.
+          let s0 = start v (given (a .0) wa ta ∷ []) (x, tt) in
+          let s1 = step s0 (0 ∷ []) (e1 .made {tb = tb} (s0 .valid) (s0 .env .0) (λ c. absurd (false≢true c))) in
+          finish (step s1 (0 ∷ []) (e2 .made (s1 .valid) (s1 .env .0))) tt;
+    }
+
+-- what is built by one name of a tree is built by another
+pub same-tree : {w0 w1 : List ℕ} {k m : ℕ} {r : Built} {a b : Node} {wa wb w : ℕ} {used : Bool} {f g : Expr → Expr → Expr} → ((t s : Expr) → g t s ≡ f t s)
+    → BuildsIf w0 k w1 r m a wa used b wb w f → BuildsIf w0 k w1 r m a wa used b wb w g
+same-tree h e = record { sized = e .sized; made = λ {ta} {tb} v x y. rw (h ta tb) (e .made v x y) }
 
 pub join : {w0 w1 w2 w3 : List ℕ} {k : ℕ} {r1 r2 r3 : Built} {a b : Node} {op : BinOp} {sa sb : Bool} {n wide : ℕ}
     → 1 ≤ n
@@ -104,6 +130,17 @@ pub down : {w0 w1 w2 w3 : List ℕ} {k : ℕ} {r1 r2 r3 : Built} {value : Node} 
     → MadeBv w2 (r2 .count) w3 r3 op (r1 .node) (r2 .node)
     → Builds1 w0 k w3 r3 4 value wide wide (λ v. shifted signed rounding v half shift wide) (value .0 ∷ [])
 down signed rounding half shift wide l m h f e1 e2 e3 = rw (← f) (then1 e1 (over l m h e2 e3))
+
+pub up : {w0 w1 w2 w3 : List ℕ} {k : ℕ} {r1 r2 r3 : Built} {value : Node} (shift n wide : ℕ)
+    → shift < n
+    → n ≤ wide
+    → wide ≤ 129
+    → MadeSignExtend w0 k w1 r1 value wide
+    → MadeConst w1 (r1 .count) w2 r2 shift 0 wide
+    → MadeBv w2 (r2 .count) w3 r3 Shl (r1 .node) (r2 .node)
+    → Builds1 w0 k w3 r3 3 value n wide (λ v. scaled v shift wide) (value .0 ∷ [])
+up shift n wide l h m e1 e2 e3 =
+    then1 (record { sized = e1 .sized; made = λ v x. e1 .made v (omega arith) h m x }) (over (omega arith) m (small n shift wide (omega arith) h) e2 e3)
 
 extended : {w0 w1 : List ℕ} {k : ℕ} {r : Built} {a : Node} {n wide : ℕ} {signed : Bool} → 1 ≤ n → n ≤ wide → wide ≤ 129
     → MadeExtend w0 k w1 r a wide signed
@@ -174,6 +211,21 @@ pub unary : {w0 w1 w2 : List ℕ} {k : ℕ} {r1 r2 : Built} {a : Node} {n : ℕ}
 unary negate l m e1 e2 = then1 (extended l (omega arith) (omega arith) e1) e2
 
 -- ---- each kind
+
+-- a lane has 64 bits at most; its exact value has as many bits or more, and 128 at most
+pub record ExactFits (kind : SaturatingKind) (n : ℕ) : Type 0 where
+  pub lane : n ≤ 64
+  pub least : n ≤ exactBits kind n
+  pub most : exactBits kind n ≤ 128
+
+pub exact-fits : (kind : SaturatingKind) (n : ℕ) → KindIn kind n → ExactFits kind n
+exact-fits (AddSub op to) n h = record { lane = omega arith; least = omega arith; most = omega arith }
+exact-fits (Halving rounding) n h = record { lane = omega arith; least = omega arith; most = omega arith }
+exact-fits (Narrow to) n h = record { lane = omega arith; least = omega arith; most = omega arith }
+exact-fits (ShiftNarrow shift rounding to) n h = record { lane = omega (arith, h .0); least = omega arith; most = omega (arith, h .0) }
+exact-fits (Unary negate) n h = record { lane = omega arith; least = omega arith; most = omega arith }
+exact-fits (DoublingMultiplyHigh rounding) n h = record { lane = omega arith; least = omega arith; most = omega arith }
+
 abbrev pub Exact : (w0 : List ℕ) (k : ℕ) (w1 : List ℕ) (r : Built) (kind : SaturatingKind) (a b : Node) (n : ℕ) (signed : Bool) → Type 0
 Exact w0 k w1 r kind a b n signed =
     BuildsIf w0 k w1 r 9 a (kindBits kind n) (usesSecond kind) b (kindBits kind n) (exactBits kind n) (λ a b. exactLane kind a b n signed)

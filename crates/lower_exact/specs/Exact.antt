@@ -1,9 +1,9 @@
--- The exact value that a lane of `saturating_lane` clamps, its width, and the range that it is clamped into.
-use mathlib.Core.Bool.{Bool, true, false, cond}
+-- The exact values that lanes clamp; for those of `saturating_lane` the width, and the range that they are clamped into.
+use mathlib.Core.Bool.{Bool, true}
 use Prim.Native.Nat.{ℕ, _+_, _-_, _*_, _^_}
 use Rattle.terms.specs.declared.BinOp.{BinOp}
 use Rattle.terms.specs.declared.BinOp.the-variants.{Add, Mul, Shl}
-use Rattle.terms.specs.Expr.{Expr, Const, Bv}
+use Rattle.terms.specs.Expr.{Expr, Const, Bv, SignExtend}
 use Rattle.trees.specs.declared.SaturateTo.the-variants.{Signed}
 use Rattle.trees.specs.declared.Saturate.{Saturate}
 use Rattle.trees.specs.declared.Saturate.the-variants.{Never, Into}
@@ -20,6 +20,9 @@ twice a b wide = Bv Shl (joined Mul a true b true wide) (Const 1 wide)
 
 abbrev pub shifted : (signed rounding : Bool) (v : Expr) (half shift wide : ℕ) → Expr
 shifted signed rounding v half shift wide = shiftBy signed (plusIf rounding v (Const half wide)) (Const shift wide)
+
+abbrev pub scaled : (v : Expr) (shift wide : ℕ) → Expr
+scaled v shift wide = Bv Shl (SignExtend v wide) (Const shift wide)
 
 abbrev pub exactLane : SaturatingKind → (a b : Expr) (n : ℕ) (signed : Bool) → Expr
 exactLane (AddSub op to) a b n signed = joined op a signed b signed (n + 1)

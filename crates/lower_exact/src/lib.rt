@@ -7,7 +7,6 @@ use terms::BinOp;
 use trees::Saturate;
 use trees::SaturateTo;
 use trees::SaturatingKind;
-ghost use mathlib.Core.Bool.{true};
 ghost use mathlib.Core.Path.{_≡_};
 ghost use mathlib.Core.List.{[], _∷_};
 ghost use Prim.Native.Nat.{_+_, _*_, _≤_, _<_, _^_};
@@ -15,9 +14,10 @@ ghost use Rattle.pool.specs.Growth.{Room};
 ghost use Rattle.trees.specs.Arith.{kindBits};
 ghost use Rattle.lower.specs.Builds.{Builds1, Builds2, BuildsIf};
 ghost use Rattle.lower_kinds.specs.Sources.{usesSecond, KindIn};
-ghost use Rattle.lower_exact.specs.Exact.{joined, twice, shifted, exactLane, exactBits, kindTo};
+ghost use Rattle.lower_exact.specs.Exact.{joined, shifted, scaled, exactLane, exactBits, kindTo};
 
 pub mod opposite;
+pub mod product;
 
 // Two lanes, each widened by its own sign, under one operator.
 pub fn join(
@@ -39,18 +39,6 @@ pub fn join(
     let wide_a = lower::extend(pool, count, a, wide, signed_a);
     let wide_b = lower::extend(pool, wide_a.count, b, wide, signed_b);
     pool_nodes::bv(pool, wide_b.count, op, wide_a.node, wide_b.node)
-}
-
-// The doubled product of two signed lanes.
-pub fn double(pool: &mut [u64], count: usize, a: Node, b: Node, lane_bits: u64, wide: u64) -> Built
-    requires { ⌜ Room (now pool) count 5 ⌝ }
-    requires { ⌜ (a .0 < count) × (b .0 < count) × (1 ≤ «lane_bits») × («lane_bits» ≤ wide) × (wide ≤ 129) ⌝ }
-    ensures { λ r. ⌜ Builds2 (now (pool .entry)) count (now (pool .exit)) r 5 a «lane_bits» b «lane_bits» wide
-        (λ a b. twice a b wide) (a .0 ∷ b .0 ∷ []) ⌝ }
-{
-    let product = join(pool, count, BinOp::Mul, a, true, b, true, lane_bits, wide);
-    let one = pool_nodes::konst(pool, product.count, 1, 0, wide);
-    pool_nodes::bv(pool, one.count, BinOp::Shl, product.node, one.node)
 }
 
 // A value with a constant added where rounding asks it, shifted to the right.
@@ -75,6 +63,24 @@ pub fn shift_down(
     pool_nodes::bv(pool, by.count, op, rounded.node, by.node)
 }
 
+// A signed lane, widened and shifted to the left.
+pub fn shift_up(
+    pool: &mut [u64],
+    count: usize,
+    value: Node,
+    shift: u64,
+    lane_bits: u64,
+    wide: u64,
+) -> Built
+    requires { ⌜ Room (now pool) count 3 ⌝ }
+    requires { ⌜ (value .0 < count) × (shift < «lane_bits») × («lane_bits» ≤ wide) × (wide ≤ 129) ⌝ }
+    ensures { λ r. ⌜ Builds1 (now (pool .entry)) count (now (pool .exit)) r 3 value «lane_bits» wide (λ v. scaled v shift wide) (value .0 ∷ []) ⌝ }
+{
+    let wide_value = pool_nodes::sign_ext(pool, count, value, wide);
+    let by = pool_nodes::konst(pool, wide_value.count, shift, 0, wide);
+    pool_nodes::bv(pool, by.count, BinOp::Shl, wide_value.node, by.node)
+}
+
 // The range that a kind clamps its exact value into.
 pub fn kind_to(kind: SaturatingKind) -> Saturate
     ensures { λ r. ⌜ r ≡ kindTo kind ⌝ }
@@ -88,8 +94,8 @@ pub fn kind_to(kind: SaturatingKind) -> Saturate
             rounding: _,
             to,
         } => to,
-        SaturatingKind::DoublingMultiplyHigh { rounding: _ } => Saturate::Into(SaturateTo::Signed),
         SaturatingKind::Unary { negate: _ } => Saturate::Into(SaturateTo::Signed),
+        SaturatingKind::DoublingMultiplyHigh { rounding: _ } => Saturate::Into(SaturateTo::Signed),
     }
 }
 
@@ -107,8 +113,8 @@ pub fn exact_bits(kind: SaturatingKind, lane_bits: u64) -> u64
             rounding: _,
             to: _,
         } => lane_bits * 2 + 1,
-        SaturatingKind::DoublingMultiplyHigh { rounding: _ } => lane_bits * 2 + 1,
         SaturatingKind::Unary { negate: _ } => lane_bits + 1,
+        SaturatingKind::DoublingMultiplyHigh { rounding: _ } => lane_bits * 2 + 1,
     }
 }
 
@@ -173,36 +179,7 @@ fn exact_narrow(
     )
 }
 
-// The high half of the doubled product.
-fn exact_high(
-    pool: &mut [u64],
-    count: usize,
-    rounding: bool,
-    a: Node,
-    b: Node,
-    lane_bits: u64,
-) -> Built
-    requires { ⌜ Room (now pool) count 9 ⌝ }
-    requires { ⌜ (a .0 < count) × (b .0 < count) × (1 ≤ «lane_bits») × («lane_bits» ≤ 32) ⌝ }
-    ensures { λ r. ⌜ Builds2 (now (pool .entry)) count (now (pool .exit)) r 9 a «lane_bits» b «lane_bits» («lane_bits» * 2 + 1)
-        (λ a b. exactLane (SaturatingKind.DoublingMultiplyHigh rounding) a b «lane_bits» true) (a .0 ∷ b .0 ∷ []) ⌝ }
-{
-    let wide = lane_bits * 2 + 1;
-    let half = lower::power(lane_bits - 1);
-    let doubled = double(pool, count, a, b, lane_bits, wide);
-    shift_down(
-        pool,
-        doubled.count,
-        true,
-        rounding,
-        doubled.node,
-        half,
-        lane_bits,
-        wide,
-    )
-}
-
-// One lane. `b` is read by the kinds of two sources alone.
+// One lane. With one bit more a sum or a difference is exact. `b` is read by the kinds of two sources alone.
 pub fn exact_lane(
     pool: &mut [u64],
     count: usize,
@@ -251,11 +228,11 @@ pub fn exact_lane(
                 signed_sources,
             )
         }
-        SaturatingKind::DoublingMultiplyHigh { rounding } => {
-            exact_high(pool, count, rounding, a, b, lane_bits)
-        }
         SaturatingKind::Unary { negate } => {
             opposite::exact_unary(pool, count, negate, a, lane_bits)
+        }
+        SaturatingKind::DoublingMultiplyHigh { rounding } => {
+            product::exact_high(pool, count, rounding, a, b, lane_bits)
         }
     }
 }

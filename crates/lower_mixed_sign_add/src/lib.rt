@@ -31,20 +31,16 @@ fn mixed_at(
     let wide = lane_bits + 2;
     let previous = lower_simd::extract_lane(pool, count, d, lane_bits, index);
     let addend = lower_simd::extract_lane(pool, previous.count, first, lane_bits, index);
-    let wide_previous = lower::extend(pool, addend.count, previous.node, wide, destination_signed);
-    let wide_addend = lower::extend(
+    let sum = lower_exact::join(
         pool,
-        wide_previous.count,
-        addend.node,
-        wide,
-        !destination_signed,
-    );
-    let sum = pool_nodes::bv(
-        pool,
-        wide_addend.count,
+        addend.count,
         BinOp::Add,
-        wide_previous.node,
-        wide_addend.node,
+        previous.node,
+        destination_signed,
+        addend.node,
+        !destination_signed,
+        lane_bits,
+        wide,
     );
     lower::arith::clamp(
         pool,

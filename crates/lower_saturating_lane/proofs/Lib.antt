@@ -1,3 +1,1 @@
-pub mod Adding
 pub mod Narrowing
-pub mod Choosing

@@ -1,26 +1,25 @@
 -- What the left shifts of a lane build, from what their calls build. Assumes nothing.
-use Prim.Native.Nat.{ℕ, _+_, _-_, _^_, _≤_, _<_}
+use Prim.Native.Nat.{ℕ, _-_, _^_, _≤_, _<_}
 use mathlib.Core.Path.{_≡_, refl}
 use mathlib.Core.Bool.{Bool, true, false, cond}
 use mathlib.Core.List.{List, [], _∷_}
 use mathlib.Core.Logic.{_⊎_, inl, inr}
 use native.Mathlib.Omega.{arith}
 use lib.Pow.{pow-pos, ones-lt, pow-lt}
-use Rattle.facts.proofs.Numbers.{small}
 use Rattle.terms.specs.declared.BinOp.{BinOp}
 use Rattle.terms.specs.declared.BinOp.the-variants.{Shl, AShr, LShr}
 use Rattle.terms.specs.declared.CmpOp.the-variants.{Eq, Slt}
 use Rattle.terms.specs.Expr.{Expr, Const, Bv}
 use Rattle.pool.specs.declared.Node.{Node}
 use Rattle.pool.specs.declared.Built.{Built}
-use Rattle.pool_nodes.specs.Builders.{MadeConst, MadeBv, MadeCompare, MadeIte, MadeSignExtend}
+use Rattle.pool_nodes.specs.Builders.{MadeConst, MadeBv, MadeCompare, MadeIte}
 use Rattle.pool.proofs.Steps.{start, step, finish, given, spare}
 use Rattle.trees.specs.declared.SaturateTo.{SaturateTo}
 use Rattle.trees.specs.declared.SaturateTo.the-variants.{Signed, Unsigned, SignedToUnsigned}
 use Rattle.trees.specs.declared.Saturate.{Saturate}
 use Rattle.trees.specs.declared.Saturate.the-variants.{Never, Into}
 use Rattle.trees.specs.Lower.{unsignedMax}
-use Rattle.trees.specs.Arith.{clamp, shiftBound, saturatingShiftLeft, leftImmediate, leftBy}
+use Rattle.trees.specs.Arith.{shiftBound, saturatingShiftLeft, leftImmediate, leftBy}
 use Rattle.lower.specs.Builds.{Builds1, Builds2}
 use Rattle.lower_shift_lane.proofs.Shifting.{one-op, by-constant}
 
@@ -91,29 +90,6 @@ saturating {value = value} {amount = amount} {n = n} signed l m f e1 e2 e3 e4 e5
     })
 
 -- ---- by an immediate
-pub exact-left : {w0 w1 w2 w3 w4 : List ℕ} {k : ℕ} {r1 r2 r3 r4 : Built} {value : Node} {n wide shift : ℕ}
-    → 1 ≤ n
-    → shift < n
-    → n ≤ 64
-    → wide ≡ n + shift + 1
-    → MadeSignExtend w0 k w1 r1 value wide
-    → MadeConst w1 (r1 .count) w2 r2 shift 0 wide
-    → MadeBv w2 (r2 .count) w3 r3 Shl (r1 .node) (r2 .node)
-    → Builds1 w3 (r3 .count) w4 r4 7 (r3 .node) wide n (λ v. clamp v wide n SignedToUnsigned) ((r3 .node) .0 ∷ [])
-    → Builds1 w0 k w4 r4 10 value n n (λ v. leftImmediate (Into SignedToUnsigned) v shift n true) (value .0 ∷ [])
-exact-left {value = value} {n = n} {wide = wide} {shift = shift} l h m e e1 e2 e3 e4 =
-    let shift-fits : shift < 2 ^ wide = small n shift wide (omega arith) (omega arith) in
-    rw (← e)
-    (record {
-      sized = omega (arith, e1 .sized, e2 .sized, e3 .sized, e4 .sized);
-      made = λ {ta} v x.
-          let s0 = start v (given (value .0) n ta ∷ []) (x, tt) in
-          let s1 = step s0 (0 ∷ []) (e1 .made (s0 .valid) l (omega arith) (omega arith) (s0 .env .0)) in
-          let s2 = step s1 [] (e2 .made (s1 .valid) (omega arith) (omega arith) (omega arith) shift-fits) in
-          let s3 = step s2 (1 ∷ 0 ∷ []) (e3 .made (s2 .valid) (omega arith) (omega arith) (s2 .env .1 .0) (s2 .env .0)) in
-          finish (step s3 (0 ∷ []) (e4 .made (s3 .valid) (s3 .env .0))) tt;
-    })
-
 -- SQSHLU's clamp does not go by the flag
 pub left-exact : {w0 w1 : List ℕ} {k : ℕ} {r : Built} {value : Node} {n : ℕ} (shift : ℕ) (signed : Bool) {to : SaturateTo} → to ≡ SignedToUnsigned
     → Builds1 w0 k w1 r 10 value n n (λ v. leftImmediate (Into SignedToUnsigned) v shift n true) (value .0 ∷ [])

@@ -12,7 +12,7 @@ ghost use Prim.Native.Nat.{_+_, _*_, _/_, _≤_, _<_};
 ghost use Rattle.pool.specs.Growth.{Room};
 ghost use Rattle.trees.specs.declared.Combine.{Combine};
 ghost use Rattle.trees.specs.Simd.{extractLane};
-ghost use Rattle.lower.specs.Builds.{Builds2, Lowers, read, readIf, unread, Below};
+ghost use Rattle.lower.specs.Builds.{Builds2, Lowers, read, readIf, Below};
 ghost use Rattle.lower_exact.specs.Exact.{joined};
 ghost use Rattle.lower_doubling_long.specs.Elements.{accumulates};
 ghost use Rattle.saturation.specs.Bits.{clipped, productBit, doublingLongBit};
@@ -26,7 +26,7 @@ fn product_bit(pool: &mut [u64], count: usize, a: Node, b: Node, lane_bits: u64)
 {
     let wide = lane_bits + 1;
     let to = SaturateTo::Signed;
-    let value = lower_exact::double(pool, count, a, b, lane_bits / 2, wide);
+    let value = lower_exact::product::double(pool, count, a, b, lane_bits / 2, wide);
     clip(pool, value.count, value.node, wide, lane_bits, to)
 }
 
@@ -67,7 +67,7 @@ fn either_bit(
 {
     let wide = lane_bits + 1;
     let to = SaturateTo::Signed;
-    let value = lower_exact::double(pool, count, a, b, lane_bits / 2, wide);
+    let value = lower_exact::product::double(pool, count, a, b, lane_bits / 2, wide);
     let first = clip(pool, value.count, value.node, wide, lane_bits, to);
     let product = lower::arith::clamp(pool, first.count, value.node, wide, lane_bits, to);
     let second = sum_bit(pool, product.count, op, d, product.node, lane_bits);

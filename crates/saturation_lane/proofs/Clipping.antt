@@ -1,7 +1,7 @@
 -- The bit of a clamp, from what its calls build, and those of the lanes that clamp an exact value. Assumes nothing.
-use Prim.Native.Nat.{ℕ, _+_, _-_, _*_, _^_, _≤_, _<_}
-use mathlib.Core.Path.{_≡_, refl, sym, _∙_}
-use mathlib.Core.Bool.{Bool, true, false, cond, not}
+use Prim.Native.Nat.{ℕ, _+_, _-_, _^_, _≤_, _<_}
+use mathlib.Core.Path.{_≡_, refl}
+use mathlib.Core.Bool.{Bool, cond, not}
 use mathlib.Core.List.{List, [], _∷_}
 use native.Mathlib.Omega.{arith}
 use Rattle.terms.specs.declared.BinOp.the-variants.{Add}
@@ -15,16 +15,15 @@ use Rattle.pool_nodes.specs.Builders.{MadeConst, MadeCompare, MadeIte}
 use Rattle.pool.proofs.Steps.{start, step, finish, given}
 use Rattle.trees.specs.declared.SaturateTo.{SaturateTo}
 use Rattle.trees.specs.declared.SaturateTo.the-variants.{Signed, Unsigned, SignedToUnsigned}
-use Rattle.trees.specs.declared.Saturate.{Saturate}
-use Rattle.trees.specs.declared.Saturate.the-variants.{Never, Into}
+use Rattle.trees.specs.declared.Saturate.the-variants.{Into}
 use Rattle.trees.specs.declared.SaturatingKind.{SaturatingKind}
 use Rattle.trees.specs.declared.SaturatingKind.the-variants.{AddSub, Halving, Narrow, ShiftNarrow, DoublingMultiplyHigh, Unary}
 use Rattle.trees.specs.Lower.{unsignedMax}
 use Rattle.trees.specs.Arith.{kindBits}
-use Rattle.lower.specs.Builds.{Builds1, Builds2, BuildsIf, listIf}
-use Rattle.lower_kinds.specs.Sources.{usesSecond, KindIn}
+use Rattle.lower.specs.Builds.{Builds1, Builds2, BuildsIf}
+use Rattle.lower_kinds.specs.Sources.{usesSecond}
 use Rattle.lower_exact.specs.Exact.{joined, exactLane, exactBits, kindTo}
-use Rattle.lower_exact.proofs.Exactly.{then2}
+use Rattle.lower_exact.proofs.Exactly.{then2, then-if, same-tree}
 use Rattle.saturation.specs.Bits.{no, yes, clippedBetween, clipped, narrowBit, saturatingBit, mixedSignBit}
 
 pub one-where : {w0 w1 w2 : List ℕ} {k : ℕ} {r1 r2 : Built} {test other : Node}
@@ -124,46 +123,13 @@ bit-of (ShiftNarrow shift rounding to) a b n signed = refl
 bit-of (DoublingMultiplyHigh rounding) a b n signed = refl
 bit-of (Unary negate) a b n signed = refl
 
-pub record ExactFits (kind : SaturatingKind) (n : ℕ) : Type 0 where
-  pub least : n ≤ exactBits kind n
-  pub most : exactBits kind n ≤ 128
-
-pub exact-fits : (kind : SaturatingKind) (n : ℕ) → KindIn kind n → ExactFits kind n
-exact-fits (AddSub op to) n h = record { least = omega arith; most = omega arith }
-exact-fits (Halving rounding) n h = record { least = omega arith; most = omega arith }
-exact-fits (Narrow to) n h = record { least = omega arith; most = omega arith }
-exact-fits (ShiftNarrow shift rounding to) n h = record { least = omega arith; most = omega (arith, h .0) }
-exact-fits (DoublingMultiplyHigh rounding) n h = record { least = omega arith; most = omega arith }
-exact-fits (Unary negate) n h = record { least = omega arith; most = omega arith }
-
 pub saturating : {w0 w1 w2 : List ℕ} {k : ℕ} {r1 r2 : Built} (kind : SaturatingKind) (to : SaturateTo) {a b : Node} (n : ℕ) (signed : Bool) {wide : ℕ}
     → wide ≡ exactBits kind n
     → kindTo kind ≡ Into to
     → BuildsIf w0 k w1 r1 9 a (kindBits kind n) (usesSecond kind) b (kindBits kind n) (exactBits kind n) (λ a b. exactLane kind a b n signed)
     → Builds1 w1 (r1 .count) w2 r2 9 (r1 .node) wide 1 (λ v. clipped v wide n to) ((r1 .node) .0 ∷ [])
     → BuildsIf w0 k w2 r2 18 a (kindBits kind n) (usesSecond kind) b (kindBits kind n) 1 (λ a b. saturatingBit kind a b n signed)
-saturating {w0} {w1} {w2} {k} {r1} {r2} kind to {a} {b} n signed {wide} q p e1 e2 = go (usesSecond kind) refl (rw q at e2)
-  where
-    go : (u : Bool) → usesSecond kind ≡ u → Builds1 w1 (r1 .count) w2 r2 9 (r1 .node) (exactBits kind n) 1 (λ v. clipped v (exactBits kind n) n to) ((r1 .node) .0 ∷ [])
-        → BuildsIf w0 k w2 r2 18 a (kindBits kind n) (usesSecond kind) b (kindBits kind n) 1 (λ a b. saturatingBit kind a b n signed)
-    go true u e =
-        rw u
-        (record {
-          sized = omega (arith, e1 .sized, e .sized);
-          made = λ {ta} {tb} v x y.
-              let s0 = start v (given (a .0) (kindBits kind n) ta ∷ given (b .0) (kindBits kind n) tb ∷ []) (x, (y refl, tt)) in
-              let s1 = step s0 (0 ∷ 1 ∷ []) (rw u at (e1 .made (s0 .valid) (s0 .env .0) (λ c. s0 .env .1 .0))) in
-              rw (bit-of kind ta tb n signed, p) (finish (step s1 (0 ∷ []) (e .made (s1 .valid) (s1 .env .0))) tt);
-        })
-    go false u e =
-        rw u
-        (record {
-          sized = omega (arith, e1 .sized, e .sized);
-          made = λ {ta} {tb} v x y.
-              let s0 = start v (given (a .0) (kindBits kind n) ta ∷ []) (x, tt) in
-              let s1 = step s0 (0 ∷ []) (rw u at (e1 .made {tb = tb} (s0 .valid) (s0 .env .0) (λ c. absurd (mathlib.Core.Bool.false≢true (sym u ∙ c))))) in
-              rw (bit-of kind ta tb n signed, p) (finish (step s1 (0 ∷ []) (e .made (s1 .valid) (s1 .env .0))) tt);
-        })
+saturating kind to n signed q p e1 e2 = same-tree (λ a b. rw p at (bit-of kind a b n signed)) (then-if (usesSecond kind) e1 (rw q at e2))
 
 -- ---- the sums of mixed sign
 pub mixed : {w0 w1 w2 : List ℕ} {k : ℕ} {r1 r2 : Built} {d a : Node} (n : ℕ) (signed : Bool) {other : Bool} {to : SaturateTo}

@@ -1,5 +1,5 @@
 -- The bits of the shifts, from what their calls build. Assumes nothing.
-use Prim.Native.Nat.{ℕ, _+_, _-_, _*_, _^_, _≤_, _<_}
+use Prim.Native.Nat.{ℕ, _-_, _^_, _≤_, _<_}
 use mathlib.Core.Path.{_≡_, refl, sym, ap, _∙_}
 use mathlib.Core.Bool.{Bool, true, false, cond, not, false≢true}
 use mathlib.Core.List.{List, [], _∷_}
@@ -13,7 +13,7 @@ use Rattle.terms.specs.declared.CmpOp.the-variants.{Eq, Slt}
 use Rattle.terms.specs.Expr.{Expr, Const}
 use Rattle.pool.specs.declared.Node.{Node}
 use Rattle.pool.specs.declared.Built.{Built}
-use Rattle.pool_nodes.specs.Builders.{MadeConst, MadeBv, MadeCompare, MadeIte, MadeSignExtend}
+use Rattle.pool_nodes.specs.Builders.{MadeConst, MadeBv, MadeCompare, MadeIte}
 use Rattle.pool.proofs.Steps.{start, step, finish, given}
 use Rattle.trees.specs.declared.SaturateTo.{SaturateTo}
 use Rattle.trees.specs.declared.SaturateTo.the-variants.{Signed, Unsigned, SignedToUnsigned}
@@ -23,7 +23,7 @@ use Rattle.trees.specs.declared.ShiftKind.{ShiftKind}
 use Rattle.trees.specs.declared.ShiftKind.the-variants.{LeftImmediate, RightImmediate, Register}
 use Rattle.lower.specs.Builds.{Builds1, Builds2, BuildsIf}
 use Rattle.lower_kinds.specs.Sources.{isRegister}
-use Rattle.saturation.specs.Bits.{clipped, lost, leftBit, shiftedBit, saturableTo, saturableShift}
+use Rattle.saturation.specs.Bits.{lost, leftBit, shiftedBit, saturableTo, saturableShift}
 
 pub is-lost : {w0 w1 w2 w3 w4 w5 w6 : List ℕ} {k : ℕ} {r1 r2 r3 r4 r5 r6 : Built} {value amount : Node} {op : BinOp} {n : ℕ} (signed : Bool)
     → 1 ≤ n
@@ -50,26 +50,6 @@ is-lost {value = value} {amount = amount} {n = n} signed l m f e1 e2 e3 e4 e5 e6
           let s5 = step s4 [] (e5 .made (s4 .valid) (omega arith) (omega arith) refl (omega arith)) in
           finish (step s5 (2 ∷ 1 ∷ 0 ∷ []) (e6 .made (s5 .valid) (omega arith) (omega arith) (s5 .env .1 .1 .0) (s5 .env .1 .0) (s5 .env .0))) tt;
     })
-
-pub exact-left : {w0 w1 w2 w3 w4 : List ℕ} {k : ℕ} {r1 r2 r3 r4 : Built} {value : Node} (shift n : ℕ)
-    → shift < n
-    → n ≤ 64
-    → MadeSignExtend w0 k w1 r1 value (n + shift + 1)
-    → MadeConst w1 (r1 .count) w2 r2 shift 0 (n + shift + 1)
-    → MadeBv w2 (r2 .count) w3 r3 Shl (r1 .node) (r2 .node)
-    → Builds1 w3 (r3 .count) w4 r4 9 (r3 .node) (n + shift + 1) 1 (λ v. clipped v (n + shift + 1) n SignedToUnsigned) ((r3 .node) .0 ∷ [])
-    → Builds1 w0 k w4 r4 12 value n 1 (λ v. leftBit (Into SignedToUnsigned) v shift n true) (value .0 ∷ [])
-exact-left {value = value} shift n l m e1 e2 e3 e4 =
-    let fits : shift < 2 ^ (n + shift + 1) = small n shift (n + shift + 1) (omega arith) (omega arith) in
-    record {
-      sized = omega (arith, e1 .sized, e2 .sized, e3 .sized, e4 .sized);
-      made = λ {ta} v x.
-          let s0 = start v (given (value .0) n ta ∷ []) (x, tt) in
-          let s1 = step s0 (0 ∷ []) (e1 .made (s0 .valid) (omega arith) (omega arith) (omega arith) (s0 .env .0)) in
-          let s2 = step s1 [] (e2 .made {v = shift} (s1 .valid) (omega arith) (omega arith) (omega arith) fits) in
-          let s3 = step s2 (1 ∷ 0 ∷ []) (e3 .made (s2 .valid) (omega arith) (omega arith) (s2 .env .1 .0) (s2 .env .0)) in
-          finish (step s3 (0 ∷ []) (e4 .made (s3 .valid) (s3 .env .0))) tt;
-    }
 
 pub left-exact : {w0 w1 : List ℕ} {k : ℕ} {r : Built} {value : Node} {to : SaturateTo} (shift n : ℕ) (signed : Bool)
     → to ≡ SignedToUnsigned

@@ -34,14 +34,14 @@ add-result-3 c = search needs
 enum-told-5 : tie.Need-enum-told-5
 enum-told-5 c = search needs
 
-mul-result-3 : tie.Need-mul-result-3
-mul-result-3 c = search needs
-
 add-result-4 : tie.Need-add-result-4
 add-result-4 c = search needs
 
 enum-told-6 : tie.Need-enum-told-6
 enum-told-6 c = search needs
+
+mul-result-3 : tie.Need-mul-result-3
+mul-result-3 c = search needs
 
 add-result-5 : tie.Need-add-result-5
 add-result-5 c = search needs
@@ -102,9 +102,9 @@ exact-bits-spec =
     mul-result-2
     add-result-3
     enum-told-5
-    mul-result-3
     add-result-4
     enum-told-6
+    mul-result-3
     add-result-5
     returns
     returns-2

@@ -56,8 +56,8 @@ exact-narrow-requires c κs =
 enum-known-kind-4 : tie.Need-enum-known-kind-4
 enum-known-kind-4 c = search needs
 
-exact-high-requires : tie.Need-exact-high-requires
-exact-high-requires c κs =
+exact-unary-requires : tie.Need-exact-unary-requires
+exact-unary-requires c κs =
     let l-known-told4 = c .before in
     let l-kind4 = l-known-told4 .before in
     let l-match = l-kind4 .before in
@@ -67,8 +67,8 @@ exact-high-requires c κs =
 enum-known-kind-5 : tie.Need-enum-known-kind-5
 enum-known-kind-5 c = search needs
 
-exact-unary-requires : tie.Need-exact-unary-requires
-exact-unary-requires c κs =
+exact-high-requires : tie.Need-exact-high-requires
+exact-high-requires c κs =
     let l-known-told5 = c .before in
     let l-kind5 = l-known-told5 .before in
     let l-match = l-kind5 .before in
@@ -123,24 +123,24 @@ same-length-4 c = search needs
 
 returns-5 : tie.Need-returns-5
 returns-5 c =
-    let l-exact-high = c .before .before in
-    let l-known-told4 = l-exact-high .before .before in
+    let l-exact-unary = c .before .before in
+    let l-known-told4 = l-exact-unary .before .before in
     let l-kind4 = l-known-told4 .before in
     let l-match = l-kind4 .before in
     let st = l-match .before .before in
-    is-multiply-high (st .args .lane-bits) (st .args .signed-sources) (l-kind4 .kind4 .given .1) (l-exact-high .exact-high .ensures)
+    is-unary (st .args .lane-bits) (st .args .signed-sources) (l-kind4 .kind4 .given .1) (l-exact-unary .exact-unary .ensures)
 
 same-length-5 : tie.Need-same-length-5
 same-length-5 c = search needs
 
 returns-6 : tie.Need-returns-6
 returns-6 c =
-    let l-exact-unary = c .before .before in
-    let l-known-told5 = l-exact-unary .before .before in
+    let l-exact-high = c .before .before in
+    let l-known-told5 = l-exact-high .before .before in
     let l-kind5 = l-known-told5 .before in
     let l-match = l-kind5 .before in
     let st = l-match .before .before in
-    is-unary (st .args .lane-bits) (st .args .signed-sources) (l-kind5 .kind5 .given .1) (l-exact-unary .exact-unary .ensures)
+    is-multiply-high (st .args .lane-bits) (st .args .signed-sources) (l-kind5 .kind5 .given .1) (l-exact-high .exact-high .ensures)
 
 pub exact-lane-spec : {M : Type 1} → statement M
 exact-lane-spec =
@@ -155,9 +155,9 @@ exact-lane-spec =
     enum-known-kind-3
     exact-narrow-requires
     enum-known-kind-4
-    exact-high-requires
-    enum-known-kind-5
     exact-unary-requires
+    enum-known-kind-5
+    exact-high-requires
     same-length
     returns
     same-length-2

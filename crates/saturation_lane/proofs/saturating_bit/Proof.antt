@@ -1,6 +1,7 @@
 -- saturating_bit: the clamp's tests over the exact value.
 use native.Mathlib.Omega.{arith}
-use Rattle.saturation_lane.proofs.Clipping.{exact-fits, saturating}
+use Rattle.lower_exact.proofs.Exactly.{exact-fits}
+use Rattle.saturation_lane.proofs.Clipping.{saturating}
 use borrow.Author.Needs.{needs}
 use Rattle.saturation_lane.proofs.saturating_bit.Statement.{statement}
 use Rattle.saturation_lane.proofs.saturating_bit.Tie as tie

@@ -2,8 +2,8 @@
 use native.Mathlib.Omega.{arith}
 use Rattle.lower_exact.proofs.Exactly.{double}
 use borrow.Author.Needs.{needs}
-use Rattle.lower_exact.proofs.double.Statement.{statement}
-use Rattle.lower_exact.proofs.double.Tie as tie
+use Rattle.lower_exact.proofs.product.double.Statement.{statement}
+use Rattle.lower_exact.proofs.product.double.Tie as tie
 
 join-requires : tie.Need-join-requires
 join-requires c κs = search needs

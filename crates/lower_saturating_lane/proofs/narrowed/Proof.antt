@@ -1,8 +1,8 @@
 -- `narrowed` meets its contract: without saturation the low bits, else the clamp.
 use Rattle.lower_saturating_lane.proofs.Narrowing.{narrowed-never, narrowed-into}
 use borrow.Author.Needs.{needs}
-use Rattle.lower_saturating_lane.proofs.narrow.narrowed.Statement.{statement}
-use Rattle.lower_saturating_lane.proofs.narrow.narrowed.Tie as tie
+use Rattle.lower_saturating_lane.proofs.narrowed.Statement.{statement}
+use Rattle.lower_saturating_lane.proofs.narrowed.Tie as tie
 
 enum-told : tie.Need-enum-told
 enum-told c = search needs

@@ -4,8 +4,8 @@ use Prim.Native.Nat.{_+_, _*_}
 use Rattle.facts.proofs.Numbers.{small, half-fits}
 use Rattle.lower_exact.proofs.Exactly.{high}
 use borrow.Author.Needs.{needs}
-use Rattle.lower_exact.proofs.exact_high.Statement.{statement}
-use Rattle.lower_exact.proofs.exact_high.Tie as tie
+use Rattle.lower_exact.proofs.product.exact_high.Statement.{statement}
+use Rattle.lower_exact.proofs.product.exact_high.Tie as tie
 
 mul-wide : tie.Need-mul-wide
 mul-wide c = search needs
