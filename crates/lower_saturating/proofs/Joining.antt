@@ -3,11 +3,13 @@ use Prim.Native.Nat.{ℕ, _+_, _-_, _*_, _≤_, _<_}
 use mathlib.Core.Path.{_≡_, refl, sym}
 use mathlib.Core.Bool.{Bool, true, false, cond, false≢true}
 use mathlib.Core.List.{List, [], _∷_}
+use mathlib.Core.Logic.{_⊎_, inl, inr}
 use native.Mathlib.Omega.{arith}
 use native.Mathlib.Nat.{mul-le-mul-left}
 use Rattle.terms.specs.Expr.{Expr}
 use Rattle.pool.specs.declared.Node.{Node}
 use Rattle.pool.specs.declared.Built.{Built}
+use Rattle.pool_nodes.specs.Builders.{Takes}
 use Rattle.pool.proofs.Steps.{start, step, finish, spare}
 use Rattle.trees.specs.declared.SaturatingKind.{SaturatingKind}
 use Rattle.trees.specs.declared.SaturatingKind.the-variants.{AddSub, Halving, Narrow, ShiftNarrow, DoublingMultiplyHigh, Unary}
@@ -36,7 +38,7 @@ made-most kind n lanes h = omega (arith, mul-le-mul-left lanes (source-least kin
 lane-of : {w0 w1 : List ℕ} {k : ℕ} {r : Built} {value : Node} {bits m j : ℕ} → bits ≡ m → MadeLane w0 k w1 r value bits j → MadeLane w0 k w1 r value m j
 lane-of e d = rw (← e) d
 
-pub at-two : {w0 w1 w2 w3 : List ℕ} {k : ℕ} {r1 r2 r3 : Built} {first second : Node} {bits n lanes j : ℕ} (kind : SaturatingKind) (signed : Bool)
+at-two : {w0 w1 w2 w3 : List ℕ} {k : ℕ} {r1 r2 r3 : Built} {first second : Node} {bits n lanes j : ℕ} (kind : SaturatingKind) (signed : Bool)
     → j < lanes
     → bits ≡ kindBits kind n
     → usesSecond kind ≡ true
@@ -67,7 +69,7 @@ no-second (ShiftNarrow shift rounding to) q a b c n signed = refl
 no-second (DoublingMultiplyHigh rounding) q a b c n signed = absurd (false≢true (sym q))
 no-second (Unary negate) q a b c n signed = refl
 
-pub at-one : {w0 w1 w2 : List ℕ} {k : ℕ} {r1 r2 : Built} {first second : Node} {bits n lanes j : ℕ} (kind : SaturatingKind) (signed : Bool)
+at-one : {w0 w1 w2 : List ℕ} {k : ℕ} {r1 r2 : Built} {first second : Node} {bits n lanes j : ℕ} (kind : SaturatingKind) (signed : Bool)
     → j < lanes
     → bits ≡ kindBits kind n
     → usesSecond kind ≡ false
@@ -85,6 +87,32 @@ at-one {first = first} {second = second} {n = n} {lanes = lanes} {j = j} kind si
           rw (no-second kind q (extractLane ta (kindBits kind n) j) (extractLane tb (kindBits kind n) j) (extractLane ta (kindBits kind n) j) n signed)
           (finish (step s1 (0 ∷ []) (rw q at (e2 .made (s1 .valid) (s1 .env .0) (λ u. s1 .env .0)))) tt);
     }
+
+-- the second lane, cut from its source; or the first one again, where the kind has no second source
+abbrev pub Second : (w1 : List ℕ) (r1 : Built) (w2 : List ℕ) (r2 : Built) (used : Bool) (second : Node) (bits j : ℕ) → Type 0
+Second w1 r1 w2 r2 used second bits j = ((used ≡ true) × MadeLane w1 (r1 .count) w2 r2 second bits j) ⊎ ((used ≡ false) × (w2 ≡ w1) × (r2 ≡ r1))
+
+-- what both take
+pub record Both (w0 : List ℕ) (k : ℕ) (w2 : List ℕ) (r1 r2 : Built) : Type 0 where
+  pub both : Takes w0 k w2 r2 2
+  pub first-under : r1 .node .0 < r2 .count
+
+pub both-sized : {w0 w1 w2 : List ℕ} {k : ℕ} {r1 r2 : Built} {first second : Node} {bits j : ℕ} {used : Bool}
+    → MadeLane w0 k w1 r1 first bits j
+    → Second w1 r1 w2 r2 used second bits j
+    → Both w0 k w2 r1 r2
+both-sized e (inl p) = record { both = omega (arith, e .sized, p .1 .sized); first-under = omega (arith, e .sized, p .1 .sized) }
+both-sized e (inr p) = rw (p .1, p .2) (record { both = omega (arith, e .sized); first-under = e .sized .under })
+
+pub at-lane : {w0 w1 w2 w3 : List ℕ} {k : ℕ} {r1 r2 r3 : Built} {first second : Node} {bits n lanes j : ℕ} (kind : SaturatingKind) (signed : Bool)
+    → j < lanes
+    → bits ≡ kindBits kind n
+    → MadeLane w0 k w1 r1 first bits j
+    → Second w1 r1 w2 r2 (usesSecond kind) second bits j
+    → BuildsIf w2 (r2 .count) w3 r3 16 (r1 .node) (kindBits kind n) (usesSecond kind) (r2 .node) (kindBits kind n) n (λ a b. saturatingLane kind a b n signed)
+    → Lowers w0 k w3 r3 18 n unread (read first (kindBits kind n * lanes)) (readIf (usesSecond kind) second (kindBits kind n * lanes)) (λ d a b. saturatingAt kind signed n a b j) []
+at-lane kind signed h e e1 (inl p) e3 = at-two kind signed h e (p .0) e1 (p .1) e3
+at-lane kind signed h e e1 (inr p) e3 = at-one kind signed h e (p .0) e1 (rw (p .1, p .2) at e3)
 
 -- ---- all lanes, with the lower half of the old destination below them in the 2 forms
 

@@ -35,24 +35,16 @@ fn saturating_at(
 {
     let bits = source_bits(kind, lane_bits);
     let a = lower_simd::extract_lane(pool, count, first, bits, index);
+    let mut b = a;
     if uses_second(kind) {
-        let b = lower_simd::extract_lane(pool, a.count, second, bits, index);
-        return lower_saturating_lane::saturating_lane(
-            pool,
-            b.count,
-            kind,
-            a.node,
-            b.node,
-            lane_bits,
-            signed_sources,
-        );
+        b = lower_simd::extract_lane(pool, a.count, second, bits, index);
     }
     lower_saturating_lane::saturating_lane(
         pool,
-        a.count,
+        b.count,
         kind,
         a.node,
-        a.node,
+        b.node,
         lane_bits,
         signed_sources,
     )

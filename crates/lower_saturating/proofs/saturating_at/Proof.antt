@@ -1,11 +1,12 @@
 -- saturating_at builds `saturatingAt`, one lane, of one source lane or of two
 use native.Mathlib.Omega.{arith}
 use mathlib.Core.Bool.{true}
+use mathlib.Core.Logic.{⊎-elim, inl, inr}
 use mathlib.Core.Path.{_≡_, sym, subst, _∙_}
 use Prim.Native.Nat.{ℕ, _+_, _*_, _≤_}
 use Rattle.lower_kinds.specs.Sources.{usesSecond}
 use Rattle.lower.proofs.Lanes.{lane-fits}
-use Rattle.lower_saturating.proofs.Joining.{source-least, at-two, at-one}
+use Rattle.lower_saturating.proofs.Joining.{source-least, Second, both-sized, at-lane}
 use borrow.Author.Needs.{needs}
 use Rattle.lower_saturating.proofs.saturating_at.Statement.{statement}
 use Rattle.lower_saturating.proofs.saturating_at.Tie as tie
@@ -30,7 +31,7 @@ first c = c .before .before .before
 abbrev bits : tie.After-uses-second → tie.After-source-bits
 bits c = first c .before .before
 
--- ---- two sources
+-- ---- the lanes of the sources
 
 source-bits-requires : tie.Need-source-bits-requires
 source-bits-requires c κs = search needs
@@ -50,53 +51,35 @@ extract-lane-requires-2 c κs =
     let s = entry (bits (u .before)) in
     omega (arith, s .pre .0, s .pre .1 .0 .1 (used u), first (u .before) .extract-lane .ensures .sized, fits (bits (u .before)))
 
+second : (c : tie.Joined1) → let u = c .before in let s = entry (bits u) .args in let a = first u .extract-lane in
+    Second (a .last .0) (a .result) (c .if1 .pool) (c .if1 .b) (usesSecond (s .kind)) (s .second) (bits u .source-bits .result) (s .index .0)
+second c =
+    let e = sym (c .before .uses-second .ensures) in
+    ⊎-elim (λ w. inl (e ∙ w .0 .taken, rw (w .5, w .6) (w .2 .ensures))) (λ w. inr (e ∙ w .0 .left, w .1, w .2)) (c .if1 .came)
+
+-- ---- the lane
+
 saturating-lane-requires : tie.Need-saturating-lane-requires
 saturating-lane-requires c κs =
-    let b = c .before .before .before in
-    let a = b .before .before .before .before .before .before in
-    let s = entry (a .before .before) in (
-      omega (arith, s .pre .0, a .extract-lane .ensures .sized, b .extract-lane2 .ensures .sized),
-      (
-        omega (arith, a .extract-lane .ensures .sized, b .extract-lane2 .ensures .sized),
-        b .extract-lane2 .ensures .sized .under,
-        s .pre .1 .1 .0,
-        s .pre .1 .1 .2,
-      ),
-    )
+    let j = c .before in
+    let u = j .before in
+    let s = entry (bits u) in
+    let t = both-sized (first u .extract-lane .ensures) (second j) in
+    (omega (arith, s .pre .0, t .both), (t .first-under, t .both .under, s .pre .1 .1 .0, s .pre .1 .1 .2))
 
 same-length : tie.Need-same-length
-same-length c = search needs
+same-length c =
+    let l = c .before .before in
+    let j = l .before .before in
+    omega (arith, both-sized (first (j .before) .extract-lane .ensures) (second j) .both, l .saturating-lane .ensures .sized)
 
 returns : tie.Need-returns
 returns c =
     let l = c .before .before in
-    let b = l .before .before .before .before in
-    let u = b .before .before in
-    let k = bits (u .before) in
-    let s = entry k in
-    at-two (s .args .kind) (s .args .signed-sources) (s .pre .1 .1 .3) (k .source-bits .ensures) (used u) (first (u .before) .extract-lane .ensures)
-    (b .extract-lane2 .ensures) (l .saturating-lane .ensures)
-
--- ---- one
-
-saturating-lane-requires-2 : tie.Need-saturating-lane-requires-2
-saturating-lane-requires-2 c κs =
-    let a = c .before .before .before .before .before in
-    let s = entry (a .before .before) in
-    let under = a .extract-lane .ensures .sized .under in
-    (omega (arith, s .pre .0, a .extract-lane .ensures .sized), (under, under, s .pre .1 .1 .0, s .pre .1 .1 .2))
-
-same-length-2 : tie.Need-same-length-2
-same-length-2 c = search needs
-
-returns-2 : tie.Need-returns-2
-returns-2 c =
-    let l = c .before .before in
-    let e = l .before .before in
-    let u = e .before in
+    let j = l .before .before in
+    let u = j .before in
     let s = entry (bits u) in
-    at-one (s .args .kind) (s .args .signed-sources) (s .pre .1 .1 .3) (bits u .source-bits .ensures) (sym (u .uses-second .ensures) ∙ e .if1 .left)
-    (first u .extract-lane .ensures) (l .saturating-lane2 .ensures)
+    at-lane (s .args .kind) (s .args .signed-sources) (s .pre .1 .1 .3) (bits u .source-bits .ensures) (first u .extract-lane .ensures) (second j) (l .saturating-lane .ensures)
 
 pub saturating-at-spec : {M : Type 1} → statement M
 saturating-at-spec =
@@ -108,7 +91,4 @@ saturating-at-spec =
     extract-lane-requires-2
     saturating-lane-requires
     same-length
-    returns
-    saturating-lane-requires-2
-    same-length-2
-    returns-2)
+    returns)
