@@ -2,27 +2,25 @@
 use block_check::MOST_RECORDS;
 use block_check::records_refusal;
 use block_record_check::record_at;
+use family::first_by;
+use family::layout_of;
+use family::second_by;
+use family::skip_by;
+use family::source_by;
 use neon::Instruction;
-use run_lanes::lane_at;
-use trees::NeonOp;
-use trees::SaturatingKind;
-use wide::Wide;
-use wide::add;
-use wide::low_bits;
-use wide::shl;
 ghost use mathlib.Core.Path.{_≡_};
-ghost use Prim.Native.Nat.{_+_, _*_, _/_, _%_, _^_, _<_, _≤_};
+ghost use Prim.Native.Nat.{_<_};
 ghost use Rattle.neon.specs.Op.{opAt, arrangementAt};
 ghost use Rattle.neon.specs.Run.{readBits};
 ghost use Rattle.neon.proofs.Legal.{Formed};
 ghost use Rattle.neon.specs.Refusal.{Legal, AllLegal};
 ghost use Rattle.block_check.specs.Records.{recordsOf};
-ghost use Rattle.trees.specs.Arith.{narrowing};
-ghost use Rattle.run_block.specs.Layout.{layout as laidOut, layoutOf, sourceBy, skipBy, firstBy, secondBy};
 ghost use Rattle.run_block.specs.Run.{Short, Placed, ResultOf, SteppedBy, RanBy, RunAnswered, FlagAnswered};
-ghost use Rattle.run_lanes.specs.Rows.{RowIn, sourceOf};
-ghost use Rattle.run_block.specs.Lanes.{number, secondAt, Within, laneBy, beyondBy, RanLanes, Written};
+ghost use Rattle.run_block.specs.Lanes.{number, Written};
 ghost use Rattle.wide.specs.Registers.{registersOf};
+
+pub mod family;
+pub mod lanes;
 
 // A register of 128 bits.
 pub struct Register {
@@ -37,193 +35,12 @@ pub struct Ran {
     pub saturated: bool,
 }
 
-// The n bits from bit `at` on, which do not cross a word.
-fn bits_at(x: Register, n: u64, at: u64) -> u64
-    requires { ⌜ (at < 128) × (at % 64 + n ≤ 64) ⌝ }
-    ensures { λ r. ⌜ r ≡ number x / 2 ^ at % 2 ^ n ⌝ }
-{
-    if at < 64 {
-        return low_bits(x.low >> at, n);
-    }
-    low_bits(x.high >> (at - 64), n)
-}
-
-// The lane of the second source.
-fn second_at(element: bool, index: u64, skip: u64, j: u64) -> u64
-    requires { ⌜ j + skip < 1000 ⌝ }
-    ensures { λ r. ⌜ r ≡ secondAt element index skip j ⌝ }
-{
-    if element {
-        return index;
-    }
-    j + skip
-}
-
-// The lanes of a result, put together.
-fn run_lanes(
-    op: NeonOp,
-    n: u64,
-    m: u64,
-    k: u64,
-    skip: u64,
-    element: bool,
-    index: u64,
-    d: Register,
-    a: Register,
-    b: Register,
-) -> Ran
-    requires { ⌜ (0 < n) × (0 < m) × (m ≡ sourceOf op n) × RowIn op n × Within n m k skip element index ⌝ }
-    ensures { λ r. ⌜ RanLanes n k (laneBy op n m skip element index (number d) (number a) (number b)) (beyondBy op n m skip element index (number d) (number a) (number b)) r ⌝ }
-{
-    let mut acc = Wide {
-        low: 0,
-        high: 0,
-        top: 0,
-    };
-    let mut saturated = false;
-    let mut j = 0;
-    while j < k {
-        let at = n * j;
-        let l = lane_at(
-            op,
-            n,
-            bits_at(d, n, at),
-            bits_at(a, m, m * (j + skip)),
-            bits_at(b, m, m * second_at(element, index, skip, j)),
-        );
-        acc = add(
-            shl(
-                Wide {
-                    low: l.bits,
-                    high: 0,
-                    top: 0,
-                },
-                at,
-            ),
-            acc,
-        );
-        saturated = saturated | l.saturated;
-        j += 1;
-    }
-    Ran {
-        low: acc.low,
-        high: acc.high,
-        saturated,
-    }
-}
-
 // How the lanes of a family lie in the registers that it reads.
 pub struct Layout {
     pub narrow: bool,
     pub long: bool,
     pub upper: bool,
     pub element: bool,
-}
-
-fn narrows(kind: SaturatingKind) -> bool
-    ensures { λ r. ⌜ r ≡ narrowing kind ⌝ }
-{
-    match kind {
-        SaturatingKind::AddSub { op: _, to: _ } => false,
-        SaturatingKind::Halving { rounding: _ } => false,
-        SaturatingKind::Narrow { to: _ } => true,
-        SaturatingKind::ShiftNarrow {
-            shift: _,
-            rounding: _,
-            to: _,
-        } => true,
-        SaturatingKind::DoublingMultiplyHigh { rounding: _ } => false,
-        SaturatingKind::Unary { negate: _ } => false,
-    }
-}
-
-fn laid_out(narrow: bool, long: bool, upper: bool, element: bool) -> Layout
-    ensures { λ r. ⌜ r ≡ laidOut narrow long upper element ⌝ }
-{
-    Layout {
-        narrow,
-        long,
-        upper,
-        element,
-    }
-}
-
-fn layout_of(op: NeonOp) -> Layout
-    ensures { λ r. ⌜ r ≡ layoutOf op ⌝ }
-{
-    match op {
-        NeonOp::Shift { kind: _, signed: _ } => laid_out(false, false, false, false),
-        NeonOp::ShiftInsert { left: _, shift: _ } => laid_out(false, false, false, false),
-        NeonOp::MixedSignAdd {
-            destination_signed: _,
-        } => laid_out(false, false, false, false),
-        NeonOp::DoublingLong {
-            combine: _,
-            upper,
-            by_element,
-        } => laid_out(false, true, upper, by_element),
-        NeonOp::Saturating {
-            kind,
-            signed_sources: _,
-            upper: _,
-        } => laid_out(narrows(kind), false, false, false),
-        NeonOp::BitwiseUnary(_) => laid_out(false, false, false, false),
-        NeonOp::AbsoluteDifference {
-            signed: _,
-            accumulate: _,
-        } => laid_out(false, false, false, false),
-        NeonOp::HighNarrow {
-            subtract: _,
-            rounding: _,
-            upper: _,
-        } => laid_out(true, false, false, false),
-    }
-}
-
-fn source_by(y: Layout, n: u64) -> u64
-    requires { ⌜ n ≤ 64 ⌝ }
-    ensures { λ r. ⌜ r ≡ sourceBy y n ⌝ }
-{
-    if y.narrow {
-        return n * 2;
-    }
-    if y.long {
-        return n / 2;
-    }
-    n
-}
-
-fn skip_by(y: Layout, k: u64) -> u64
-    ensures { λ r. ⌜ r ≡ skipBy y k ⌝ }
-{
-    if y.upper {
-        return k;
-    }
-    0
-}
-
-fn first_by(y: Layout, whole: bool) -> bool
-    ensures { λ r. ⌜ r ≡ firstBy y whole ⌝ }
-{
-    if y.narrow {
-        return true;
-    }
-    if y.long {
-        return y.upper;
-    }
-    whole
-}
-
-fn second_by(y: Layout, whole: bool) -> bool
-    ensures { λ r. ⌜ r ≡ secondBy y whole ⌝ }
-{
-    if y.narrow {
-        return true;
-    }
-    if y.long {
-        return y.upper | y.element;
-    }
-    whole
 }
 
 // A register as it is read: whole, or its low half.
@@ -268,7 +85,7 @@ fn result_of(operation: u64, arrangement: u64, i: u64, d: Register, a: Register,
     let old = halve(d, whole);
     let first = halve(a, first_by(y, whole));
     let second = halve(b, second_by(y, whole));
-    let x = run_lanes(
+    let x = lanes::run_lanes(
         op,
         n,
         source_by(y, n),

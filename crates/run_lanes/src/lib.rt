@@ -13,7 +13,6 @@ use run_exact::turn;
 use run_exact::unary;
 use run_exact::unsigned;
 use terms::BinOp;
-use trees::BitwiseUnary;
 use trees::Combine;
 use trees::NeonOp;
 use trees::Saturate;
@@ -25,14 +24,16 @@ use wide::low_bits;
 ghost use mathlib.Core.Bool.{true, false, cond};
 ghost use mathlib.Core.Path.{_≡_};
 ghost use Prim.Native.Nat.{_+_, _-_, _*_, _/_, _<_, _≤_, _^_, _%_};
-ghost use Rattle.neon.specs.Arm.{wrap, bitAt, ones, equalRun, lanes};
+ghost use Rattle.neon.specs.Arm.{wrap};
 ghost use Rattle.terms.specs.declared.BinOp.the-variants.{Add, Sub};
 ghost use Rattle.trees.specs.declared.SaturatingKind.the-variants.{AddSub, Halving, Narrow, ShiftNarrow, DoublingMultiplyHigh, Unary};
 ghost use Rattle.trees.specs.Arith.{kindBits};
 ghost use Rattle.lower_kinds.specs.Sources.{AmountIn, KindIn};
-ghost use Rattle.saturation.specs.Family.{ownRange, shiftLaneZ, shiftBeyond, insertLaneZ, mixedLaneZ, mixedBeyond, doublingLaneZ, doublingBeyond, saturatingLaneZ, saturatingBeyond, bitsLaneZ, differenceLaneZ, plusZ, highZ, familyLane, familyBeyond};
+ghost use Rattle.saturation.specs.Family.{ownRange, shiftLaneZ, shiftBeyond, insertLaneZ, mixedLaneZ, mixedBeyond, doublingLaneZ, doublingBeyond, saturatingLaneZ, saturatingBeyond, differenceLaneZ, plusZ, highZ, familyLane, familyBeyond};
 ghost use Rattle.run_exact.specs.Exact.{Answers, Held};
 ghost use Rattle.run_lanes.specs.Rows.{InsertIn, RowIn, sourceOf};
+
+pub mod bits;
 
 // The range of a shift by a register.
 fn own_range(saturate: bool, as_signed: bool) -> Saturate
@@ -225,70 +226,6 @@ fn high_lane(subtract: bool, rounding: bool, n: u64, a: u64, b: u64) -> u64
     keep(n * 2, s) / power(n)
 }
 
-// Bit j.
-fn bit(a: u64, j: u64) -> u64
-    requires { ⌜ j < 64 ⌝ }
-    ensures { λ r. ⌜ (r ≡ bitAt j a) × (r ≤ 1) ⌝ }
-{
-    a / power(j) % 2
-}
-
-// The ones among the k low bits.
-fn count_ones(k: u64, a: u64) -> u64
-    requires { ⌜ k ≤ 64 ⌝ }
-    ensures { λ r. ⌜ r ≡ ones k a ⌝ }
-{
-    let mut r = 0;
-    let mut j = 0;
-    while j < k {
-        r += bit(a, j);
-        j += 1;
-    }
-    r
-}
-
-// The bits from k - 1 down that are t.
-fn run_of(t: u64, k: u64, a: u64) -> u64
-    requires { ⌜ k ≤ 64 ⌝ }
-    ensures { λ r. ⌜ r ≡ equalRun t k a ⌝ }
-{
-    let mut r = 0;
-    let mut j = k;
-    while j > 0 {
-        if bit(a, j - 1) != t {
-            return r;
-        }
-        r += 1;
-        j -= 1;
-    }
-    r
-}
-
-fn reversed(n: u64, a: u64) -> u64
-    requires { ⌜ n ≤ 64 ⌝ }
-    ensures { λ r. ⌜ r ≡ lanes 1 n (λ j. bitAt (n - 1 - j) a) ⌝ }
-{
-    let mut r = 0;
-    let mut j = 0;
-    while j < n {
-        r += bit(a, n - 1 - j) * power(j);
-        j += 1;
-    }
-    r
-}
-
-fn bits_lane(kind: BitwiseUnary, n: u64, a: u64) -> u64
-    requires { ⌜ (0 < n) × (n ≤ 64) ⌝ }
-    ensures { λ r. ⌜ r ≡ bitsLaneZ kind n a ⌝ }
-{
-    match kind {
-        BitwiseUnary::PopulationCount => count_ones(n, a),
-        BitwiseUnary::LeadingZeros => run_of(0, n, a),
-        BitwiseUnary::LeadingSignBits => run_of(bit(a, n - 1), n - 1, a),
-        BitwiseUnary::ReverseBits => reversed(n, a),
-    }
-}
-
 // SLI, SRI.
 fn insert_lane(left: bool, shift: u64, n: u64, d: u64, a: u64) -> u64
     requires { ⌜ (0 < n) × (n ≤ 64) × (a < 2 ^ n) × (d < 2 ^ n) × InsertIn left shift n ⌝ }
@@ -323,7 +260,7 @@ pub fn lane_at(op: NeonOp, n: u64, d: u64, a: u64, b: u64) -> Clamped
             upper: _,
         } => saturating_lane(kind, signed_sources, n, a, b),
         NeonOp::BitwiseUnary(kind) => Clamped {
-            bits: bits_lane(kind, n, a),
+            bits: bits::bits_lane(kind, n, a),
             saturated: false,
         },
         NeonOp::AbsoluteDifference { signed, accumulate } => {

@@ -1,14 +1,19 @@
 // Numbers of 192 bits in three words: the arithmetic that values of terms and exact lanes share. Terms have up to 129 bits, and exact
 // lanes fit as signed numbers; so all is done modulo 2^192, and `cut` then drops what lies above a width.
-use std::num::wrapping_add_u64;
-use std::num::wrapping_sub_u64;
+use word::add_carry;
+use word::funnel;
+use word::power;
+use word::product;
+use word::sub_borrow;
 ghost use mathlib.Core.Path.{_≡_};
 ghost use mathlib.Core.Bool.{Bool};
 ghost use Prim.Native.Nat.{_+_, _-_, _*_, _/_, _%_, _^_, _<_, _≤_};
 ghost use lib.Dec.{ltb, eqb};
 ghost use lib.Bits.{bitAnd, bitOr, bitXor};
 ghost use Rattle.terms.specs.Value.{bvadd, bvsub, bvmul, bvshl};
-ghost use Rattle.wide.specs.Number.{base, words, num};
+ghost use Rattle.wide.specs.Number.{words, num};
+
+pub mod word;
 
 // A number, the lowest word first.
 pub struct Wide {
@@ -21,38 +26,6 @@ pub struct Wide {
 pub struct Step {
     pub word: u64,
     pub over: u64,
-}
-
-// a + b + c, where c is a carry.
-fn add_carry(a: u64, b: u64, c: u64) -> Step
-    requires { ⌜ c ≤ 1 ⌝ }
-    ensures { λ r. ⌜ (r .word + base * r .over ≡ a + b + c) × (r .over ≤ 1) × (r .word < base) ⌝ }
-{
-    let s = wrapping_add_u64(a, b);
-    let t = wrapping_add_u64(s, c);
-    if s < a {
-        return Step { word: t, over: 1 };
-    }
-    if t < s {
-        return Step { word: t, over: 1 };
-    }
-    Step { word: t, over: 0 }
-}
-
-// a - b - c, where c is a borrow.
-fn sub_borrow(a: u64, b: u64, c: u64) -> Step
-    requires { ⌜ c ≤ 1 ⌝ }
-    ensures { λ r. ⌜ (r .word + b + c ≡ a + base * r .over) × (r .over ≤ 1) ⌝ }
-{
-    let s = wrapping_sub_u64(a, b);
-    let t = wrapping_sub_u64(s, c);
-    if a < b {
-        return Step { word: t, over: 1 };
-    }
-    if s < c {
-        return Step { word: t, over: 1 };
-    }
-    Step { word: t, over: 0 }
 }
 
 // Sums and differences, word by word.
@@ -80,14 +53,6 @@ pub fn sub(a: Wide, b: Wide) -> Wide
         high: y.word,
         top: z.word,
     }
-}
-
-// 2^k in one word.
-fn power(k: u64) -> u64
-    requires { ⌜ k < 64 ⌝ }
-    ensures { λ r. ⌜ r ≡ 2 ^ k ⌝ }
-{
-    1u64 << k
 }
 
 // The k low bits of a word.
@@ -125,14 +90,6 @@ pub fn cut(a: Wide, w: u64) -> Wide
         high: a.high,
         top: low_bits(a.top, w - 128),
     }
-}
-
-// The upper word of two that are shifted to the left.
-fn funnel(high: u64, low: u64, k: u64) -> u64
-    requires { ⌜ (0 < k) × (k < 64) ⌝ }
-    ensures { λ r. ⌜ r ≡ high % 2 ^ (64 - k) * 2 ^ k + low / 2 ^ (64 - k) ⌝ }
-{
-    (high << k) | (low >> (64 - k))
 }
 
 // A shift inside a word.
@@ -265,26 +222,6 @@ pub fn less(a: Wide, b: Wide) -> bool
         return a.high < b.high;
     }
     a.low < b.low
-}
-
-// 2^32
-const HALF: u64 = 4294967296;
-
-// The product of two words, in two, by halves of words.
-fn product(a: u64, b: u64) -> Step
-    ensures { λ r. ⌜ (r .word + base * r .over ≡ a * b) × (r .word < base) ⌝ }
-{
-    let a0 = a % HALF;
-    let a1 = a / HALF;
-    let b0 = b % HALF;
-    let b1 = b / HALF;
-    let p = a0 * b0;
-    let m = a0 * b1 + p / HALF;
-    let l = a1 * b0 + m % HALF;
-    Step {
-        word: p % HALF + l % HALF * HALF,
-        over: a1 * b1 + m / HALF + l / HALF,
-    }
 }
 
 // By words from the lowest; what lies above the third is dropped.
