@@ -172,22 +172,36 @@ packed-kind code w s p = omega arith
 pub packed-set : (code w s : ℕ) → code < 65536 → w < 65536 → setOf (kindWord code w s) ≡ s
 packed-set code w s p t = omega arith
 
-write-other : (ws : List ℕ) (k w0 w1 x y i : ℕ) → (i < 4 * k) ⊎ (4 * (k + 1) ≤ i) → getD (writeNode ws k w0 w1 x y) i 0 ≡ getD ws i 0
-write-other ws k w0 w1 x y i h =
-    let l1 = set ws (4 * k) w0 in
-    let l2 = set l1 (4 * k + 1) w1 in
-    let l3 = set l2 (4 * k + 2) x in
-    getD-set-other l3 (4 * k + 3) i y 0 (⊎-elim (λ l. omega arith) (λ l. omega arith) h)
-    ∙ getD-set-other l2 (4 * k + 2) i x 0 (⊎-elim (λ l. omega arith) (λ l. omega arith) h)
-    ∙ getD-set-other l1 (4 * k + 1) i w1 0 (⊎-elim (λ l. omega arith) (λ l. omega arith) h)
-    ∙ getD-set-other ws (4 * k) i w0 0 (⊎-elim (λ l. omega arith) (λ l. omega arith) h)
+-- a node's words, written one after the other
+module _ (ws : List ℕ) (k w0 w1 x y : ℕ) where
+  abbrev one : List ℕ
+  one = set ws (4 * k) w0
+
+  abbrev two : List ℕ
+  two = set one (4 * k + 1) w1
+
+  abbrev three : List ℕ
+  three = set two (4 * k + 2) x
+
+  write-other : (i : ℕ) → (i < 4 * k) ⊎ (4 * (k + 1) ≤ i) → getD (writeNode ws k w0 w1 x y) i 0 ≡ getD ws i 0
+  write-other i h =
+      getD-set-other three (4 * k + 3) i y 0 (⊎-elim (λ l. omega arith) (λ l. omega arith) h)
+      ∙ getD-set-other two (4 * k + 2) i x 0 (⊎-elim (λ l. omega arith) (λ l. omega arith) h)
+      ∙ getD-set-other one (4 * k + 1) i w1 0 (⊎-elim (λ l. omega arith) (λ l. omega arith) h)
+      ∙ getD-set-other ws (4 * k) i w0 0 (⊎-elim (λ l. omega arith) (λ l. omega arith) h)
 
 module _ (ws : List ℕ) (k w0 w1 x y : ℕ) (room : 4 * (k + 1) ≤ length ws) where
+  write-first : getD (writeNode ws k w0 w1 x y) (4 * k) 0 ≡ w0
+  write-first =
+      getD-set-other (three ws k w0 w1 x y) (4 * k + 3) (4 * k) y 0 (omega arith) ∙ getD-set-other (two ws k w0 w1 x y) (4 * k + 2) (4 * k) x 0 (omega arith)
+      ∙ getD-set-other (one ws k w0 w1 x y) (4 * k + 1) (4 * k) w1 0 (omega arith)
+      ∙ getD-set-same ws (4 * k) w0 0 (omega arith)
+
   write-cell : cellAt (writeNode ws k w0 w1 x y) k ≡ decode w0 w1 x y
   write-cell =
-      let l1 = set ws (4 * k) w0 in
-      let l2 = set l1 (4 * k + 1) w1 in
-      let l3 = set l2 (4 * k + 2) x in
+      let l1 = one ws k w0 w1 x y in
+      let l2 = two ws k w0 w1 x y in
+      let l3 = three ws k w0 w1 x y in
       let n1 : length l1 ≡ length ws = simp length-set in
       let n2 : length l2 ≡ length ws = simp length-set in
       let n3 : length l3 ≡ length ws = simp length-set in
@@ -197,20 +211,7 @@ module _ (ws : List ℕ) (k w0 w1 x y : ℕ) (room : 4 * (k + 1) ≤ length ws) 
       let f1 : getD (set l3 (4 * k + 3) y) (4 * k + 1) 0 ≡ w1 =
       getD-set-other l3 (4 * k + 3) (4 * k + 1) y 0 (omega arith) ∙ getD-set-other l2 (4 * k + 2) (4 * k + 1) x 0 (omega arith)
       ∙ getD-set-same l1 (4 * k + 1) w1 0 (omega arith) in
-      let f0 : getD (set l3 (4 * k + 3) y) (4 * k) 0 ≡ w0 =
-      getD-set-other l3 (4 * k + 3) (4 * k) y 0 (omega arith) ∙ getD-set-other l2 (4 * k + 2) (4 * k) x 0 (omega arith)
-      ∙ getD-set-other l1 (4 * k + 1) (4 * k) w1 0 (omega arith)
-      ∙ getD-set-same ws (4 * k) w0 0 (omega arith) in
-      λ i. decode (f0 i) (f1 i) (f2 i) (f3 i)
-
-  write-first : getD (writeNode ws k w0 w1 x y) (4 * k) 0 ≡ w0
-  write-first =
-      let l1 = set ws (4 * k) w0 in
-      let l2 = set l1 (4 * k + 1) w1 in
-      let l3 = set l2 (4 * k + 2) x in
-      getD-set-other l3 (4 * k + 3) (4 * k) y 0 (omega arith) ∙ getD-set-other l2 (4 * k + 2) (4 * k) x 0 (omega arith)
-      ∙ getD-set-other l1 (4 * k + 1) (4 * k) w1 0 (omega arith)
-      ∙ getD-set-same ws (4 * k) w0 0 (omega arith)
+      λ i. decode (write-first i) (f1 i) (f2 i) (f3 i)
 
   write-plain : (n : ℕ) → (32 ≤ k → kindOf w0 ≡ 1 → ⊥) → 32 ≤ n → n ≡ k → kindOf (getD (writeNode ws k w0 w1 x y) (4 * n) 0) ≡ 1 → ⊥
   write-plain n h f e = rw (e, write-first) (h (omega arith))
