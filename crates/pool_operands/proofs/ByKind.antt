@@ -15,53 +15,39 @@ use Rattle.pool_operands.specs.Operands.{hasA, hasB, hasC}
 
 -- ---- operators have two operands
 
+bv-two : (o : BinOp) → (hasA (bvCode o) ≡ true) × (hasB (bvCode o) ≡ true) × (hasC (bvCode o) ≡ false)
+bv-two Add = (refl, refl, refl)
+bv-two Sub = (refl, refl, refl)
+bv-two Mul = (refl, refl, refl)
+bv-two And = (refl, refl, refl)
+bv-two Or = (refl, refl, refl)
+bv-two Xor = (refl, refl, refl)
+bv-two Shl = (refl, refl, refl)
+bv-two LShr = (refl, refl, refl)
+bv-two AShr = (refl, refl, refl)
+
+cmp-two : (o : CmpOp) → (hasA (compareCode o) ≡ true) × (hasB (compareCode o) ≡ true) × (hasC (compareCode o) ≡ false)
+cmp-two Eq = (refl, refl, refl)
+cmp-two Ult = (refl, refl, refl)
+cmp-two Slt = (refl, refl, refl)
+
 pub bv-a : (o : BinOp) → hasA (bvCode o) ≡ true
-bv-a Add = refl
-bv-a Sub = refl
-bv-a Mul = refl
-bv-a And = refl
-bv-a Or = refl
-bv-a Xor = refl
-bv-a Shl = refl
-bv-a LShr = refl
-bv-a AShr = refl
+bv-a o = bv-two o .0
 
 pub bv-b : (o : BinOp) → hasB (bvCode o) ≡ true
-bv-b Add = refl
-bv-b Sub = refl
-bv-b Mul = refl
-bv-b And = refl
-bv-b Or = refl
-bv-b Xor = refl
-bv-b Shl = refl
-bv-b LShr = refl
-bv-b AShr = refl
+bv-b o = bv-two o .1
 
 pub bv-c : (o : BinOp) → hasC (bvCode o) ≡ false
-bv-c Add = refl
-bv-c Sub = refl
-bv-c Mul = refl
-bv-c And = refl
-bv-c Or = refl
-bv-c Xor = refl
-bv-c Shl = refl
-bv-c LShr = refl
-bv-c AShr = refl
+bv-c o = bv-two o .2
 
 pub cmp-a : (o : CmpOp) → hasA (compareCode o) ≡ true
-cmp-a Eq = refl
-cmp-a Ult = refl
-cmp-a Slt = refl
+cmp-a o = cmp-two o .0
 
 pub cmp-b : (o : CmpOp) → hasB (compareCode o) ≡ true
-cmp-b Eq = refl
-cmp-b Ult = refl
-cmp-b Slt = refl
+cmp-b o = cmp-two o .1
 
 pub cmp-c : (o : CmpOp) → hasC (compareCode o) ≡ false
-cmp-c Eq = refl
-cmp-c Ult = refl
-cmp-c Slt = refl
+cmp-c o = cmp-two o .2
 
 pub no : {X : Type 0} {b : Bool} → b ≡ false → b ≡ true → X
 no e f = absurd (false≢true (sym e ∙ f))
