@@ -34,23 +34,20 @@ pub record Filled (m n : ℕ) : Type 0 where
   pub some : suc (m / n - 1) ≡ m / n
   pub fill : n * (m / n) ≡ m
 
+full-and-half : (v : Arrangement) → Filled (view v) (laneBits v) × Filled 64 (laneBits v)
+full-and-half B8 = (record { some = refl; fill = refl }, record { some = refl; fill = refl })
+full-and-half B16 = (record { some = refl; fill = refl }, record { some = refl; fill = refl })
+full-and-half H4 = (record { some = refl; fill = refl }, record { some = refl; fill = refl })
+full-and-half H8 = (record { some = refl; fill = refl }, record { some = refl; fill = refl })
+full-and-half S2 = (record { some = refl; fill = refl }, record { some = refl; fill = refl })
+full-and-half S4 = (record { some = refl; fill = refl }, record { some = refl; fill = refl })
+full-and-half D2 = (record { some = refl; fill = refl }, record { some = refl; fill = refl })
+
 by-view : (v : Arrangement) → Filled (view v) (laneBits v)
-by-view B8 = record { some = refl; fill = refl }
-by-view B16 = record { some = refl; fill = refl }
-by-view H4 = record { some = refl; fill = refl }
-by-view H8 = record { some = refl; fill = refl }
-by-view S2 = record { some = refl; fill = refl }
-by-view S4 = record { some = refl; fill = refl }
-by-view D2 = record { some = refl; fill = refl }
+by-view v = full-and-half v .0
 
 pub by-half : (v : Arrangement) → Filled 64 (laneBits v)
-by-half B8 = record { some = refl; fill = refl }
-by-half B16 = record { some = refl; fill = refl }
-by-half H4 = record { some = refl; fill = refl }
-by-half H8 = record { some = refl; fill = refl }
-by-half S2 = record { some = refl; fill = refl }
-by-half S4 = record { some = refl; fill = refl }
-by-half D2 = record { some = refl; fill = refl }
+by-half v = full-and-half v .1
 
 pub filled : (l : Lanes) (v : Arrangement) → Filled (madeBits l (full v)) (laneBits v)
 filled Same v = by-view v
