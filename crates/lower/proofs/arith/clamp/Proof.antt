@@ -8,6 +8,17 @@ use borrow.Author.Needs.{needs}
 use Rattle.lower.proofs.arith.clamp.Statement.{statement}
 use Rattle.lower.proofs.arith.clamp.Tie as tie
 
+-- ---- the entry, from the range's ends
+
+abbrev signed-entry : tie.After-power → tie.Start
+signed-entry c = c .before .before .before .before .before
+
+abbrev unsigned-entry : tie.After-unsigned-max → tie.Start
+unsigned-entry c = c .before .before .before .before .before
+
+abbrev to-unsigned-entry : tie.After-unsigned-max2 → tie.Start
+to-unsigned-entry c = c .before .before .before .before
+
 enum-told : tie.Need-enum-told
 enum-told c = search needs
 
@@ -24,23 +35,14 @@ power-requires : tie.Need-power-requires
 power-requires c κs = search needs
 
 sub-t13 : tie.Need-sub-t13
-sub-t13 c =
-    let st = c .before .before .before .before .before in
-    omega (arith, c .power .ensures, pow-pos (st .args .narrow - 1))
+sub-t13 c = omega (arith, c .power .ensures, pow-pos (signed-entry c .args .narrow - 1))
 
 clamp-between-requires : tie.Need-clamp-between-requires
 clamp-between-requires c κs =
-    let l-power = c .before in
-    let l-minus-power = l-power .before in
-    let st = l-minus-power .before .before .before .before in
-    omega (
-      arith,
-      st .pre,
-      l-power .power .ensures,
-      l-minus-power .minus-power .ensures,
-      low-fits (st .args .wide) (st .args .narrow - 1),
-      high-fits (st .args .wide) (st .args .narrow - 1) (omega (arith, st .pre)),
-    )
+    let p = c .before in
+    let s = signed-entry p in
+    let b = s .args .narrow - 1 in
+    omega (arith, s .pre, p .power .ensures, p .before .minus-power .ensures, low-fits (s .args .wide) b, high-fits (s .args .wide) b (omega (arith, s .pre)))
 
 enum-told-2 : tie.Need-enum-told-2
 enum-told-2 c = search needs
@@ -50,8 +52,8 @@ unsigned-max-requires c κs = search needs
 
 clamp-below-requires : tie.Need-clamp-below-requires
 clamp-below-requires c κs =
-    let st = c .before .before .before .before .before in
-    omega (arith, st .pre, c .unsigned-max .ensures, high-fits (st .args .wide) (st .args .narrow) (omega (arith, st .pre)))
+    let s = unsigned-entry c in
+    omega (arith, s .pre, c .unsigned-max .ensures, high-fits (s .args .wide) (s .args .narrow) (omega (arith, s .pre)))
 
 enum-told-3 : tie.Need-enum-told-3
 enum-told-3 c = search needs
@@ -61,9 +63,9 @@ unsigned-max-requires-2 c κs = search needs
 
 clamp-between-requires-2 : tie.Need-clamp-between-requires-2
 clamp-between-requires-2 c κs =
-    let l-unsigned-max2 = c .before in
-    let st = l-unsigned-max2 .before .before .before .before in
-    omega (arith, st .pre, l-unsigned-max2 .unsigned-max2 .ensures, high-fits (st .args .wide) (st .args .narrow) (omega (arith, st .pre)), pow-pos (st .args .wide))
+    let m = c .before in
+    let s = to-unsigned-entry m in
+    omega (arith, s .pre, m .unsigned-max2 .ensures, high-fits (s .args .wide) (s .args .narrow) (omega (arith, s .pre)), pow-pos (s .args .wide))
 
 same-length : tie.Need-same-length
 same-length c = search needs
