@@ -1,1 +1,2 @@
+-- The refusals of one instruction, in their order.
 pub mod Refusing

@@ -1,1 +1,2 @@
+-- The absolute differences build their trees, lane by lane.
 pub mod Differing

@@ -1,1 +1,2 @@
+-- The narrowing sums and differences build their trees, lane by lane.
 pub mod Narrowing

@@ -1,1 +1,2 @@
+-- The shifts build their trees, lane by lane.
 pub mod Lanes

@@ -1,1 +1,2 @@
+-- The inserts build their trees, lane by lane.
 pub mod Inserting

@@ -1,2 +1,3 @@
+-- Which operands a kind has, and a node's four words written.
 pub mod ByKind
 pub mod Written

@@ -1,2 +1,3 @@
+-- Set P, the known faults, and laws of joined cuts.
 pub mod Cases
 pub mod Cuts

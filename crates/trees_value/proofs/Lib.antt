@@ -1,3 +1,4 @@
+-- The value of a tree is the Arm result, for a lane, a result and a block; trees keep the rules of terms.
 pub mod Z
 pub mod Wrap
 pub mod Bv

@@ -1,3 +1,4 @@
+-- Numbers of 192 bits in three words: sums, products, shifts, tests.
 pub mod Words
 pub mod Digits
 pub mod Shifts
