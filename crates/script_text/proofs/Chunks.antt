@@ -1,13 +1,9 @@
 -- The spelling of a script's lines in the pieces in which it is written. Assumes nothing.
-use mathlib.Core.Path.{_≡_, refl, sym, ap, _∙_}
-use mathlib.Core.List.{List, [], _∷_, _++_, append-assoc}
-use Prim.Native.Nat.{ℕ, zero, suc, _+_, _≤_}
-use native.Mathlib.Omega.{arith}
-use lib.ListN.{length, length-append}
+use mathlib.Core.Path.{_≡_, refl}
+use mathlib.Core.List.{List, _++_, append-assoc}
+use Prim.Native.Nat.{ℕ, zero, suc}
 use Rattle.terms.specs.Display.{bytes, decimal}
-use Rattle.text_digits.specs.Writing.{Room, Wrote}
-use Rattle.text_digits.proofs.Laws.{wrote-length}
-use Rattle.script_meaning.specs.Sexp.{Sexp, word, list, Items, stop, _⨾_, show}
+use Rattle.script_meaning.specs.Sexp.{Sexp, show}
 use Rattle.script_meaning.specs.Script.{apply1, apply2, apply3, index1, index2, sortBy, defineFun}
 
 pub vector-sort : (w : ℕ) → show (sortBy (suc w)) ≡ bytes "(_ BitVec " ++ (decimal (suc w) ++ bytes ")")
@@ -30,15 +26,6 @@ pub indexed-2 : (f a : List ℕ) (i j : ℕ)
     → show (apply1 (index2 f i j) a) ≡ bytes "((_ " ++ (f ++ (bytes " " ++ (decimal i ++ (bytes " " ++ (decimal j ++ (bytes ") " ++ (a ++ bytes ")")))))))
 unfolding show
 indexed-2 f a i j = simp append-assoc
-
--- a cut's bytes, whichever number comes first
-pub cut-length : (a : List ℕ) (hi lo : ℕ)
-    → length (show (apply1 (index2 (bytes "extract") hi lo) a)) ≡ 16 + length (decimal hi) + length (decimal lo) + length a
-cut-length a hi lo = rw (indexed-2 (bytes "extract") a hi lo) (simp length-append (omega arith))
-
--- room for t after s, where there was room for as many bytes
-pub room-after : {l m : List ℕ} {i j : ℕ} {u s t : List ℕ} → Room l i u → Wrote l i s j m → length s + length t ≤ length u → Room m j t
-room-after r w h = record { room = omega (arith, r .room, w .next-is, wrote-length w, h) }
 
 pub line : (n : List ℕ) (s t : Sexp)
     → show (defineFun n s t) ++ bytes "\n" ≡ bytes "(define-fun " ++ (n ++ (bytes " () " ++ (show s ++ (bytes " " ++ (show t ++ bytes ")\n")))))

@@ -2,4 +2,5 @@ pub mod Chunks
 pub mod Bits
 pub mod Spelling
 pub mod Nodes
+pub mod Parts
 pub mod Whole

@@ -1,7 +1,8 @@
 -- `term_length` gives the length of a node's term, by its kind, at most 131.
 use mathlib.Core.Path.{sym, ap, _∙_}
 use native.Mathlib.Omega.{arith}
-use Prim.Native.Nat.{_-_}
+use Prim.Native.Nat.{ℕ, _-_, _≤_}
+use mathlib.Core.List.{List}
 use lib.ListN.{length}
 use Rattle.terms.specs.Display.{bytes}
 use Rattle.pool.specs.Node.{kindAt, widthAt, wordAt, wide}
@@ -14,6 +15,55 @@ use borrow.Author.Needs.{needs}
 use Rattle.script_length.proofs.term_length.Statement.{statement}
 use Rattle.script_length.proofs.term_length.Tie as tie
 
+-- ---- the node that is measured, and places: where its kind is known, and the entry from there
+
+abbrev ws : tie.Start → List ℕ
+ws s = s .args .p .now
+
+abbrev n : tie.Start → ℕ
+n s = s .args .n .0
+
+abbrev k : tie.Start → ℕ
+k s = s .args .k
+
+abbrev entry : tie.Else1 → tie.Start
+entry c = c .before .before
+
+abbrev three : tie.After-third → tie.Then2
+three c = c .before .before .before
+
+abbrev three-entry : tie.After-third → tie.Start
+three-entry c = entry (three c .before)
+
+abbrev cut : tie.After-high → tie.Then3
+cut c = c .before .before .before
+
+abbrev cut-entry : tie.After-high → tie.Start
+cut-entry c = entry (cut c .before .before)
+
+abbrev two : tie.After-second2 → tie.Then4
+two c = c .before .before
+
+abbrev two-first : tie.After-second2 → tie.Else1
+two-first c = two c .before .before .before
+
+abbrev two-entry : tie.After-second2 → tie.Start
+two-entry c = entry (two-first c)
+
+from-three : (c : tie.After-second2) → 3 ≤ k (two-entry c)
+from-three c = omega (arith, two-entry c .pre .2, two-first c .if1 .left)
+
+abbrev widened : tie.After-first4 → tie.After-width-of2
+widened c = c .before
+
+abbrev extension : tie.After-first4 → tie.Else4
+extension c = widened c .before
+
+abbrev extension-entry : tie.After-first4 → tie.Start
+extension-entry c = entry (extension c .before .before .before)
+
+-- ---- needs
+
 width-of-requires : tie.Need-width-of-requires
 width-of-requires c κs = search needs
 
@@ -22,17 +72,11 @@ add-result c = search needs
 
 returns : tie.Need-returns
 returns c =
-    let at-if1 = c .before in
-    let st = at-if1 .before .before in
-    let ws = st .args .p .now in
-    let n = st .args .n .0 in
-    let R = st .pre .0 in
-    let r = R .ready in
-    let k = st .args .k in
-    let is-k = st .pre .1 in
-    let h = constant ws n r k is-k (at-if1 .if1 .taken) in
+    let b = c .before in
+    let s = b .before .before in
+    let h = constant (ws s) (n s) (s .pre .0 .ready) (k s) (s .pre .1) (b .if1 .taken) in
     let e = c .width-of .ensures .0 in
-    let z = ap length (h .1) ∙ size-constant (widthAt ws n) (wide (wordAt ws n 2) (wordAt ws n 3)) in
+    let z = ap length (h .1) ∙ size-constant (widthAt (ws s) (n s)) (wide (wordAt (ws s) (n s) 2) (wordAt (ws s) (n s) 3)) in
     (omega (arith, e, z), omega (arith, e, h .0))
 
 first-requires : tie.Need-first-requires
@@ -46,35 +90,18 @@ third-requires c κs = search needs
 
 three-length-requires : tie.Need-three-length-requires
 three-length-requires c κs =
-    let at-second = c .before in
-    let at-first = at-second .before in
-    let at-if2 = at-first .before in
-    let st = at-if2 .before .before .before in
-    let ws = st .args .p .now in
-    let n = st .args .n .0 in
-    let R = st .pre .0 in
-    let r = R .ready in
-    let k = st .args .k in
-    let is-k = st .pre .1 in
-    let t = three-of ws n r k is-k (at-if2 .if2 .taken) in
-    (named-as R (t .0) (at-first .first .ensures), named-as R (t .1) (at-second .second .ensures), named-as R (t .2) (c .third .ensures))
+    let s = three-entry c in
+    let R = s .pre .0 in
+    let t = three-of (ws s) (n s) (R .ready) (k s) (s .pre .1) (three c .if2 .taken) in
+    (named-as R (t .0) (c .before .before .first .ensures), named-as R (t .1) (c .before .second .ensures), named-as R (t .2) (c .third .ensures))
 
 returns-2 : tie.Need-returns-2
 returns-2 c =
-    let at-third = c .before in
-    let at-second = at-third .before in
-    let at-first = at-second .before in
-    let at-if2 = at-first .before in
-    let st = at-if2 .before .before .before in
-    let ws = st .args .p .now in
-    let n = st .args .n .0 in
-    let R = st .pre .0 in
-    let r = R .ready in
-    let k = st .args .k in
-    let is-k = st .pre .1 in
-    let t = three-of ws n r k is-k (at-if2 .if2 .taken) in (
-      c .three-length .ensures .0 ∙ (λ j. length (show (apply3 (bytes "ite") (nameOf ws (at-first .first .ensures j)) (nameOf ws (at-second .second .ensures j))
-          (nameOf ws (at-third .third .ensures j))))) ∙ sym (ap (λ (u : Sexp). length (show u)) (t .3)),
+    let d = c .before in
+    let s = three-entry d in
+    let t = three-of (ws s) (n s) (s .pre .0 .ready) (k s) (s .pre .1) (three d .if2 .taken) in (
+      c .three-length .ensures .0 ∙ (λ j. length (show (apply3 (bytes "ite") (nameOf (ws s) (d .before .before .first .ensures j)) (nameOf (ws s) (d .before .second .ensures j))
+          (nameOf (ws s) (d .third .ensures j))))) ∙ sym (ap (λ (u : Sexp). length (show u)) (t .3)),
       c .three-length .ensures .1,
     )
 
@@ -89,37 +116,19 @@ high-requires c κs = search needs
 
 cut-length-requires : tie.Need-cut-length-requires
 cut-length-requires c κs =
-    let at-low = c .before in
-    let at-first2 = at-low .before in
-    let at-if3 = at-first2 .before in
-    let st = at-if3 .before .before .before .before in
-    let ws = st .args .p .now in
-    let n = st .args .n .0 in
-    let R = st .pre .0 in
-    let r = R .ready in
-    let k = st .args .k in
-    let is-k = st .pre .1 in
-    let i = at-if3 .if3 .taken in
-    let t = cut-of ws n r k is-k i in
-    let s = range-small ws n r k is-k i in
-    (named-as R (t .0) (at-first2 .first2 .ensures), omega (arith, at-low .low .ensures, s .0), omega (arith, c .high .ensures, s .1))
+    let s = cut-entry c in
+    let R = s .pre .0 in
+    let i = cut c .if3 .taken in
+    let small = range-small (ws s) (n s) (R .ready) (k s) (s .pre .1) i in
+    (named-as R (cut-of (ws s) (n s) (R .ready) (k s) (s .pre .1) i .0) (c .before .before .first2 .ensures), omega (arith, c .before .low .ensures, small .0), omega (arith, c .high .ensures, small .1))
 
 returns-3 : tie.Need-returns-3
 returns-3 c =
-    let at-high = c .before in
-    let at-low = at-high .before in
-    let at-first2 = at-low .before in
-    let at-if3 = at-first2 .before in
-    let st = at-if3 .before .before .before .before in
-    let ws = st .args .p .now in
-    let n = st .args .n .0 in
-    let R = st .pre .0 in
-    let r = R .ready in
-    let k = st .args .k in
-    let is-k = st .pre .1 in
-    let t = cut-of ws n r k is-k (at-if3 .if3 .taken) in (
-      c .cut-length .ensures .0 ∙ (λ j. length (show (apply1 (index2 (bytes "extract") (at-low .low .ensures j) (at-high .high .ensures j)) (nameOf ws
-          (at-first2 .first2 .ensures j))))) ∙ sym (ap (λ (u : Sexp). length (show u)) (t .1)),
+    let d = c .before in
+    let s = cut-entry d in
+    let t = cut-of (ws s) (n s) (s .pre .0 .ready) (k s) (s .pre .1) (cut d .if3 .taken) in (
+      c .cut-length .ensures .0 ∙ (λ j. length (show (apply1 (index2 (bytes "extract") (d .before .low .ensures j) (d .high .ensures j)) (nameOf (ws s)
+          (d .before .before .first2 .ensures j))))) ∙ sym (ap (λ (u : Sexp). length (show u)) (t .1)),
       c .cut-length .ensures .1,
     )
 
@@ -131,39 +140,20 @@ second-requires-2 c κs = search needs
 
 two-length-requires : tie.Need-two-length-requires
 two-length-requires c κs =
-    let at-first3 = c .before in
-    let at-if4 = at-first3 .before in
-    let at-if3 = at-if4 .before in
-    let at-if2 = at-if3 .before in
-    let at-if1 = at-if2 .before in
-    let st = at-if1 .before .before in
-    let ws = st .args .p .now in
-    let n = st .args .n .0 in
-    let R = st .pre .0 in
-    let r = R .ready in
-    let k = st .args .k in
-    let is-k = st .pre .1 in
-    let t = two-of ws n r k is-k (omega (arith, st .pre .2, at-if1 .if1 .left)) (at-if4 .if4 .taken) (at-if2 .if2 .left) (at-if3 .if3 .left) in
-    (omega (arith, st .pre .2, at-if1 .if1 .left), kind-below ws n r k is-k, named-as R (t .less-a) (at-first3 .first3 .ensures), named-as R (t .less-b) (c .second2 .ensures))
+    let s = two-entry c in
+    let R = s .pre .0 in
+    let l = from-three c in
+    let t = two-of (ws s) (n s) (R .ready) (k s) (s .pre .1) l (two c .if4 .taken) (two c .before .before .if2 .left) (two c .before .if3 .left) in
+    (l, kind-below (ws s) (n s) (R .ready) (k s) (s .pre .1), named-as R (t .less-a) (c .before .first3 .ensures), named-as R (t .less-b) (c .second2 .ensures))
 
 returns-4 : tie.Need-returns-4
 returns-4 c =
-    let at-second2 = c .before in
-    let at-first3 = at-second2 .before in
-    let at-if4 = at-first3 .before in
-    let at-if3 = at-if4 .before in
-    let at-if2 = at-if3 .before in
-    let at-if1 = at-if2 .before in
-    let st = at-if1 .before .before in
-    let ws = st .args .p .now in
-    let n = st .args .n .0 in
-    let R = st .pre .0 in
-    let r = R .ready in
-    let k = st .args .k in
-    let is-k = st .pre .1 in
-    let t = two-of ws n r k is-k (omega (arith, st .pre .2, at-if1 .if1 .left)) (at-if4 .if4 .taken) (at-if2 .if2 .left) (at-if3 .if3 .left) in (
-      c .two-length .ensures .0 ∙ (λ j. length (show (apply2 (functionOf (kindAt k)) (nameOf ws (at-first3 .first3 .ensures j)) (nameOf ws
-          (at-second2 .second2 .ensures j))))) ∙ sym (ap (λ (u : Sexp). length (show u)) (t .term-is)),
+    let d = c .before in
+    let s = two-entry d in
+    let l = from-three d in
+    let t = two-of (ws s) (n s) (s .pre .0 .ready) (k s) (s .pre .1) l (two d .if4 .taken) (two d .before .before .if2 .left) (two d .before .if3 .left) in (
+      c .two-length .ensures .0 ∙ (λ j. length (show (apply2 (functionOf (kindAt (k s))) (nameOf (ws s) (d .before .first3 .ensures j)) (nameOf (ws s)
+          (d .second2 .ensures j))))) ∙ sym (ap (λ (u : Sexp). length (show u)) (t .term-is)),
       c .two-length .ensures .1,
     )
 
@@ -175,70 +165,40 @@ first-requires-4 c κs = search needs
 
 width-of-requires-3 : tie.Need-width-of-requires-3
 width-of-requires-3 c κs =
-    let at-if4 = c .before .before in
-    let st = at-if4 .before .before .before .before .before in
-    let ws = st .args .p .now in
-    let n = st .args .n .0 in
-    let R = st .pre .0 in
-    let r = R .ready in
-    let k = st .args .k in
-    let is-k = st .pre .1 in
-    let h = extension-of ws n r k is-k (at-if4 .if4 .left) in
-    omega (arith, c .first4 .ensures, h .less-a, r .inside)
+    let s = extension-entry c in
+    let h = extension-of (ws s) (n s) (s .pre .0 .ready) (k s) (s .pre .1) (extension c .if4 .left) in
+    omega (arith, c .first4 .ensures, h .less-a, s .pre .0 .ready .inside)
 
 sub-by : tie.Need-sub-by
 sub-by c =
-    let at-first4 = c .before in
-    let at-width-of2 = at-first4 .before in
-    let at-if4 = at-width-of2 .before in
-    let st = at-if4 .before .before .before .before .before in
-    let ws = st .args .p .now in
-    let n = st .args .n .0 in
-    let R = st .pre .0 in
-    let r = R .ready in
-    let k = st .args .k in
-    let is-k = st .pre .1 in
-    let h = extension-of ws n r k is-k (at-if4 .if4 .left) in
-    let e = c .width-of3 .ensures .0 ∙ ap (widthAt ws) (at-first4 .first4 .ensures) in
-    omega (arith, e, at-width-of2 .width-of2 .ensures .0, h .longer)
+    let f = c .before in
+    let a = extension-entry f in
+    let h = extension-of (ws a) (n a) (a .pre .0 .ready) (k a) (a .pre .1) (extension f .if4 .left) in
+    let e = c .width-of3 .ensures .0 ∙ ap (widthAt (ws a)) (f .first4 .ensures) in
+    omega (arith, e, widened f .width-of2 .ensures .0, h .longer)
 
 first-requires-5 : tie.Need-first-requires-5
 first-requires-5 c κs = search needs
 
 extension-length-requires : tie.Need-extension-length-requires
 extension-length-requires c κs =
-    let at-width-of2 = c .before .before .before in
-    let at-if4 = at-width-of2 .before in
-    let st = at-if4 .before .before .before .before .before in
-    let ws = st .args .p .now in
-    let n = st .args .n .0 in
-    let R = st .pre .0 in
-    let r = R .ready in
-    let k = st .args .k in
-    let is-k = st .pre .1 in
-    let l = at-if4 .if4 .left in
-    let h = extension-of ws n r k is-k l in
-    (omega (arith, l), kind-below ws n r k is-k, named-as R (h .less-a) (c .first5 .ensures), omega (arith, at-width-of2 .width-of2 .ensures .0, width-small ws n r k is-k))
+    let f = c .before .before in
+    let s = extension-entry f in
+    let R = s .pre .0 in
+    let l = extension f .if4 .left in
+    let h = extension-of (ws s) (n s) (R .ready) (k s) (s .pre .1) l in
+    let w = width-small (ws s) (n s) (R .ready) (k s) (s .pre .1) in
+    (omega (arith, l), kind-below (ws s) (n s) (R .ready) (k s) (s .pre .1), named-as R (h .less-a) (c .first5 .ensures), omega (arith, widened f .width-of2 .ensures .0, w))
 
 returns-5 : tie.Need-returns-5
 returns-5 c =
-    let at-first5 = c .before in
-    let at-width-of3 = at-first5 .before in
-    let at-first4 = at-width-of3 .before in
-    let at-width-of2 = at-first4 .before in
-    let at-if4 = at-width-of2 .before in
-    let st = at-if4 .before .before .before .before .before in
-    let ws = st .args .p .now in
-    let n = st .args .n .0 in
-    let R = st .pre .0 in
-    let r = R .ready in
-    let k = st .args .k in
-    let is-k = st .pre .1 in
-    let l = at-if4 .if4 .left in
-    let e = at-width-of3 .width-of3 .ensures .0 ∙ ap (widthAt ws) (at-first4 .first4 .ensures) in
-    let f = at-width-of2 .width-of2 .ensures .0 in (
-      c .extension-length .ensures .0 ∙ (λ j. length (show (apply1 (index1 (functionOf (kindAt k)) (f j - e j)) (nameOf ws (at-first5 .first5 .ensures j))))) ∙ sym (ap
-          (λ (u : Sexp). length (show u)) (extension-term ws n r k is-k l)),
+    let d = c .before in
+    let f = d .before .before in
+    let s = extension-entry f in
+    let e = d .before .width-of3 .ensures .0 ∙ ap (widthAt (ws s)) (f .first4 .ensures) in
+    let g = widened f .width-of2 .ensures .0 in (
+      c .extension-length .ensures .0 ∙ (λ j. length (show (apply1 (index1 (functionOf (kindAt (k s))) (g j - e j)) (nameOf (ws s) (d .first5 .ensures j))))) ∙ sym (ap
+          (λ (u : Sexp). length (show u)) (extension-term (ws s) (n s) (s .pre .0 .ready) (k s) (s .pre .1) (extension f .if4 .left))),
       c .extension-length .ensures .1,
     )
 
