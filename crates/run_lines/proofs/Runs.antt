@@ -158,4 +158,10 @@ module _ (input out : List ℕ) where
         let f : eqb (startRefusal input .number) 0 ≡ true = eq-eqb (startRefusal input .number) 0 e in
         let rest = read .next-is zero-is in
         let u = rw (words-are size e, part-is input (s .next), rest) at r in
-        record { number-is = rw (here, f) (u .number-is); position-is = rw (here, f) (u .position-is); in-start-is = rw (here, f) (u .in-start-is); wrote = rw (here, f) (u .wrote); length-in = u .length-in }
+        record {
+          number-is = rw (here, f) (u .number-is);
+          position-is = rw (here, f) (u .position-is);
+          in-start-is = rw (here, f) (u .in-start-is);
+          wrote = rw (here, f) (u .wrote);
+          length-in = u .length-in;
+        }

@@ -1,6 +1,8 @@
 -- `run_lines::put_line` meets its contract.
 use mathlib.Core.Path.{_≡_, sym, refl, ap, _∙_}
 use native.Mathlib.Omega.{arith}
+use Prim.Native.Nat.{_+_, _≤_}
+use lib.ListN.{length}
 use Rattle.text_digits.proofs.Laws.{wrote-then, wrote-as, wrote-length}
 use Rattle.run_lines.proofs.Texts.{name-length, mark-length}
 use Rattle.run_block.specs.Lanes.{number}
@@ -10,6 +12,52 @@ use borrow.Author.Needs.{needs}
 use Rattle.run_lines.proofs.put_line.Statement.{statement}
 use Rattle.run_lines.proofs.put_line.Tie as tie
 
+-- ---- places, and how far the line has come there, in a buffer of the same length
+
+abbrev entry : tie.After-put-register → tie.Start
+entry c = c .before .before .before
+
+abbrev digits-done : tie.After-put → tie.After-put-register
+digits-done c = c .before .before .before .before .before
+
+abbrev blank-done : tie.After-put-decimal → tie.After-put
+blank-done c = c .before .before .before .before
+
+abbrev start : tie.After-put-decimal → tie.Start
+start c = entry (digits-done (blank-done c))
+
+abbrev compared : tie.After-put-mark → tie.After-is-same
+compared c = c .before .before
+
+abbrev name-done : tie.After-put-mark → tie.After-put-decimal
+name-done c = compared c .before .before .before
+
+from-digits : (c : tie.After-put-register) → let a = entry c .args in
+    (c .put-register .result ≡ a .at + 32) × (length (c .put-register .last .1 .1 .0) ≡ length (a .buf .now))
+from-digits c =
+    let w = c .put-register .ensures in
+    (omega (arith, w .next-is, digits-length 32 (number (entry c .args .new))), wrote-length w)
+
+from-blank : (c : tie.After-put) → let a = entry (digits-done c) .args in (c .put .result ≡ a .at + 34) × (length (c .put .last .1 .0) ≡ length (a .buf .now))
+from-blank c =
+    let w = c .put .ensures in
+    let f = from-digits (digits-done c) in
+    (omega (arith, f .0, w .next-is), omega (arith, f .1, wrote-length w))
+
+from-name : (c : tie.After-put-decimal) → let a = start c .args in (c .put-decimal .result ≤ a .at + 36) × (length (c .put-decimal .last .1 .0) ≡ length (a .buf .now))
+from-name c =
+    let w = c .put-decimal .ensures in
+    let f = from-blank (blank-done c) in
+    (omega (arith, f .0, w .next-is, name-length (start c .args .r) (start c .pre .0)), omega (arith, f .1, wrote-length w))
+
+from-mark : (c : tie.After-put-mark) → let a = start (name-done c) .args in (c .put-mark .result ≤ a .at + 38) × (length (c .put-mark .last .1 .0) ≡ length (a .buf .now))
+from-mark c =
+    let w = c .put-mark .ensures in
+    let f = from-name (name-done c) in
+    (omega (arith, f .0, w .next-is, mark-length (compared c .is-same .result)), omega (arith, f .1, wrote-length w))
+
+-- ---- needs
+
 put-register-requires : tie.Need-put-register-requires
 put-register-requires c κs = search needs
 
@@ -18,79 +66,47 @@ slice-aggregate-put c = search needs
 
 put-requires : tie.Need-put-requires
 put-requires c κs =
-    let w1 = c .before .before .before .before in
-    let st = w1 .before .before .before in
-    let len1 = digits-length 32 (number (st .args .new)) in
-    let p = w1 .put-register .ensures in
-    record { room = omega (arith, p .next-is, wrote-length p, len1, st .pre .1) }
+    let w = c .before .before .before .before in
+    let f = from-digits w in
+    record { room = omega (arith, f .0, f .1, entry w .pre .1) }
 
 put-decimal-requires : tie.Need-put-decimal-requires
 put-decimal-requires c κs =
-    let w2 = c .before .before .before in
-    let w1 = w2 .before .before .before .before .before in
-    let st = w1 .before .before .before in
-    let len1 = digits-length 32 (number (st .args .new)) in
-    let p = w1 .put-register .ensures in
-    let q = w2 .put .ensures in
-    record { room = omega (arith, p .next-is, wrote-length p, q .next-is, wrote-length q, len1, name-length (st .args .r) (st .pre .0), st .pre .1) }
+    let w = c .before .before .before in
+    let s = entry (digits-done w) in
+    let f = from-blank w in
+    record { room = omega (arith, f .0, f .1, name-length (s .args .r) (s .pre .0), s .pre .1) }
 
 is-same-requires : tie.Need-is-same-requires
 is-same-requires c κs = search needs
 
 put-mark-requires : tie.Need-put-mark-requires
 put-mark-requires c κs =
-    let w3 = c .before .before .before .before in
-    let w2 = w3 .before .before .before .before in
-    let w1 = w2 .before .before .before .before .before in
-    let st = w1 .before .before .before in
-    let len1 = digits-length 32 (number (st .args .new)) in
-    let p = w1 .put-register .ensures in
-    let q = w2 .put .ensures in
-    let d = w3 .put-decimal .ensures in
-    omega (arith, p .next-is, wrote-length p, q .next-is, wrote-length q, d .next-is, wrote-length d, len1, name-length (st .args .r) (st .pre .0), st .pre .1)
+    let w = c .before .before .before .before in
+    let f = from-name w in
+    omega (arith, f .0, f .1, start w .pre .1)
 
 slice-aggregate-put-2 : tie.Need-slice-aggregate-put-2
 slice-aggregate-put-2 c = search needs
 
 put-requires-2 : tie.Need-put-requires-2
 put-requires-2 c κs =
-    let w4 = c .before .before .before .before in
-    let s = w4 .before .before in
-    let w3 = s .before .before .before in
-    let w2 = w3 .before .before .before .before in
-    let w1 = w2 .before .before .before .before .before in
-    let st = w1 .before .before .before in
-    let len1 = digits-length 32 (number (st .args .new)) in
-    let p = w1 .put-register .ensures in
-    let q = w2 .put .ensures in
-    let d = w3 .put-decimal .ensures in
-    let m = w4 .put-mark .ensures in
-    record {
-      room =
-          omega
-          (arith, p .next-is, wrote-length p, q .next-is, wrote-length q, d .next-is, wrote-length d, m .next-is, wrote-length m, mark-length (s .is-same .result), len1, name-length (st .args .r) (st .pre .0), st .pre .1);
-    }
+    let w = c .before .before .before .before in
+    let f = from-mark w in
+    record { room = omega (arith, f .0, f .1, start (name-done w) .pre .1) }
 
 same-length : tie.Need-same-length
 same-length c = search needs
 
 returns : tie.Need-returns
 returns c =
-    let w5 = c .before .before in
-    let w4 = w5 .before .before .before .before .before in
-    let s = w4 .before .before in
-    let w3 = s .before .before .before in
-    let w2 = w3 .before .before .before .before in
-    let w1 = w2 .before .before .before .before .before in
-    let st = w1 .before .before .before in
-    let len1 = digits-length 32 (number (st .args .new)) in
-    let p = w1 .put-register .ensures in
-    let q = w2 .put .ensures in
-    let d = w3 .put-decimal .ensures in
-    let m = w4 .put-mark .ensures in
-    let n = w5 .put2 .ensures in (
-      wrote-then p (wrote-then q (wrote-then d (wrote-then (wrote-as (ap mark (sym (s .is-same .ensures))) m) n))),
-      omega (arith, p .next-is, q .next-is, d .next-is, m .next-is, n .next-is, mark-length (s .is-same .result), len1, name-length (st .args .r) (st .pre .0)),
+    let e = c .before .before in
+    let m = e .before .before .before .before .before in
+    let d = name-done m in
+    let b = blank-done d in
+    let marked = wrote-as (ap mark (sym (compared m .is-same .ensures))) (m .put-mark .ensures) in (
+      wrote-then (digits-done b .put-register .ensures) (wrote-then (b .put .ensures) (wrote-then (d .put-decimal .ensures) (wrote-then marked (e .put2 .ensures)))),
+      omega (arith, from-mark m .0, e .put2 .ensures .next-is),
     )
 
 pub put-line-spec : {M : Type 1} → statement M
