@@ -7,7 +7,10 @@ use native.Mathlib.Omega.{arith}
 use Rattle.terms.specs.Expr.{Expr, Var, Const, width}
 use Rattle.terms.specs.Value.{value, bit}
 use Rattle.neon.specs.declared.Instruction.{Instruction}
-use Rattle.neon.specs.Op.{Op, Arrangement, opAt, arrangementAt, laneBits, full, SHL, SQSHLI, UQSHLI, SQSHLU, SSHR, USHR, SRSHR, URSHR, SSHL, USHL, SRSHL, URSHL, SQSHL, UQSHL, SQRSHL, UQRSHL, SLI, SRI, SQADD, UQADD, SQSUB, UQSUB, SHADD, UHADD, SRHADD, URHADD, SQXTN, UQXTN, SQXTUN, SHRN, RSHRN, SQSHRN, SQRSHRN, UQSHRN, UQRSHRN, SQSHRUN, SQRSHRUN, SQABS, SQNEG, SQDMULH, SQRDMULH, SQDMULL, SQDMLAL, SQDMLSL, SQDMULL2, SQDMLAL2, SQDMLSL2, SQDMULLE, SQDMLALE, SQDMLSLE, SQDMULL2E, SQDMLAL2E, SQDMLSL2E, SUQADD, USQADD, SABD, UABD, SABA, UABA, CNT, CLZ, CLS, RBIT, ADDHN, RADDHN, SUBHN, RSUBHN}
+use Rattle.neon.specs.Op.{Op, Arrangement, opAt, arrangementAt, laneBits, full, SHL, SQSHLI, UQSHLI, SQSHLU, SSHR, USHR, SRSHR, URSHR, SSHL, USHL, SRSHL, URSHL, SQSHL, UQSHL, SQRSHL, UQRSHL}
+use Rattle.neon.specs.Op.{SLI, SRI, SQADD, UQADD, SQSUB, UQSUB, SHADD, UHADD, SRHADD, URHADD, SQXTN, UQXTN, SQXTUN, SHRN, RSHRN, SQSHRN, SQRSHRN, UQSHRN, UQRSHRN, SQSHRUN, SQRSHRUN, SQABS}
+use Rattle.neon.specs.Op.{SQNEG, SQDMULH, SQRDMULH, SQDMULL, SQDMLAL, SQDMLSL, SQDMULL2, SQDMLAL2, SQDMLSL2, SQDMULLE, SQDMLALE, SQDMLSLE, SQDMULL2E, SQDMLAL2E, SQDMLSL2E, SUQADD, USQADD}
+use Rattle.neon.specs.Op.{SABD, UABD, SABA, UABA, CNT, CLZ, CLS, RBIT, ADDHN, RADDHN, SUBHN, RSUBHN}
 use Rattle.neon.specs.Form.{form, firstFull, secondFull, byElement, sourceBits, least, most, laneCount, firstLane, secondLane}
 use Rattle.neon.specs.Arm.{lane}
 use Rattle.neon.specs.Run.{readBits, armStep, armRun}
