@@ -5,96 +5,86 @@ use native.Mathlib.Omega.{arith}
 use lib.ListN.{length}
 use Rattle.script_length.proofs.Answers.{few, all-named, below}
 use Rattle.script_lane_meaning.specs.LaneScript.{laneScriptOf}
-use Rattle.script_lane_length.proofs.Answers.{fine}
+use Rattle.script_lane_length.proofs.Answers.{Fine, fine}
 use Rattle.script_lane_write.proofs.Answers.{short, fits, first-number, refused, written}
 use borrow.Author.Needs.{needs}
 use Rattle.script_lane_write.proofs.write_lane_script.Statement.{statement}
 use Rattle.script_lane_write.proofs.write_lane_script.Tie as tie
+
+-- ---- places, and what is known there
+
+abbrev entry : tie.After-lane-number → tie.Start
+entry c = c .before .before .before
+
+abbrev first : tie.After-lane-measure → tie.After-lane-number
+first c = c .before .before
+
+abbrev start : tie.After-lane-measure → tie.Start
+start c = entry (first c)
+
+-- no refusal applies but the buffer's
+none : (c : tie.Else1) → let a = entry (c .before) .args in Fine (a .pool .now) (a .count) (a .a) (a .b) (a .hi) (a .lo)
+none c =
+    let a = entry (c .before) .args in
+    fine (a .pool .now) (a .count) (a .a) (a .b) (a .hi) (a .lo) 0 (omega (arith, c .before .lane-number .ensures, c .if1 .left))
+
+-- the whole script fits the buffer
+room : (c : tie.Else2) → let a = start (c .before) .args in length (laneScriptOf (a .pool .now) (a .count) (a .a) (a .b) (a .hi) (a .lo)) ≤ length (a .buffer .now)
+room c = omega (arith, c .before .lane-measure .ensures, c .if2 .left)
+
+-- ---- needs
 
 lane-number-requires : tie.Need-lane-number-requires
 lane-number-requires c κs = search needs
 
 returns : tie.Need-returns
 returns c =
-    let at-lane-number = c .before in
-    let st = at-lane-number .before .before .before in
-    let ws = st .args .pool .now in
-    let n = st .args .count in
-    let a = st .args .a in
-    let b = st .args .b in
-    let hi = st .args .hi in
-    let lo = st .args .lo in
-    refused ws n a b hi lo (st .args .buffer .now) (first-number ws n a b hi lo _ (at-lane-number .lane-number .ensures) (c .if1 .taken)) (c .if1 .taken)
+    let l = c .before in
+    let s = entry l .args in
+    refused (s .pool .now) (s .count) (s .a) (s .b) (s .hi) (s .lo) (s .buffer .now)
+    (first-number (s .pool .now) (s .count) (s .a) (s .b) (s .hi) (s .lo) _ (l .lane-number .ensures) (c .if1 .taken)) (c .if1 .taken)
 
 lane-measure-requires : tie.Need-lane-measure-requires
 lane-measure-requires c κs =
-    let at-lane-number = c .before in
-    let st = at-lane-number .before .before .before in
-    let ws = st .args .pool .now in
-    let n = st .args .count in
-    let a = st .args .a in
-    let b = st .args .b in
-    let hi = st .args .hi in
-    let lo = st .args .lo in
-    let f = fine ws n a b hi lo 0 (omega (arith, at-lane-number .lane-number .ensures, c .if1 .left)) in
-    let g = f .nodes in
-    (all-named ws n (g .pool), few ws n (g .pool), below ws n a (g .first), below ws n b (g .second), omega (arith, f .under), omega (arith, f .order, f .under))
+    let x = entry (c .before) .args in
+    let f = none c in
+    let g = f .nodes in (
+      all-named (x .pool .now) (x .count) (g .pool),
+      few (x .pool .now) (x .count) (g .pool),
+      below (x .pool .now) (x .count) (x .a) (g .first),
+      below (x .pool .now) (x .count) (x .b) (g .second),
+      omega (arith, f .under),
+      omega (arith, f .order, f .under),
+    )
 
 returns-2 : tie.Need-returns-2
 returns-2 c =
-    let at-lane-measure = c .before in
-    let at-if1 = at-lane-measure .before in
-    let at-lane-number = at-if1 .before in
-    let st = at-lane-number .before .before .before in
-    let ws = st .args .pool .now in
-    let n = st .args .count in
-    let a = st .args .a in
-    let b = st .args .b in
-    let hi = st .args .hi in
-    let lo = st .args .lo in
-    let f = fine ws n a b hi lo 0 (omega (arith, at-lane-number .lane-number .ensures, at-if1 .if1 .left)) in
-    refused ws n a b hi lo (st .args .buffer .now) (sym (short ws n a b hi lo _ f (omega (arith, at-lane-measure .lane-measure .ensures, c .if2 .taken)))) (omega arith)
+    let m = c .before in
+    let a = start m .args in
+    refused (a .pool .now) (a .count) (a .a) (a .b) (a .hi) (a .lo) (a .buffer .now)
+    (sym (short (a .pool .now) (a .count) (a .a) (a .b) (a .hi) (a .lo) _ (none (m .before)) (omega (arith, m .lane-measure .ensures, c .if2 .taken)))) (omega arith)
 
 put-lane-script-requires : tie.Need-put-lane-script-requires
 put-lane-script-requires c κs =
-    let at-if2 = c .before in
-    let at-lane-measure = at-if2 .before in
-    let at-if1 = at-lane-measure .before in
-    let at-lane-number = at-if1 .before in
-    let st = at-lane-number .before .before .before in
-    let ws = st .args .pool .now in
-    let n = st .args .count in
-    let a = st .args .a in
-    let b = st .args .b in
-    let hi = st .args .hi in
-    let lo = st .args .lo in
-    let g = fine ws n a b hi lo 0 (omega (arith, at-lane-number .lane-number .ensures, at-if1 .if1 .left)) .nodes in
-    let named = all-named ws n (g .pool) in
-    let x = named a (below ws n a (g .first)) in
-    let y = named b (below ws n b (g .second)) in
-    (((λ m l. named m l .ready), x .ready .inside, y .ready .inside), record { room = omega (arith, at-lane-measure .lane-measure .ensures, at-if2 .if2 .left) })
+    let e = c .before in
+    let a = start (e .before) .args in
+    let g = none (e .before .before) .nodes in
+    let named = all-named (a .pool .now) (a .count) (g .pool) in
+    let x = named (a .a) (below (a .pool .now) (a .count) (a .a) (g .first)) in
+    let y = named (a .b) (below (a .pool .now) (a .count) (a .b) (g .second)) in
+    (((λ m l. named m l .ready), x .ready .inside, y .ready .inside), record { room = omega (arith, room e) })
 
 same-length : tie.Need-same-length
 same-length c = search needs
 
 returns-3 : tie.Need-returns-3
 returns-3 c =
-    let at-put-lane-script = c .before .before in
-    let at-if2 = at-put-lane-script .before .before in
-    let at-lane-measure = at-if2 .before in
-    let at-if1 = at-lane-measure .before in
-    let at-lane-number = at-if1 .before in
-    let st = at-lane-number .before .before .before in
-    let ws = st .args .pool .now in
-    let n = st .args .count in
-    let a = st .args .a in
-    let b = st .args .b in
-    let hi = st .args .hi in
-    let lo = st .args .lo in
-    let f = fine ws n a b hi lo 0 (omega (arith, at-lane-number .lane-number .ensures, at-if1 .if1 .left)) in
-    let size-is = at-lane-measure .lane-measure .ensures in
-    let h : length (laneScriptOf ws n a b hi lo) ≤ length (st .args .buffer .now) = omega (arith, size-is, at-if2 .if2 .left) in
-    written ws n a b hi lo (fits ws n a b hi lo _ f h) h size-is (at-put-lane-script .put-lane-script .ensures)
+    let p = c .before .before in
+    let e = p .before .before in
+    let m = e .before in
+    let a = start m .args in
+    written (a .pool .now) (a .count) (a .a) (a .b) (a .hi) (a .lo) (fits (a .pool .now) (a .count) (a .a) (a .b) (a .hi) (a .lo) _ (none (m .before)) (room e)) (room e)
+    (m .lane-measure .ensures) (p .put-lane-script .ensures)
 
 pub write-lane-script-spec : {M : Type 1} → statement M
 write-lane-script-spec =
