@@ -159,7 +159,8 @@ module _ {M : Type 1} (𝓤 : URA M) (H : Heap 𝓤) (A : Atoms 𝓤) (W : Given
           (from ! (stop !)) (init ! 14 refl (tt, (tt, (record { fits = room .0 }, tt)))) $
           lft-new ! tt (λ ν. move ! (3 ∷ 4 ∷ []) $
           use2 W (later (some (λ (δ : GName). ‵ (PoolLent c ν δ ps₀) ⊛ ‵ (PoolKept c ν δ ps₀)))) (slice-lends u64 κ (ν ∷ []) q γ b o 𝓤 H A W (named 0) (named 0) ps₀) $ await ! tt $
-          pick ! (λ δ. split ! $ move ! (2 ∷ 0 ∷ []) $ use2 W (raw (Starting .pre (to-start 𝓤 H A W at-mem ran c bounds ν δ))) (goes-start 𝓤 H A W at-mem ran c bounds ν δ (start-room ps₀ ys r e small)) $
+          pick ! (λ δ. split ! $ move ! (2 ∷ 0 ∷ []) $
+          use2 W (raw (Starting .pre (to-start 𝓤 H A W at-mem ran c bounds ν δ))) (goes-start 𝓤 H A W at-mem ran c bounds ν δ (start-room ps₀ ys r e small)) $
           calls-at ! fm Starting start-known (to-start 𝓤 H A W at-mem ran c bounds ν δ) (and-then ! (load ! (from ! (stop !)) (look ! 14 refl)) (no-more !)) (λ v.
           use1 W (later (some (λ (g : RegisterMap). ((‵ (flft (ν ∷ []) fullShare) ⊛ ‵ ftrue) ⊛ ‵ (S .own g (v ∷ []))) ⊛ raw (Begun 𝓤 H A W at-mem ran c bounds ν δ g)))) (id⊢ 𝓤 _) $ await ! tt $
           pick ! (λ g. split ! $ move ! (1 ∷ []) $ use1 W (begun 𝓤 H A W at-mem ran c bounds ν δ g) (id⊢ 𝓤 _) $ pick ! (λ zs. split ! $
