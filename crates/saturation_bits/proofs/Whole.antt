@@ -5,7 +5,7 @@ use mathlib.Core.Bool.{Bool, true, false, cond}
 use native.Mathlib.Omega.{arith}
 use Rattle.terms.specs.Expr.{Expr, Const, Compare, Ite, Concat}
 use Rattle.terms.specs.declared.CmpOp.the-variants.{Eq}
-use Rattle.neon.specs.Op.{Op, Arrangement, laneBits, full, bitsIf, SHL, SQSHLI, UQSHLI, SQSHLU, SSHR, USHR, SRSHR, URSHR, SSHL, USHL, SRSHL, URSHL, SQSHL, UQSHL, SQRSHL, UQRSHL, SLI, SRI, SQADD, UQADD, SQSUB, UQSUB, SHADD, UHADD, SRHADD, URHADD, SQXTN, UQXTN, SQXTUN, SHRN, RSHRN, SQSHRN, SQRSHRN, UQSHRN, UQRSHRN, SQSHRUN, SQRSHRUN, SQABS, SQNEG, SQDMULH, SQRDMULH, SQDMULL, SQDMLAL, SQDMLSL, SQDMULL2, SQDMLAL2, SQDMLSL2, SQDMULLE, SQDMLALE, SQDMLSLE, SQDMULL2E, SQDMLAL2E, SQDMLSL2E, SUQADD, USQADD, SABD, UABD, SABA, UABA, CNT, CLZ, CLS, RBIT, ADDHN, RADDHN, SUBHN, RSUBHN}
+use Rattle.neon.specs.Op.{Op, Arrangement, laneBits, full, bitsIf}
 use Rattle.neon.specs.Form.{form, firstFull, secondFull, byElement, sourceBits, most, laneCount, firstLane, secondLane}
 use Rattle.neon.proofs.Geometry.{sized, source-some, filled, inside, made-view, first-in, second-in}
 use Rattle.trees.specs.Simd.{extractCollapsing, extractLane, concatLanes}
@@ -29,73 +29,73 @@ family : (o : Op) (n k i : ℕ) (u : Bool) (d a b : Expr) (j : ℕ)
     → laneBit (neonOp o i u) n (extractLane d n j) (extractLane a (sourceBits (form o .lanes) n) (firstLane (form o .lanes) k j))
     (extractLane b (sourceBits (form o .lanes) n) (secondLane (form o .lanes) (byElement o) k i j))
     ≡ familyBit (neonOp o i u) n k i d a b j
-family SHL n k i u d a b j = refl
-family SQSHLI n k i u d a b j = refl
-family UQSHLI n k i u d a b j = refl
-family SQSHLU n k i u d a b j = refl
-family SSHR n k i u d a b j = refl
-family USHR n k i u d a b j = refl
-family SRSHR n k i u d a b j = refl
-family URSHR n k i u d a b j = refl
-family SSHL n k i u d a b j = refl
-family USHL n k i u d a b j = refl
-family SRSHL n k i u d a b j = refl
-family URSHL n k i u d a b j = refl
-family SQSHL n k i u d a b j = refl
-family UQSHL n k i u d a b j = refl
-family SQRSHL n k i u d a b j = refl
-family UQRSHL n k i u d a b j = refl
-family SLI n k i u d a b j = refl
-family SRI n k i u d a b j = refl
-family SQADD n k i u d a b j = refl
-family UQADD n k i u d a b j = refl
-family SQSUB n k i u d a b j = refl
-family UQSUB n k i u d a b j = refl
-family SHADD n k i u d a b j = refl
-family UHADD n k i u d a b j = refl
-family SRHADD n k i u d a b j = refl
-family URHADD n k i u d a b j = refl
-family SQXTN n k i u d a b j = refl
-family UQXTN n k i u d a b j = refl
-family SQXTUN n k i u d a b j = refl
-family SHRN n k i u d a b j = refl
-family RSHRN n k i u d a b j = refl
-family SQSHRN n k i u d a b j = refl
-family SQRSHRN n k i u d a b j = refl
-family UQSHRN n k i u d a b j = refl
-family UQRSHRN n k i u d a b j = refl
-family SQSHRUN n k i u d a b j = refl
-family SQRSHRUN n k i u d a b j = refl
-family SQABS n k i u d a b j = refl
-family SQNEG n k i u d a b j = refl
-family SQDMULH n k i u d a b j = refl
-family SQRDMULH n k i u d a b j = refl
-family SQDMULL n k i u d a b j = refl
-family SQDMLAL n k i u d a b j = refl
-family SQDMLSL n k i u d a b j = refl
-family SQDMULL2 n k i u d a b j = refl
-family SQDMLAL2 n k i u d a b j = refl
-family SQDMLSL2 n k i u d a b j = refl
-family SQDMULLE n k i u d a b j = refl
-family SQDMLALE n k i u d a b j = refl
-family SQDMLSLE n k i u d a b j = refl
-family SQDMULL2E n k i u d a b j = refl
-family SQDMLAL2E n k i u d a b j = refl
-family SQDMLSL2E n k i u d a b j = refl
-family SUQADD n k i u d a b j = refl
-family USQADD n k i u d a b j = refl
-family SABD n k i u d a b j = refl
-family UABD n k i u d a b j = refl
-family SABA n k i u d a b j = refl
-family UABA n k i u d a b j = refl
-family CNT n k i u d a b j = refl
-family CLZ n k i u d a b j = refl
-family CLS n k i u d a b j = refl
-family RBIT n k i u d a b j = refl
-family ADDHN n k i u d a b j = refl
-family RADDHN n k i u d a b j = refl
-family SUBHN n k i u d a b j = refl
-family RSUBHN n k i u d a b j = refl
+family Op.SHL n k i u d a b j = refl
+family Op.SQSHLI n k i u d a b j = refl
+family Op.UQSHLI n k i u d a b j = refl
+family Op.SQSHLU n k i u d a b j = refl
+family Op.SSHR n k i u d a b j = refl
+family Op.USHR n k i u d a b j = refl
+family Op.SRSHR n k i u d a b j = refl
+family Op.URSHR n k i u d a b j = refl
+family Op.SSHL n k i u d a b j = refl
+family Op.USHL n k i u d a b j = refl
+family Op.SRSHL n k i u d a b j = refl
+family Op.URSHL n k i u d a b j = refl
+family Op.SQSHL n k i u d a b j = refl
+family Op.UQSHL n k i u d a b j = refl
+family Op.SQRSHL n k i u d a b j = refl
+family Op.UQRSHL n k i u d a b j = refl
+family Op.SLI n k i u d a b j = refl
+family Op.SRI n k i u d a b j = refl
+family Op.SQADD n k i u d a b j = refl
+family Op.UQADD n k i u d a b j = refl
+family Op.SQSUB n k i u d a b j = refl
+family Op.UQSUB n k i u d a b j = refl
+family Op.SHADD n k i u d a b j = refl
+family Op.UHADD n k i u d a b j = refl
+family Op.SRHADD n k i u d a b j = refl
+family Op.URHADD n k i u d a b j = refl
+family Op.SQXTN n k i u d a b j = refl
+family Op.UQXTN n k i u d a b j = refl
+family Op.SQXTUN n k i u d a b j = refl
+family Op.SHRN n k i u d a b j = refl
+family Op.RSHRN n k i u d a b j = refl
+family Op.SQSHRN n k i u d a b j = refl
+family Op.SQRSHRN n k i u d a b j = refl
+family Op.UQSHRN n k i u d a b j = refl
+family Op.UQRSHRN n k i u d a b j = refl
+family Op.SQSHRUN n k i u d a b j = refl
+family Op.SQRSHRUN n k i u d a b j = refl
+family Op.SQABS n k i u d a b j = refl
+family Op.SQNEG n k i u d a b j = refl
+family Op.SQDMULH n k i u d a b j = refl
+family Op.SQRDMULH n k i u d a b j = refl
+family Op.SQDMULL n k i u d a b j = refl
+family Op.SQDMLAL n k i u d a b j = refl
+family Op.SQDMLSL n k i u d a b j = refl
+family Op.SQDMULL2 n k i u d a b j = refl
+family Op.SQDMLAL2 n k i u d a b j = refl
+family Op.SQDMLSL2 n k i u d a b j = refl
+family Op.SQDMULLE n k i u d a b j = refl
+family Op.SQDMLALE n k i u d a b j = refl
+family Op.SQDMLSLE n k i u d a b j = refl
+family Op.SQDMULL2E n k i u d a b j = refl
+family Op.SQDMLAL2E n k i u d a b j = refl
+family Op.SQDMLSL2E n k i u d a b j = refl
+family Op.SUQADD n k i u d a b j = refl
+family Op.USQADD n k i u d a b j = refl
+family Op.SABD n k i u d a b j = refl
+family Op.UABD n k i u d a b j = refl
+family Op.SABA n k i u d a b j = refl
+family Op.UABA n k i u d a b j = refl
+family Op.CNT n k i u d a b j = refl
+family Op.CLZ n k i u d a b j = refl
+family Op.CLS n k i u d a b j = refl
+family Op.RBIT n k i u d a b j = refl
+family Op.ADDHN n k i u d a b j = refl
+family Op.RADDHN n k i u d a b j = refl
+family Op.SUBHN n k i u d a b j = refl
+family Op.RSUBHN n k i u d a b j = refl
 
 module _ (o : Op) (v : Arrangement) (i : ℕ) (h : i ≤ most o (laneBits v)) (d a b : Expr) where
   lanes-same : (j : ℕ) → j < laneCount o v
