@@ -1,6 +1,5 @@
 -- exact_high: the doubled product, shifted down by a lane's bits.
 use native.Mathlib.Omega.{arith}
-use Prim.Native.Nat.{_+_, _*_}
 use Rattle.facts.proofs.Numbers.{small, half-fits}
 use Rattle.lower_exact.proofs.Exactly.{high}
 use borrow.Author.Needs.{needs}
@@ -27,13 +26,15 @@ shift-down-requires c κs =
     let l-double = c .before .before .before in
     let l-power = l-double .before .before in
     let st = l-power .before .before in
-    omega (
-      arith,
-      st .pre,
-      l-double .double .ensures .sized,
-      l-power .power .ensures,
-      half-fits (st .args .lane-bits) (st .args .lane-bits * 2 + 1) (st .pre .1 .2) (omega arith),
-      small (st .args .lane-bits) (st .args .lane-bits) (st .args .lane-bits * 2 + 1) (omega arith) (omega arith),
+    let n = st .args .lane-bits in (
+      omega (arith, st .pre, l-double .double .ensures .sized),
+      (
+        l-double .double .ensures .sized .under,
+        omega (arith, st .pre),
+        omega (arith, st .pre),
+        rw (l-power .power .ensures) (half-fits n _ (st .pre .1 .2) (omega (arith, st .pre))),
+        small n n _ (omega arith) (omega (arith, st .pre)),
+      ),
     )
 
 same-length : tie.Need-same-length
