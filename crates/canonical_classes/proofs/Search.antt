@@ -13,7 +13,7 @@ use Rattle.canonical_classes.specs.declared.Key.{Key}
 use Rattle.pool.specs.Node.{wordAt, kindNumber, aOf, bOf, cOf}
 use Rattle.pool_operands.specs.Operands.{hasA, hasB, hasC}
 use Rattle.canonical_classes.specs.Key.{classIf, keyOf, sameKey, bucketOf, wayOf, spreadOf, under, nextOf}
-use Rattle.canonical_classes.specs.Class.{On, Holds, Low, Rises}
+use Rattle.canonical_classes.specs.Class.{On, Comes, Holds, Low, Rises}
 
 -- ---- keys
 
@@ -59,20 +59,20 @@ key-made ws class n kind a b c p q r ek ep eq er ea eb ec =
 
 -- ---- the slots of a key
 
-way-less : (k : Key) (level : ℕ) → wayOf k level < 2
+pub way-less : (k : Key) (level : ℕ) → wayOf k level < 2
 unfolding wayOf
 way-less k level = omega arith
 
-first-less : (k : Key) (m : ℕ) → nextOf k m 0 < 131072 + 2 * (m + 1)
+pub next-first : (k : Key) (m : ℕ) → (65536 ≤ nextOf k m 0) × (nextOf k m 0 < 131072)
 unfolding nextOf
-first-less k m = omega arith
+next-first k m = (omega arith, omega arith)
 
 pub next-later : (k : Key) (m level : ℕ) → 0 < level → nextOf k m level ≡ under m (wayOf k level)
 unfolding nextOf
 next-later k m level h = rw (ne-eqb level 0 (λ e. omega (arith, e, h)))
 
 pub next-less : (k : Key) (m level : ℕ) → nextOf k m level < 131072 + 2 * (m + 1)
-next-less k m zero = first-less k m
+next-less k m zero = omega (arith, next-first k m .1)
 next-less k m (suc level) = omega (arith, next-later k m (suc level) (omega arith), way-less k (suc level))
 
 -- past the second table links rise
@@ -95,16 +95,21 @@ pub on-holds : (slots new : List ℕ) (k : Key) → Holds slots new → {s level
 on-holds slots new k h (On.here {s = s} {j = j} e) = On.here (h s j e)
 on-holds slots new k h (On.there {s = s} {m = m} e o) = On.there (h s m e) (on-holds slots new k h o)
 
+pub comes-holds : (slots new : List ℕ) (k : Key) → Holds slots new → {s level : ℕ} → Comes slots k s level → Comes new k s level
+comes-holds slots new k h (Comes.start e z) = Comes.start e z
+comes-holds slots new k h (Comes.on {t = t} {m = m} c d e z) = Comes.on (comes-holds slots new k h c) (h t m d) e z
+
 -- where the search for k stands: all that it has to meet is yet to come, and what is met from here on is met from the bucket
 pub record Searching (ws class slots : List ℕ) (n : ℕ) (k : Key) (slot level : ℕ) : Type 0 where
   pub slot-less : slot < 131072 + 2 * n
   pub deeper : 0 < getD slots slot 0 → level ≤ getD slots slot 0
+  pub comes : Comes slots k slot level
   pub left : (j : ℕ) → On slots k (bucketOf k) 0 j → keyOf ws class j ≡ k → On slots k slot level j
   pub back : (new : List ℕ) → Holds slots new → (j : ℕ) → On new k slot level j → On new k (bucketOf k) 0 j
 
 pub search-first : (ws class slots : List ℕ) (n : ℕ) (k : Key) → bucketOf k < 65536 → Searching ws class slots n k (bucketOf k) 0
 search-first ws class slots n k h =
-    record { slot-less = omega arith; deeper = λ p. omega arith; left = λ j o e. o; back = λ new g j o. o }
+    record { slot-less = omega arith; deeper = λ p. omega arith; comes = Comes.start refl refl; left = λ j o e. o; back = λ new g j o. o }
 
 module _ (ws class slots : List ℕ) (n : ℕ) (k : Key) where
   -- past node m, which has another key
@@ -117,6 +122,7 @@ module _ (ws class slots : List ℕ) (n : ℕ) (k : Key) where
       record {
         slot-less = omega (arith, next-less k m level, l);
         deeper = λ p. deep (ltb 0 level) refl p;
+        comes = Comes.on (S .comes) e refl z;
         left = λ j o f.
             rw z (on-next slots k slot level m j e (S .left j o f) (λ q. keys-differ (keyOf ws class m) k d (ap (keyOf ws class) (sym q) ∙ f)));
         back = λ new g j o. S .back new g j (On.there (g slot m e) (rw z at o));

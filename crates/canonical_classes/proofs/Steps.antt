@@ -13,11 +13,12 @@ use Rattle.pool.specs.Node.{cellAt, kindNumber}
 use Rattle.pool.specs.Rules.{Valid, okPool, okNode}
 use Rattle.facts.proofs.Tests.{and-both}
 use Rattle.pool.specs.Unfold.{unfoldAt}
+use Rattle.canonical_classes.specs.declared.Key.{Key}
 use Rattle.canonical_classes.specs.declared.Place.{Place}
 use Rattle.pool_operands.specs.Operands.{hasA, hasB, hasC}
 use Rattle.canonical_classes.specs.Key.{classIf, keyOf, bucketOf, under}
-use Rattle.canonical_classes.specs.Class.{Classes, Empty, On, Holds, Found, Long, Kept}
-use Rattle.canonical_classes.proofs.Search.{on-holds}
+use Rattle.canonical_classes.specs.Class.{Classes, Empty, On, Reached, Once, Low, Holds, Found, Long, Kept}
+use Rattle.canonical_classes.proofs.Search.{on-holds, comes-holds}
 use Rattle.canonical_classes.proofs.Keys.{node-read, key-tree, tree-key}
 
 pub kept-first : (ws class slots : List ℕ) → Long class → length slots ≡ 262144 → Empty slots → Kept ws 0 class slots
@@ -28,6 +29,8 @@ kept-first ws class slots lc ls e =
       classes = record { first = λ m h. absurd (omega arith); tree = λ m h. absurd (omega arith); one = λ m p h. absurd (omega arith) };
       low = λ s. omega (arith, e s);
       rises = λ m w l h. absurd (omega (arith, h, e (under m w)));
+      once = λ s t m h. absurd (omega (arith, h, e s));
+      own = λ s m h. absurd (omega (arith, h, e s));
       ways = λ m h. absurd (omega arith);
     }
 
@@ -50,6 +53,14 @@ by-test P c b l x h f g = go (eqb c b) refl
     go : (t : Bool) → eqb c b ≡ t → P (getD (set l b x) c 0)
     go true e = let q = eqb-true c b e in subst P (sym (ap (λ (i : ℕ). getD (set l b x) i 0) q ∙ getD-set-same l b x 0 h)) (f q)
     go false e = subst P (sym (getD-set-other l b c x 0 (eqb-false c b e))) g
+
+-- a link to a node that had none
+once-set : (slots : List ℕ) (t n : ℕ) → t < length slots → Low slots n → Once slots → Once (set slots t (n + 1))
+once-set slots t n room low once s u m =
+    let new = set slots t (n + 1) in
+    by-test (λ x. x ≡ suc m → getD new u 0 ≡ suc m → s ≡ u) s t slots (n + 1) room
+    (λ e d. by-test (λ x. x ≡ suc m → s ≡ u) u t slots (n + 1) room (λ f g. e ∙ sym f) (λ f. absurd (omega (arith, f, d, low u))))
+    (λ d. by-test (λ x. x ≡ suc m → s ≡ u) u t slots (n + 1) room (λ f g. absurd (omega (arith, g, d, low s))) (once s u m d))
 
 module _ (ws : List ℕ) (count : ℕ) (v : Valid ws count) (words : (i : ℕ) → getD ws i 0 < 18446744073709551616) (count≤ : count ≤ 65535) where
   module _ (n : ℕ) (here : n < count) (class slots : List ℕ) (K : Kept ws n class slots) where
@@ -108,6 +119,9 @@ module _ (ws : List ℕ) (count : ℕ) (v : Valid ws count) (words : (i : ℕ) �
               (λ p g f. K .classes .one p q g h (f ∙ sym same));
           low = λ s. omega (arith, K .low s);
           rises = K .rises;
+          once = K .once;
+          own = λ s m f.
+              subst (λ (k : Key). Reached slots k s) (sym (key-stays c m (omega (arith, f, K .low s)))) (K .own s m f);
           ways = by-last (λ m. getD (set class n c) m 0 ≡ m → let k = keyOf ws (set class n c) m in On slots k (bucketOf k) 0 m) n
               (λ f. absurd (omega (arith, f, at-n c)))
               (λ m l f. rw (key-stays c m (omega arith)) (K .ways m l (sym (at-m c m l) ∙ f)));
@@ -127,6 +141,8 @@ module _ (ws : List ℕ) (count : ℕ) (v : Valid ws count) (words : (i : ℕ) �
         let kq : keyOf ws class q ≡ keyOf ws class n =
         tree-key ws count v words n class (K .classes) count≤ q n (omega arith) here (omega arith) (omega arith) (K .classes .tree p l ∙ e) in
         F .missed z q (rw (← kq) (K .ways q (omega arith) (own-class p l))) kq in
+        let comes : (s m : ℕ) → m ≤ n → Reached slots (keyOf ws class m) s → Reached slots′ (keyOf ws (set class n n) m) s = λ s m l r.
+        rw (key-stays n m l) (r .0, comes-holds slots slots′ (keyOf ws class m) holds (r .1)) in
         record {
           class-long = simp length-set (K .class-long);
           slots-long = simp length-set (K .slots-long);
@@ -134,6 +150,10 @@ module _ (ws : List ℕ) (count : ℕ) (v : Valid ws count) (words : (i : ℕ) �
           low = λ s. by-test (λ x. x ≤ n + 1) s t slots (n + 1) room (λ e. omega arith) (omega (arith, K .low s));
           rises = λ m w l.
               by-test (λ x. 0 < x → m + 1 < x) (under m w) t slots (n + 1) room (λ e h. omega (arith, e, F .slot-less)) (K .rises m w l);
+          once = once-set slots t n room (K .low) (K .once);
+          own = λ s m.
+              by-test (λ x. x ≡ suc m → Reached slots′ (keyOf ws (set class n n) m) s) s t slots (n + 1) room
+              (λ e d. let q : m ≡ n = omega (arith, d) in rw (e, q) (comes t n (omega arith) (F .comes z))) (λ d. comes s m (omega (arith, d, K .low s)) (K .own s m d));
           ways = by-last (λ m. getD (set class n n) m 0 ≡ m → let k = keyOf ws (set class n n) m in On slots′ k (bucketOf k) 0 m) n
               (λ f. rw (key-stays n n (omega arith)) (F .leads z slots′ holds (getD-set-same slots t (n + 1) 0 room ∙ add-one n)))
               (λ m l f. rw (key-stays n m (omega arith)) (on-holds slots slots′ (keyOf ws class m) holds (K .ways m l (sym (at-m n m l) ∙ f))));

@@ -24,6 +24,18 @@ pub data On (slots : List ℕ) (k : Key) : (s level j : ℕ) → Type 0 where
   here : {s level j : ℕ} → getD slots s 0 ≡ suc j → On slots k s level j
   there : {s level m j : ℕ} → getD slots s 0 ≡ suc m → On slots k (nextOf k m level) (suc level) j → On slots k s level j
 
+-- the search for the key k comes to slot s
+pub data Comes (slots : List ℕ) (k : Key) : (s level : ℕ) → Type 0 where
+  start : {s level : ℕ} → s ≡ bucketOf k → level ≡ 0 → Comes slots k s level
+  on : {t l m s level : ℕ} → Comes slots k t l → getD slots t 0 ≡ suc m → s ≡ nextOf k m l → level ≡ suc l → Comes slots k s level
+
+abbrev pub Reached : List ℕ → Key → ℕ → Type 0
+Reached slots k s = (level : ℕ) × Comes slots k s level
+
+-- a node has one link at most
+abbrev pub Once : List ℕ → Type 0
+Once slots = (s t m : ℕ) → getD slots s 0 ≡ suc m → getD slots t 0 ≡ suc m → s ≡ t
+
 -- no link yet
 abbrev pub Empty : List ℕ → Type 0
 Empty slots = (s : ℕ) → getD slots s 0 ≡ 0
@@ -47,6 +59,7 @@ pub record Found (ws class slots : List ℕ) (n : ℕ) (r : Place) : Type 0 wher
   pub missed : r .link ≡ 0 → let k = keyOf ws class n in (j : ℕ) → On slots k (bucketOf k) 0 j → keyOf ws class j ≡ k → ⊥
   pub free : r .link ≡ 0 → getD slots (r .slot) 0 ≡ 0
   pub slot-less : r .slot < 131072 + 2 * n
+  pub comes : r .link ≡ 0 → Reached slots (keyOf ws class n) (r .slot)
   pub leads : r .link ≡ 0 → let k = keyOf ws class n in (new : List ℕ) → Holds slots new → getD new (r .slot) 0 ≡ suc n → On new k (bucketOf k) 0 n
 
 -- a place for each number
@@ -64,11 +77,19 @@ pub record Linked (first second ways : List ℕ) (s n : ℕ) (first′ second′
   pub laid : Laid first′ second′ ways′
   pub is : slotsOf first′ second′ ways′ ≡ set (slotsOf first second ways) s (n + 1)
 
--- the classes of the nodes below n, and each node that is the first of its class on the way of its key
+-- the classes of the nodes below n, and each node that is the first of its class on the way of its key; each node with a link has one, in a slot of its own key
 pub record Kept (ws : List ℕ) (n : ℕ) (class slots : List ℕ) : Type 0 where
   pub class-long : Long class
   pub slots-long : length slots ≡ 262144
   pub classes : Classes ws n class
   pub low : Low slots n
   pub rises : Rises slots
+  pub once : Once slots
+  pub own : (s m : ℕ) → getD slots s 0 ≡ suc m → Reached slots (keyOf ws class m) s
   pub ways : (m : ℕ) → m < n → getD class m 0 ≡ m → let k = keyOf ws class m in On slots k (bucketOf k) 0 m
+
+-- the search for the key of node n meets no more than 281 nodes: one that has another key is met at a level below 280
+abbrev pub Bounded : (ws : List ℕ) (n : ℕ) (class slots : List ℕ) → Type 0
+Bounded ws n class slots =
+    let k = keyOf ws class n in
+    (s level j : ℕ) → Comes slots k s level → getD slots s 0 ≡ suc j → (keyOf ws class j ≡ k → ⊥) → level < 280

@@ -84,7 +84,7 @@ fn other_mix(x: u64) -> u64
     x % 4294967296 * 198491317 + x / 4294967296 * 217645199
 }
 
-// Another number that goes by the key: keys of one bucket differ in it, whatever bits of theirs differ.
+// Another number that goes by the key, by another mix of its words in another order: keys that are built to fall into one bucket part by it.
 fn spread(k: Key) -> u64
     requires { ⌜ (k .a < 65536) × (k .b < 65536) × (k .c < 65536) ⌝ }
     ensures { λ r. ⌜ r ≡ spreadOf k ⌝ }
@@ -175,8 +175,8 @@ pub struct Place {
     pub slot: usize,
 }
 
-// The node with the key of node n; link 0 where none has it, and then the slot is the one that n belongs in. Two keys differ in one of
-// their 256 bits, so that no more than 281 nodes are met on the way, whatever the keys.
+// The node with the key of node n; link 0 where none has it, and then the slot is the one that n belongs in. No more than 281 nodes are met on
+// the way, whatever the keys (`Bounded`).
 fn find(
     pool: &[u64],
     class: &[u16; 65536],

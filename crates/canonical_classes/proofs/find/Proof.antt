@@ -7,7 +7,7 @@ use native.Mathlib.Omega.{arith}
 use lib.ListN.{getD}
 use Rattle.canonical_classes.specs.declared.Key.{Key}
 use Rattle.canonical_classes.specs.Key.{keyOf, sameKey, bucketOf}
-use Rattle.canonical_classes.specs.Class.{On, Holds, slotsOf}
+use Rattle.canonical_classes.specs.Class.{On, Reached, Holds, slotsOf}
 use Rattle.canonical_classes.proofs.Search.{Searching, search-first, search-next, search-none, keys-same, next-rises, toGo, falls}
 use borrow.Author.Needs.{needs}
 use Rattle.canonical_classes.proofs.find.Statement.{statement}
@@ -87,6 +87,7 @@ returns c =
       missed = λ z. absurd (no z);
       free = λ z. absurd (no z);
       slot-less = at-loop .loop .inv .1 .slot-less;
+      comes = λ z. absurd (no z);
       leads = λ z. absurd (no z);
     }
 
@@ -153,6 +154,7 @@ returns-2 c =
           (search-none (a .pool .now) (a .class .now) (slotsIn s) (a .n) k (l .slot) (l .level) z (l .inv .1));
       free = λ q. z;
       slot-less = l .inv .1 .slot-less;
+      comes = λ q. subst (λ (k : Key). Reached (slotsIn s) k (l .slot)) e (l .level, l .inv .1 .comes);
       leads = λ q.
           subst (λ (k : Key). (new : List ℕ) → Holds (slotsIn s) new → getD new (l .slot) 0 ≡ suc (a .n) → On new k (bucketOf k) 0 (a .n)) e
           (λ new h f. l .inv .1 .back new h (a .n) (On.here f));
