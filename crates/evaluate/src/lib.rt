@@ -1,5 +1,6 @@
 // The value of a pool's node at a start, with a number of visits that may be made.
 use pool::Node;
+use pool::words::Kind;
 use pool::words::kind_of;
 use pool::words::width_of;
 use pool_check::node_number;
@@ -74,7 +75,7 @@ fn leaf(p: &[u64], n: Node, start: &[u64; 64]) -> Wide
     requires { ⌜ Ready (now p) (n .0) × (kindNumber (now p) (n .0) < 3) ⌝ }
     ensures { λ r. ⌜ num r ≡ valueAt (now (p .entry)) (now (start .entry)) (n .0) ⌝ }
 {
-    if kind_of(p, n) == 1 {
+    if kind_of(p, n) == Kind::VAR {
         let r = low(p, n) as usize;
         return Wide {
             low: start[2 * r],
@@ -95,21 +96,21 @@ fn apply(k: u64, a: Wide, b: Wide, wa: u64, wb: u64, w: u64, x: u64, y: u64) -> 
     ensures { λ r. ⌜ num r ≡ nodeValue (kindAt k) wa wb w x y (num a) (num b) ⌝ }
 {
     match k {
-        3 => bv_add(a, b, wa),
-        4 => bv_sub(a, b, wa),
-        5 => bv_mul(a, b, wa),
-        6 => wide::and(a, b),
-        7 => wide::or(a, b),
-        8 => wide::xor(a, b),
-        9 => bv_shl(a, b, wa),
-        10 => bv_lshr(a, b, wa),
-        11 => bv_ashr(a, b, wa),
-        12 => bit(wide::equal(a, b)),
-        13 => bit(wide::less(a, b)),
-        14 => bit(bv_slt(a, b, wa)),
-        16 => bv_extract(a, x, y),
-        17 => bv_concat(a, b, wb),
-        18 => a,
+        Kind::ADD => bv_add(a, b, wa),
+        Kind::SUB => bv_sub(a, b, wa),
+        Kind::MUL => bv_mul(a, b, wa),
+        Kind::AND => wide::and(a, b),
+        Kind::OR => wide::or(a, b),
+        Kind::XOR => wide::xor(a, b),
+        Kind::SHL => bv_shl(a, b, wa),
+        Kind::LSHR => bv_lshr(a, b, wa),
+        Kind::ASHR => bv_ashr(a, b, wa),
+        Kind::EQ => bit(wide::equal(a, b)),
+        Kind::ULT => bit(wide::less(a, b)),
+        Kind::SLT => bit(bv_slt(a, b, wa)),
+        Kind::EXTRACT => bv_extract(a, x, y),
+        Kind::CONCAT => bv_concat(a, b, wb),
+        Kind::ZERO_EXTEND => a,
         _ => bv_sext(a, wa, w),
     }
 }
@@ -139,7 +140,7 @@ fn combine(p: &&[u64], n: Node, start: &[u64; 64], a: &mut [u64; 3], b: &[u64; 3
     ensures { λ r. ⌜ held (now (a .exit)) ≡ valueAt (now (now (p .entry))) (now (start .entry)) (n .0) ⌝ }
 {
     let k = kind_of(*p, n);
-    if k < 3 {
+    if k < Kind::ADD {
         store(a, leaf(*p, n, start));
         return;
     }
@@ -158,7 +159,7 @@ fn visit(p: &&[u64], n: Node, start: &[u64; 64], out: &mut [u64; 3], left: u64) 
     }
     let k = kind_of(*p, n);
     let mut t = [0; 3];
-    if k < 3 {
+    if k < Kind::ADD {
         combine(p, n, start, out, &t);
         return left;
     }
@@ -166,7 +167,7 @@ fn visit(p: &&[u64], n: Node, start: &[u64; 64], out: &mut [u64; 3], left: u64) 
     if c == 0 {
         return 0;
     }
-    if k == 15 {
+    if k == Kind::ITE {
         if out[0] == 0 {
             return visit(p, third(*p, n), start, out, c - 1);
         }

@@ -3,9 +3,10 @@ use neon::Lane;
 use pool::Bit;
 use pool::Built;
 use pool::Node;
+use pool::words::Kind;
 use pool::words::kind_of;
+use pool_fields::cut_lo;
 use pool_fields::first;
-use pool_fields::high;
 ghost use mathlib.Core.Path.{_≡_};
 ghost use Prim.Native.Nat.{_+_, _*_, _≤_, _<_};
 ghost use lib.ListN.{length};
@@ -25,10 +26,9 @@ fn rises(pool: &[u64], value: Node, hi: u64) -> bool
     requires { ⌜ (4 * value .0 + 3 < length (now pool)) × (hi ≤ 128) ⌝ }
     ensures { λ r. ⌜ r ≡ risesAt (now (pool .entry)) (value .0) hi ⌝ }
 {
-    // of an Extract word 3 is lo
-    (kind_of(pool, value) == 16)
+    (kind_of(pool, value) == Kind::EXTRACT)
         & (first(pool, value).0 < value.0)
-        & (high(pool, value) <= 128 - hi)
+        & (cut_lo(pool, value).0 <= 128 - hi)
 }
 
 // From where a cut of `value` up to the bit hi is taken: past every Extract.
@@ -39,7 +39,7 @@ pub fn cut_from(pool: &[u64], value: Node, hi: Bit) -> Cut
     let mut at = value.0;
     let mut by = 0;
     while rises(pool, Node(at), hi.0 + by) {
-        by += high(pool, Node(at));
+        by += cut_lo(pool, Node(at)).0;
         at = first(pool, Node(at)).0;
     }
     Cut { node: Node(at), by }

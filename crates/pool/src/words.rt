@@ -6,6 +6,49 @@ ghost use Prim.Native.Nat.{_+_, _*_, _<_, _^_};
 ghost use lib.ListN.{length};
 ghost use Rattle.pool.specs.Node.{kindWord, kindNumber, widthAt, setAt};
 
+// The numbers of the kinds of node, in document 01's order: Var and Const have no operand, Add to AShr are of vectors, Eq to Slt conditions.
+pub struct Kind(pub u64);
+
+impl Kind {
+    pub const VAR: u64 = 1;
+
+    pub const CONST: u64 = 2;
+
+    pub const ADD: u64 = 3;
+
+    pub const SUB: u64 = 4;
+
+    pub const MUL: u64 = 5;
+
+    pub const AND: u64 = 6;
+
+    pub const OR: u64 = 7;
+
+    pub const XOR: u64 = 8;
+
+    pub const SHL: u64 = 9;
+
+    pub const LSHR: u64 = 10;
+
+    pub const ASHR: u64 = 11;
+
+    pub const EQ: u64 = 12;
+
+    pub const ULT: u64 = 13;
+
+    pub const SLT: u64 = 14;
+
+    pub const ITE: u64 = 15;
+
+    pub const EXTRACT: u64 = 16;
+
+    pub const CONCAT: u64 = 17;
+
+    pub const ZERO_EXTEND: u64 = 18;
+
+    pub const SIGN_EXTEND: u64 = 19;
+}
+
 pub fn kind_word(kind: u64, width: u64, set: u64) -> u64
     requires { ⌜ (kind < 65536) × (width < 65536) × (set < 2 ^ 32) ⌝ }
     ensures { λ r. ⌜ r ≡ kindWord kind width set ⌝ }

@@ -1,5 +1,7 @@
 // A node's operands and data (document 01, "Pool"), read one by one.
+use pool::Bit;
 use pool::Node;
+use pool::words::Kind;
 use pool::words::kind_of;
 ghost use mathlib.Core.Path.{_≡_};
 ghost use Prim.Native.Nat.{_+_, _*_, _<_};
@@ -45,7 +47,7 @@ pub fn left(p: &[u64], n: Node) -> Node
     requires { ⌜ 4 * n .0 + 3 < length (now p) ⌝ }
     ensures { λ r. ⌜ r .0 ≡ leftOf (now (p .entry)) (n .0) ⌝ }
 {
-    if kind_of(p, n) == 15 {
+    if kind_of(p, n) == Kind::ITE {
         second(p, n)
     } else {
         first(p, n)
@@ -56,7 +58,7 @@ pub fn right(p: &[u64], n: Node) -> Node
     requires { ⌜ 4 * n .0 + 3 < length (now p) ⌝ }
     ensures { λ r. ⌜ r .0 ≡ rightOf (now (p .entry)) (n .0) ⌝ }
 {
-    if kind_of(p, n) == 15 {
+    if kind_of(p, n) == Kind::ITE {
         third(p, n)
     } else {
         second(p, n)
@@ -77,4 +79,21 @@ pub fn high(p: &[u64], n: Node) -> u64
 {
     let at = 4 * n.0;
     p[at + 3]
+}
+
+// The bits of an Extract, the highest and the lowest.
+pub fn cut_hi(p: &[u64], n: Node) -> Bit
+    requires { ⌜ 4 * n .0 + 3 < length (now p) ⌝ }
+    ensures { λ r. ⌜ r .0 ≡ wordAt (now (p .entry)) (n .0) 2 ⌝ }
+{
+    let at = 4 * n.0;
+    Bit(p[at + 2])
+}
+
+pub fn cut_lo(p: &[u64], n: Node) -> Bit
+    requires { ⌜ 4 * n .0 + 3 < length (now p) ⌝ }
+    ensures { λ r. ⌜ r .0 ≡ wordAt (now (p .entry)) (n .0) 3 ⌝ }
+{
+    let at = 4 * n.0;
+    Bit(p[at + 3])
 }

@@ -3,6 +3,7 @@ use pool::Bit;
 use pool::Built;
 use pool::Node;
 use pool::push;
+use pool::words::Kind;
 use pool::words::kind_word;
 use pool::words::set_of;
 use pool::words::width_of;
@@ -48,7 +49,7 @@ pub fn var(pool: &mut [u64], count: usize, register: u64) -> Built
     push(
         pool,
         count,
-        kind_word(1, 128, 1u64 << register),
+        kind_word(Kind::VAR, 128, 1u64 << register),
         0,
         register,
         0,
@@ -61,22 +62,22 @@ pub fn konst(pool: &mut [u64], count: usize, lo: u64, hi: u64, bits: u64) -> Bui
     requires { ⌜ bits ≤ 129 ⌝ }
     ensures { λ r. ⌜ MadeConst (now (pool .entry)) count (now (pool .exit)) r lo hi bits ⌝ }
 {
-    push(pool, count, kind_word(2, bits, 0), 0, lo, hi)
+    push(pool, count, kind_word(Kind::CONST, bits, 0), 0, lo, hi)
 }
 
 fn bv_code(op: BinOp) -> u64
     ensures { λ r. ⌜ (r ≡ bvCode op) × (r < 65536) ⌝ }
 {
     match op {
-        BinOp::Add => 3,
-        BinOp::Sub => 4,
-        BinOp::Mul => 5,
-        BinOp::And => 6,
-        BinOp::Or => 7,
-        BinOp::Xor => 8,
-        BinOp::Shl => 9,
-        BinOp::LShr => 10,
-        BinOp::AShr => 11,
+        BinOp::Add => Kind::ADD,
+        BinOp::Sub => Kind::SUB,
+        BinOp::Mul => Kind::MUL,
+        BinOp::And => Kind::AND,
+        BinOp::Or => Kind::OR,
+        BinOp::Xor => Kind::XOR,
+        BinOp::Shl => Kind::SHL,
+        BinOp::LShr => Kind::LSHR,
+        BinOp::AShr => Kind::ASHR,
     }
 }
 
@@ -84,9 +85,9 @@ fn compare_code(op: CmpOp) -> u64
     ensures { λ r. ⌜ (r ≡ compareCode op) × (r < 65536) ⌝ }
 {
     match op {
-        CmpOp::Eq => 12,
-        CmpOp::Ult => 13,
-        CmpOp::Slt => 14,
+        CmpOp::Eq => Kind::EQ,
+        CmpOp::Ult => Kind::ULT,
+        CmpOp::Slt => Kind::SLT,
     }
 }
 
@@ -116,7 +117,7 @@ pub fn ite(pool: &mut [u64], count: usize, cond: Node, then_expr: Node, else_exp
     ensures { λ r. ⌜ MadeIte (now (pool .entry)) count (now (pool .exit)) r cond «then_expr» «else_expr» ⌝ }
 {
     let set = union(pool, cond, then_expr) | set_of(pool, else_expr);
-    let w0 = kind_word(15, width(pool, then_expr), set);
+    let w0 = kind_word(Kind::ITE, width(pool, then_expr), set);
     push(
         pool,
         count,
@@ -133,7 +134,7 @@ pub fn extract(pool: &mut [u64], count: usize, src: Node, hi: Bit, lo: Bit) -> B
     requires { ⌜ (src .0 < count) × (lo .0 ≤ hi .0) × (hi .0 < 129) ⌝ }
     ensures { λ r. ⌜ MadeExtract (now (pool .entry)) count (now (pool .exit)) r src (hi .0) (lo .0) ⌝ }
 {
-    let w0 = kind_word(16, hi.0 - lo.0 + 1, set_of(pool, src));
+    let w0 = kind_word(Kind::EXTRACT, hi.0 - lo.0 + 1, set_of(pool, src));
     push(
         pool,
         count,
@@ -150,7 +151,7 @@ pub fn concat(pool: &mut [u64], count: usize, high: Node, low: Node) -> Built
     ensures { λ r. ⌜ MadeConcat (now (pool .entry)) count (now (pool .exit)) r high low ⌝ }
 {
     let bits = width(pool, high) + width(pool, low);
-    let w0 = kind_word(17, bits, union(pool, high, low));
+    let w0 = kind_word(Kind::CONCAT, bits, union(pool, high, low));
     push(pool, count, w0, operand_word(high, low, Node(0)), 0, 0)
 }
 
@@ -159,7 +160,7 @@ pub fn zero_ext(pool: &mut [u64], count: usize, src: Node, to_bits: u64) -> Buil
     requires { ⌜ (src .0 < count) × («to_bits» ≤ 129) ⌝ }
     ensures { λ r. ⌜ MadeZeroExtend (now (pool .entry)) count (now (pool .exit)) r src «to_bits» ⌝ }
 {
-    let w0 = kind_word(18, to_bits, set_of(pool, src));
+    let w0 = kind_word(Kind::ZERO_EXTEND, to_bits, set_of(pool, src));
     push(pool, count, w0, operand_word(src, Node(0), Node(0)), 0, 0)
 }
 
@@ -168,6 +169,6 @@ pub fn sign_ext(pool: &mut [u64], count: usize, src: Node, to_bits: u64) -> Buil
     requires { ⌜ (src .0 < count) × («to_bits» ≤ 129) ⌝ }
     ensures { λ r. ⌜ MadeSignExtend (now (pool .entry)) count (now (pool .exit)) r src «to_bits» ⌝ }
 {
-    let w0 = kind_word(19, to_bits, set_of(pool, src));
+    let w0 = kind_word(Kind::SIGN_EXTEND, to_bits, set_of(pool, src));
     push(pool, count, w0, operand_word(src, Node(0), Node(0)), 0, 0)
 }

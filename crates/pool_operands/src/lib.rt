@@ -1,4 +1,5 @@
 // Which operands a kind of node has.
+use pool::words::Kind;
 ghost use mathlib.Core.Path.{_≡_};
 ghost use Rattle.pool_operands.specs.Operands.{hasA, hasB, hasC};
 
@@ -6,17 +7,17 @@ ghost use Rattle.pool_operands.specs.Operands.{hasA, hasB, hasC};
 pub fn has_a(kind: u64) -> bool
     ensures { λ r. ⌜ r ≡ hasA kind ⌝ }
 {
-    3 <= kind
+    Kind::ADD <= kind
 }
 
 pub fn has_b(kind: u64) -> bool
     ensures { λ r. ⌜ r ≡ hasB kind ⌝ }
 {
-    (3 <= kind) & (kind <= 15) | (kind == 17)
+    (Kind::ADD <= kind) & (kind <= Kind::ITE) | (kind == Kind::CONCAT)
 }
 
 pub fn has_c(kind: u64) -> bool
     ensures { λ r. ⌜ r ≡ hasC kind ⌝ }
 {
-    kind == 15
+    kind == Kind::ITE
 }

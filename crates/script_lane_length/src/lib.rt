@@ -1,5 +1,6 @@
 // The length of a pool's script by lanes, with no byte written: each line's length is a sum.
 use pool::Node;
+use pool::words::Kind;
 use pool::words::kind_of;
 use pool::words::width_of;
 use script_length::Script;
@@ -23,7 +24,7 @@ fn node_length(p: &[u64], n: Node) -> usize
     ensures { λ r. ⌜ (r ≡ length (linesAt (now (p .entry)) (n .0))) × (r ≤ 192) ⌝ }
 {
     let k = kind_of(p, n);
-    if k == 1 {
+    if k == Kind::VAR {
         return 0;
     }
     let w = width_of(p, n);

@@ -1,5 +1,6 @@
 // The script of a pool by lanes as bytes: the lines that S-1's form does not have.
 use pool::Node;
+use pool::words::Kind;
 use pool::words::kind_of;
 use pool::words::width_of;
 use script_text::put_cut;
@@ -51,7 +52,7 @@ fn put_node(p: &[u64], n: Node, buf: &mut [u8], at: usize) -> usize
     ensures { λ e. ⌜ Wrote (now (buf .entry)) at (linesAt (now (p .entry)) (n .0)) e (now (buf .exit)) ⌝ }
 {
     let k = kind_of(p, n);
-    if k == 1 {
+    if k == Kind::VAR {
         return at;
     }
     let w = width_of(p, n);

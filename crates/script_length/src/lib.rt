@@ -1,10 +1,12 @@
 // The length of a pool's script (document 02, S-1), with no byte written: each line's length is a sum.
 use pool::Node;
+use pool::words::Kind;
 use pool::words::kind_of;
 use pool::words::width_of;
 use pool_check::pool_check;
+use pool_fields::cut_hi;
+use pool_fields::cut_lo;
 use pool_fields::first;
-use pool_fields::high;
 use pool_fields::low;
 use pool_fields::second;
 use pool_fields::third;
@@ -27,7 +29,7 @@ fn name_length(p: &[u64], n: Node) -> usize
     requires { ⌜ Named (now p) (n .0) ⌝ }
     ensures { λ r. ⌜ (r ≡ length (nameOf (now (p .entry)) (n .0))) × (r ≤ 6) ⌝ }
 {
-    if kind_of(p, n) == 1 {
+    if kind_of(p, n) == Kind::VAR {
         return number_length(low(p, n)) + 1;
     }
     number_length(n.0 as u64) + 1
@@ -50,22 +52,22 @@ fn function_length(k: u64) -> usize
     ensures { λ r. ⌜ (r ≡ length (functionOf (kindAt k))) × (r ≤ 11) ⌝ }
 {
     match k {
-        3 => 5,
-        4 => 5,
-        5 => 5,
-        6 => 5,
-        7 => 4,
-        8 => 5,
-        9 => 5,
-        10 => 6,
-        11 => 6,
-        12 => 1,
-        13 => 5,
-        14 => 5,
-        15 => 3,
-        16 => 7,
-        17 => 6,
-        18 => 11,
+        Kind::ADD => 5,
+        Kind::SUB => 5,
+        Kind::MUL => 5,
+        Kind::AND => 5,
+        Kind::OR => 4,
+        Kind::XOR => 5,
+        Kind::SHL => 5,
+        Kind::LSHR => 6,
+        Kind::ASHR => 6,
+        Kind::EQ => 1,
+        Kind::ULT => 5,
+        Kind::SLT => 5,
+        Kind::ITE => 3,
+        Kind::EXTRACT => 7,
+        Kind::CONCAT => 6,
+        Kind::ZERO_EXTEND => 11,
         _ => 11,
     }
 }
@@ -107,16 +109,18 @@ pub fn term_length(p: &[u64], n: Node, k: u64) -> usize
     requires { ⌜ Named (now p) (n .0) × (k ≡ kindNumber (now p) (n .0)) × (2 ≤ k) ⌝ }
     ensures { λ r. ⌜ (r ≡ length (show (termOf (now (p .entry)) (n .0)))) × (r ≤ 131) ⌝ }
 {
-    if k == 2 {
+    if k == Kind::CONST {
         return (width_of(p, n) as usize) + 2;
     }
-    if k == 15 {
+    if k == Kind::ITE {
         return three_length(p, first(p, n), second(p, n), third(p, n));
     }
-    if k == 16 {
-        return cut_length(p, first(p, n), low(p, n), high(p, n));
+    if k == Kind::EXTRACT {
+        let hi = cut_hi(p, n);
+        let lo = cut_lo(p, n);
+        return cut_length(p, first(p, n), hi.0, lo.0);
     }
-    if k < 18 {
+    if k < Kind::ZERO_EXTEND {
         return two_length(p, k, first(p, n), second(p, n));
     }
     let by = width_of(p, n) - width_of(p, first(p, n));
@@ -129,7 +133,7 @@ fn line_length(p: &[u64], n: Node) -> usize
     ensures { λ r. ⌜ (r ≡ length (lineAt (now (p .entry)) (n .0))) × (r ≤ 192) ⌝ }
 {
     let k = kind_of(p, n);
-    if k == 1 {
+    if k == Kind::VAR {
         return 0;
     }
     let w = width_of(p, n);

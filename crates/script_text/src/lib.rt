@@ -1,7 +1,10 @@
 // The script of a pool as bytes (document 02, S-1): the parts of a line.
 use pool::Node;
+use pool::words::Kind;
 use pool::words::kind_of;
 use pool::words::width_of;
+use pool_fields::cut_hi;
+use pool_fields::cut_lo;
 use pool_fields::first;
 use pool_fields::high;
 use pool_fields::low;
@@ -88,7 +91,7 @@ fn put_name(p: &[u64], n: Node, buf: &mut [u8], at: usize) -> usize
     requires { ⌜ Room (now buf) at (nameOf (now p) (n .0)) ⌝ }
     ensures { λ r. ⌜ Wrote (now (buf .entry)) at (nameOf (now (p .entry)) (n .0)) r (now (buf .exit)) ⌝ }
 {
-    if kind_of(p, n) == 1 {
+    if kind_of(p, n) == Kind::VAR {
         return put_register_name(low(p, n), buf, at);
     }
     put_node_name(n.0 as u64, buf, at)
@@ -101,22 +104,22 @@ fn put_function(k: u64, buf: &mut [u8], at: usize) -> usize
     ensures { λ r. ⌜ Wrote (now (buf .entry)) at (functionOf (kindAt k)) r (now (buf .exit)) ⌝ }
 {
     match k {
-        3 => put(b"bvadd", buf, at),
-        4 => put(b"bvsub", buf, at),
-        5 => put(b"bvmul", buf, at),
-        6 => put(b"bvand", buf, at),
-        7 => put(b"bvor", buf, at),
-        8 => put(b"bvxor", buf, at),
-        9 => put(b"bvshl", buf, at),
-        10 => put(b"bvlshr", buf, at),
-        11 => put(b"bvashr", buf, at),
-        12 => put(b"=", buf, at),
-        13 => put(b"bvult", buf, at),
-        14 => put(b"bvslt", buf, at),
-        15 => put(b"ite", buf, at),
-        16 => put(b"extract", buf, at),
-        17 => put(b"concat", buf, at),
-        18 => put(b"zero_extend", buf, at),
+        Kind::ADD => put(b"bvadd", buf, at),
+        Kind::SUB => put(b"bvsub", buf, at),
+        Kind::MUL => put(b"bvmul", buf, at),
+        Kind::AND => put(b"bvand", buf, at),
+        Kind::OR => put(b"bvor", buf, at),
+        Kind::XOR => put(b"bvxor", buf, at),
+        Kind::SHL => put(b"bvshl", buf, at),
+        Kind::LSHR => put(b"bvlshr", buf, at),
+        Kind::ASHR => put(b"bvashr", buf, at),
+        Kind::EQ => put(b"=", buf, at),
+        Kind::ULT => put(b"bvult", buf, at),
+        Kind::SLT => put(b"bvslt", buf, at),
+        Kind::ITE => put(b"ite", buf, at),
+        Kind::EXTRACT => put(b"extract", buf, at),
+        Kind::CONCAT => put(b"concat", buf, at),
+        Kind::ZERO_EXTEND => put(b"zero_extend", buf, at),
         _ => put(b"sign_extend", buf, at),
     }
 }
@@ -197,16 +200,18 @@ pub fn put_term(p: &[u64], n: Node, k: u64, buf: &mut [u8], at: usize) -> usize
     requires { ⌜ Room (now buf) at (show (termOf (now p) (n .0))) ⌝ }
     ensures { λ r. ⌜ Wrote (now (buf .entry)) at (show (termOf (now (p .entry)) (n .0))) r (now (buf .exit)) ⌝ }
 {
-    if k == 2 {
+    if k == Kind::CONST {
         return put_constant(low(p, n), high(p, n), width_of(p, n), buf, at);
     }
-    if k == 15 {
+    if k == Kind::ITE {
         return put_three(p, first(p, n), second(p, n), third(p, n), buf, at);
     }
-    if k == 16 {
-        return put_cut(p, first(p, n), low(p, n), high(p, n), buf, at);
+    if k == Kind::EXTRACT {
+        let hi = cut_hi(p, n);
+        let lo = cut_lo(p, n);
+        return put_cut(p, first(p, n), hi.0, lo.0, buf, at);
     }
-    if k < 18 {
+    if k < Kind::ZERO_EXTEND {
         return put_two(p, k, first(p, n), second(p, n), buf, at);
     }
     let by = width_of(p, n) - width_of(p, first(p, n));
@@ -220,7 +225,7 @@ pub fn put_definition(p: &[u64], n: Node, buf: &mut [u8], at: usize) -> usize
     ensures { λ r. ⌜ Wrote (now (buf .entry)) at (lineAt (now (p .entry)) (n .0)) r (now (buf .exit)) ⌝ }
 {
     let k = kind_of(p, n);
-    if k == 1 {
+    if k == Kind::VAR {
         return at;
     }
     let w = width_of(p, n);

@@ -1,4 +1,5 @@
 // What `Display` of the Rust's expr.rs writes between two operands.
+use pool::words::Kind;
 use text_digits::put;
 ghost use mathlib.Core.Path.{_≡_};
 ghost use mathlib.Core.List.{[], _∷_};
@@ -13,11 +14,11 @@ fn sign(k: u64) -> u8
     ensures { λ r. ⌜ betweenText k ≡ 32 ∷ r ∷ 32 ∷ [] ⌝ }
 {
     match k {
-        3 => b'+',
-        4 => b'-',
-        5 => b'*',
-        6 => b'&',
-        7 => b'|',
+        Kind::ADD => b'+',
+        Kind::SUB => b'-',
+        Kind::MUL => b'*',
+        Kind::AND => b'&',
+        Kind::OR => b'|',
         _ => b'^',
     }
 }
@@ -27,16 +28,16 @@ pub fn put_between(k: u64, buf: &mut [u8], at: usize) -> usize
     requires { ⌜ Joined k × Room (now buf) at (betweenText k) ⌝ }
     ensures { λ r. ⌜ Wrote (now (buf .entry)) at (betweenText k) r (now (buf .exit)) ⌝ }
 {
-    if k < 9 {
+    if k < Kind::SHL {
         return put(&[b' ', sign(k), b' '], buf, at);
     }
     match k {
-        9 => put(b" << ", buf, at),
-        10 => put(b" >>u ", buf, at),
-        11 => put(b" >>s ", buf, at),
-        12 => put(b" == ", buf, at),
-        13 => put(b" <u ", buf, at),
-        14 => put(b" <s ", buf, at),
+        Kind::SHL => put(b" << ", buf, at),
+        Kind::LSHR => put(b" >>u ", buf, at),
+        Kind::ASHR => put(b" >>s ", buf, at),
+        Kind::EQ => put(b" == ", buf, at),
+        Kind::ULT => put(b" <u ", buf, at),
+        Kind::SLT => put(b" <s ", buf, at),
         _ => put(b", ", buf, at),
     }
 }
@@ -46,11 +47,11 @@ pub fn operator_length(k: u64) -> usize
     requires { ⌜ (3 ≤ k) × (k < 15) ⌝ }
     ensures { λ r. ⌜ (r ≡ length (betweenText k)) × (r ≤ 5) ⌝ }
 {
-    if k < 9 {
+    if k < Kind::SHL {
         return 3;
     }
-    if k < 10 {
+    if k < Kind::LSHR {
         return 4;
     }
-    if k < 12 { 5 } else { 4 }
+    if k < Kind::EQ { 5 } else { 4 }
 }

@@ -1,7 +1,10 @@
 // The parts of a node's text: what `Display` of the Rust's expr.rs writes before and after its operands, as bytes into a lent
 // buffer. k is the number of the node's kind.
 use pool::Node;
+use pool::words::Kind;
 use pool::words::width_of;
+use pool_fields::cut_hi;
+use pool_fields::cut_lo;
 use pool_fields::high;
 use pool_fields::low;
 use text_digits::put;
@@ -40,7 +43,7 @@ pub fn put_leaf(p: &[u64], n: Node, k: u64, buf: &mut [u8], at: usize) -> usize
     requires { ⌜ Room (now buf) at (text (now p) (n .0)) ⌝ }
     ensures { λ r. ⌜ Wrote (now (buf .entry)) at (text (now (p .entry)) (n .0)) r (now (buf .exit)) ⌝ }
 {
-    if k == 1 {
+    if k == Kind::VAR {
         return put_numbered(b'v', low(p, n), buf, at);
     }
     let i = put_value(low(p, n), high(p, n), buf, at);
@@ -52,16 +55,16 @@ pub fn put_open(k: u64, buf: &mut [u8], at: usize) -> usize
     requires { ⌜ (3 ≤ k) × (k < 20) × Room (now buf) at (openText k) ⌝ }
     ensures { λ r. ⌜ Wrote (now (buf .entry)) at (openText k) r (now (buf .exit)) ⌝ }
 {
-    if k < 15 {
+    if k < Kind::ITE {
         return put(b"(", buf, at);
     }
-    if k == 16 {
+    if k == Kind::EXTRACT {
         return at;
     }
     match k {
-        15 => put(b"ite(", buf, at),
-        17 => put(b"concat(", buf, at),
-        18 => put(b"zext(", buf, at),
+        Kind::ITE => put(b"ite(", buf, at),
+        Kind::CONCAT => put(b"concat(", buf, at),
+        Kind::ZERO_EXTEND => put(b"zext(", buf, at),
         _ => put(b"sext(", buf, at),
     }
 }
@@ -82,12 +85,11 @@ pub fn put_end(p: &[u64], n: Node, k: u64, buf: &mut [u8], at: usize) -> usize
     requires { ⌜ Room (now buf) at (endText (now p) (n .0)) ⌝ }
     ensures { λ r. ⌜ Wrote (now (buf .entry)) at (endText (now (p .entry)) (n .0)) r (now (buf .exit)) ⌝ }
 {
-    if k == 16 {
-        // word 2 is hi, word 3 lo
-        let hi = low(p, n);
-        let lo = high(p, n);
-        let i = put_numbered(b'[', hi, buf, at);
-        let j = put_numbered(b':', lo, buf, i);
+    if k == Kind::EXTRACT {
+        let hi = cut_hi(p, n);
+        let lo = cut_lo(p, n);
+        let i = put_numbered(b'[', hi.0, buf, at);
+        let j = put_numbered(b':', lo.0, buf, i);
         return put(b"]", buf, j);
     }
     put_width(width_of(p, n), buf, at)
@@ -97,5 +99,5 @@ pub fn put_end(p: &[u64], n: Node, k: u64, buf: &mut [u8], at: usize) -> usize
 pub fn is_single(k: u64) -> bool
     ensures { λ r. ⌜ r ≡ single k ⌝ }
 {
-    (k == 16) | (18 <= k)
+    (k == Kind::EXTRACT) | (Kind::ZERO_EXTEND <= k)
 }

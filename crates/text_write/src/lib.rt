@@ -1,6 +1,7 @@
 // The text of a node that keeps the pool's rules, where the buffer has room for it: `Display` of the Rust's expr.rs, of the
 // term that the node unfolds to.
 use pool::Node;
+use pool::words::Kind;
 use pool::words::kind_of;
 use pool::words::width_of;
 use pool_fields::first;
@@ -31,11 +32,11 @@ fn write_term(p: &&[u64], n: Node, buf: &mut &mut [u8], at: usize) -> usize
     ensures { λ r. ⌜ WroteBehind (now (buf .entry)) at (text (now (now (p .entry))) (n .0)) r (now (buf .exit)) ⌝ }
 {
     let k = kind_of(*p, n);
-    if k < 3 {
+    if k < Kind::ADD {
         return put_leaf(*p, n, k, *buf, at);
     }
     let mut i = put_open(k, *buf, at);
-    if k == 15 {
+    if k == Kind::ITE {
         let j = write_condition(p, first(*p, n), buf, i);
         i = put(b", ", *buf, j);
     }

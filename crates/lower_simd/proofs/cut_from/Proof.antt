@@ -24,8 +24,8 @@ rises-requires c κs =
     let p = l .before .before .pre in
     (omega (arith, l .loop .inv .below, p .0), l .loop .inv .small)
 
-high-requires : tie.Need-high-requires Inv-loop μ-loop
-high-requires c κs =
+cut-lo-requires : tie.Need-cut-lo-requires Inv-loop μ-loop
+cut-lo-requires c κs =
     let l = c .before .before .before in
     omega (arith, l .loop .inv .below, l .before .before .pre .0)
 
@@ -35,20 +35,23 @@ risen : (c : tie.Then1 Inv-loop μ-loop) → let l = c .before .before .before i
 risen c = rising _ _ _ (sym (c .before .rises .ensures) ∙ c .if1 .taken)
 
 add-by : tie.Need-add-by Inv-loop μ-loop
-add-by c = omega (arith, c .high .ensures, risen (c .before) .room, c .before .before .before .before .loop .inv .small)
+add-by c =
+    let lo = c .before in
+    omega (arith, lo .cut-lo .ensures, risen (lo .before) .room, lo .before .before .before .before .loop .inv .small)
 
 first-requires : tie.Need-first-requires Inv-loop μ-loop
 first-requires c κs =
-    let l = c .before .before .before .before in
+    let l = c .before .before .before .before .before in
     omega (arith, l .loop .inv .below, l .before .before .pre .0)
 
 loop-less : tie.Need-loop-less Inv-loop μ-loop
-loop-less c = omega (arith, c .first .ensures, risen (c .before .before) .down)
+loop-less c = omega (arith, c .first .ensures, risen (c .before .before .before) .down)
 
 loop-again : tie.Need-loop-again Inv-loop μ-loop
 loop-again c =
-    let l = c .before .before .before .before .before in
-    rw (c .first .ensures, c .before .high .ensures) (kept-more (l .loop .inv) (risen (c .before .before)))
+    let lo = c .before .before in
+    let l = lo .before .before .before .before in
+    rw (c .first .ensures, lo .cut-lo .ensures) (kept-more (l .loop .inv) (risen (lo .before)))
 
 returns : tie.Need-returns Inv-loop μ-loop
 returns c =
@@ -64,7 +67,7 @@ cut-from-spec =
     loop-holds
     add-rises
     rises-requires
-    high-requires
+    cut-lo-requires
     add-by
     first-requires
     loop-less

@@ -9,16 +9,17 @@ kind-of-requires c κs = search needs
 first-requires : tie.Need-first-requires
 first-requires c κs = search needs
 
-high-requires : tie.Need-high-requires
-high-requires c κs = search needs
+cut-lo-requires : tie.Need-cut-lo-requires
+cut-lo-requires c κs = search needs
 
 sub-result : tie.Need-sub-result
 sub-result c = search needs
 
 returns : tie.Need-returns
 returns c =
-    let f = c .before .before .before in
-    rw (f .before .kind-of .ensures, f .first .ensures, c .high .ensures)
+    let l = c .before in
+    let f = l .before .before .before in
+    rw (f .before .kind-of .ensures, f .first .ensures, l .cut-lo .ensures)
 
 pub rises-spec : {M : Type 1} → statement M
-rises-spec = tie.close (tie.spec kind-of-requires first-requires high-requires sub-result returns)
+rises-spec = tie.close (tie.spec kind-of-requires first-requires cut-lo-requires sub-result returns)

@@ -35,10 +35,10 @@ three c = c .before .before .before
 abbrev three-entry : tie.After-third → tie.Start
 three-entry c = entry (three c .before)
 
-abbrev cut : tie.After-high → tie.Then3
+abbrev cut : tie.After-first2 → tie.Then3
 cut c = c .before .before .before
 
-abbrev cut-entry : tie.After-high → tie.Start
+abbrev cut-entry : tie.After-first2 → tie.Start
 cut-entry c = entry (cut c .before .before)
 
 abbrev two : tie.After-second2 → tie.Then4
@@ -105,14 +105,14 @@ returns-2 c =
       c .three-length .ensures .1,
     )
 
+cut-hi-requires : tie.Need-cut-hi-requires
+cut-hi-requires c κs = search needs
+
+cut-lo-requires : tie.Need-cut-lo-requires
+cut-lo-requires c κs = search needs
+
 first-requires-2 : tie.Need-first-requires-2
 first-requires-2 c κs = search needs
-
-low-requires : tie.Need-low-requires
-low-requires c κs = search needs
-
-high-requires : tie.Need-high-requires
-high-requires c κs = search needs
 
 cut-length-requires : tie.Need-cut-length-requires
 cut-length-requires c κs =
@@ -120,15 +120,16 @@ cut-length-requires c κs =
     let R = s .pre .0 in
     let i = cut c .if3 .taken in
     let small = range-small (ws s) (n s) (R .ready) (k s) (s .pre .1) i in
-    (named-as R (cut-of (ws s) (n s) (R .ready) (k s) (s .pre .1) i .0) (c .before .before .first2 .ensures), omega (arith, c .before .low .ensures, small .0), omega (arith, c .high .ensures, small .1))
+    (named-as R (cut-of (ws s) (n s) (R .ready) (k s) (s .pre .1) i .0) (c .first2 .ensures), omega (arith, c .before .before .cut-hi .ensures, small .0),
+      omega (arith, c .before .cut-lo .ensures, small .1))
 
 returns-3 : tie.Need-returns-3
 returns-3 c =
     let d = c .before in
     let s = cut-entry d in
     let t = cut-of (ws s) (n s) (s .pre .0 .ready) (k s) (s .pre .1) (cut d .if3 .taken) in (
-      c .cut-length .ensures .0 ∙ (λ j. length (show (apply1 (index2 (bytes "extract") (d .before .low .ensures j) (d .high .ensures j)) (nameOf (ws s)
-          (d .before .before .first2 .ensures j))))) ∙ sym (ap (λ (u : Sexp). length (show u)) (t .1)),
+      c .cut-length .ensures .0 ∙ (λ j. length (show (apply1 (index2 (bytes "extract") (d .before .before .cut-hi .ensures j) (d .before .cut-lo .ensures j)) (nameOf (ws s)
+          (d .first2 .ensures j))))) ∙ sym (ap (λ (u : Sexp). length (show u)) (t .1)),
       c .cut-length .ensures .1,
     )
 
@@ -214,9 +215,9 @@ term-length-spec =
     third-requires
     three-length-requires
     returns-2
+    cut-hi-requires
+    cut-lo-requires
     first-requires-2
-    low-requires
-    high-requires
     cut-length-requires
     returns-3
     first-requires-3

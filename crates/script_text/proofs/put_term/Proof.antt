@@ -103,24 +103,24 @@ returns-2 c = let q = c .before .before in wrote-as (text-15 (q .before .before)
 
 -- ---- an Extract: the operand and both bits are read
 
-abbrev entry-16 : tie.After-high2 → tie.Start
+abbrev entry-16 : tie.After-first2 → tie.Start
 entry-16 c = c .before .before .before .before .before .before .before .before
 
-text-16 : (c : tie.After-high2) → let s = entry-16 c in
-    due s ≡ show (apply1 (index2 (bytes "extract") (c .before .low2 .result) (c .high2 .result)) (nameOf (pool s) (c .before .before .first2 .result .0)))
+text-16 : (c : tie.After-first2) → let s = entry-16 c in
+    due s ≡ show (apply1 (index2 (bytes "extract") (c .before .before .cut-hi .result .0) (c .before .cut-lo .result .0)) (nameOf (pool s) (c .first2 .result .0)))
 text-16 c =
     let s = entry-16 c in
     let h = cut-of (pool s) (node s) (s .pre .0 .0) (s .args .k) (s .pre .0 .1) (c .before .before .before .if3 .taken) in
-    ap show (h .1 ∙ (λ j. apply1 (index2 (bytes "extract") (sym (c .before .low2 .ensures) j) (sym (c .high2 .ensures) j)) (nameOf (pool s) (sym (c .before .before .first2 .ensures) j))))
+    ap show (h .1 ∙ (λ j. apply1 (index2 (bytes "extract") (sym (c .before .before .cut-hi .ensures) j) (sym (c .before .cut-lo .ensures) j)) (nameOf (pool s) (sym (c .first2 .ensures) j))))
+
+cut-hi-requires : tie.Need-cut-hi-requires
+cut-hi-requires c κs = search needs
+
+cut-lo-requires : tie.Need-cut-lo-requires
+cut-lo-requires c κs = search needs
 
 first-requires-2 : tie.Need-first-requires-2
 first-requires-2 c κs = search needs
-
-low-requires-2 : tie.Need-low-requires-2
-low-requires-2 c κs = search needs
-
-high-requires-2 : tie.Need-high-requires-2
-high-requires-2 c κs = search needs
 
 put-cut-requires : tie.Need-put-cut-requires
 put-cut-requires c κs =
@@ -128,7 +128,7 @@ put-cut-requires c κs =
     let s = entry-16 t in
     let r = s .pre .0 .0 in
     let h = cut-of (pool s) (node s) r (s .args .k) (s .pre .0 .1) (t .before .before .before .if3 .taken) in
-    (omega (arith, t .before .before .first2 .ensures, h .0, r .inside), room-as (text-16 t) (s .pre .1))
+    (omega (arith, t .first2 .ensures, h .0, r .inside), room-as (text-16 t) (s .pre .1))
 
 same-length-3 : tie.Need-same-length-3
 same-length-3 c = search needs
@@ -257,9 +257,9 @@ put-term-spec =
     put-three-requires
     same-length-2
     returns-2
+    cut-hi-requires
+    cut-lo-requires
     first-requires-2
-    low-requires-2
-    high-requires-2
     put-cut-requires
     same-length-3
     returns-3

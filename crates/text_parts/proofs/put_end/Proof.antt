@@ -10,16 +10,16 @@ use Rattle.text_parts.proofs.put_end.Statement.{statement}
 use Rattle.text_parts.proofs.put_end.Tie as tie
 
 -- an Extract, whose bits are read
-abbrev start-range : tie.After-high → tie.Start
+abbrev start-range : tie.After-cut-lo → tie.Start
 start-range c = c .before .before .before .before .before
 
-range-is : (c : tie.After-high) → let a = start-range c .args in endText (a .p .now) (a .n .0) ≡ rangeText (c .before .low .result) (c .high .result)
+range-is : (c : tie.After-cut-lo) → let a = start-range c .args in endText (a .p .now) (a .n .0) ≡ rangeText (c .before .cut-hi .result .0) (c .cut-lo .result .0)
 range-is c =
     let l = c .before in
     let s = start-range c in
-    end-range (s .args .p .now) (s .args .n .0) (s .pre .0 .1) (l .before .if1 .taken) (l .low .ensures) (c .high .ensures)
+    end-range (s .args .p .now) (s .args .n .0) (s .pre .0 .1) (l .before .if1 .taken) (l .cut-hi .ensures) (c .cut-lo .ensures)
 
-range-room : (c : tie.After-high) → let a = start-range c .args in Room (a .buf .now) (a .at) (rangeText (c .before .low .result) (c .high .result))
+range-room : (c : tie.After-cut-lo) → let a = start-range c .args in Room (a .buf .now) (a .at) (rangeText (c .before .cut-hi .result .0) (c .cut-lo .result .0))
 range-room c = room-as (range-is c) (start-range c .pre .1)
 
 -- an extension, whose width is read
@@ -33,11 +33,11 @@ width-is c =
     let h = s .pre .0 in
     end-width (a .p .now) (a .n .0) (h .1) (from-18 (is-single _ (h .2)) (c .before .if1 .left)) (to-nineteen (a .p .now) (a .n .0) (h .0) (a .k) (h .1)) (c .width-of .ensures .0)
 
-low-requires : tie.Need-low-requires
-low-requires c κs = search needs
+cut-hi-requires : tie.Need-cut-hi-requires
+cut-hi-requires c κs = search needs
 
-high-requires : tie.Need-high-requires
-high-requires c κs = search needs
+cut-lo-requires : tie.Need-cut-lo-requires
+cut-lo-requires c κs = search needs
 
 put-numbered-requires : tie.Need-put-numbered-requires
 put-numbered-requires c κs = room-front _ (range-room (c .before))
@@ -82,8 +82,8 @@ pub put-end-spec : {M : Type 1} → statement M
 put-end-spec =
     tie.close
     (tie.spec
-    low-requires
-    high-requires
+    cut-hi-requires
+    cut-lo-requires
     put-numbered-requires
     put-numbered-requires-2
     slice-aggregate-put
