@@ -148,7 +148,7 @@ fn at_most_6(x: u64) -> u64
 }
 
 // What is left of x when y is taken off, and 0 where y is larger.
-fn less(x: u64, y: u64) -> u64
+fn minus_or_zero(x: u64, y: u64) -> u64
     ensures { λ r. ⌜ r ≡ x - y ⌝ }
 {
     if x < y { 0 } else { x - y }
@@ -172,8 +172,8 @@ fn immediate_at(code: u64, bits: u64, w: u64) -> u64
     let row = code % 8;
     match row {
         1 => 0,
-        2 => less(w / 65536 % 128, bits),
-        3 => less(2 * bits, w / 65536 % 128),
+        2 => minus_or_zero(w / 65536 % 128, bits),
+        3 => minus_or_zero(2 * bits, w / 65536 % 128),
         _ => element_at(bits, w),
     }
 }

@@ -8,14 +8,14 @@ use borrow.Author.Needs.{needs}
 use Rattle.words_encoding.proofs.decode.immediate_at.Statement.{statement}
 use Rattle.words_encoding.proofs.decode.immediate_at.Tie as tie
 
-less-requires : tie.Need-less-requires
-less-requires c κs = search needs
+minus-or-zero-requires : tie.Need-minus-or-zero-requires
+minus-or-zero-requires c κs = search needs
 
-mul-less : tie.Need-mul-less
-mul-less c = search needs
+mul-minus-or-zero : tie.Need-mul-minus-or-zero
+mul-minus-or-zero c = search needs
 
-less-requires-2 : tie.Need-less-requires-2
-less-requires-2 c κs = search needs
+minus-or-zero-requires-2 : tie.Need-minus-or-zero-requires-2
+minus-or-zero-requires-2 c κs = search needs
 
 element-at-requires : tie.Need-element-at-requires
 element-at-requires c κs = search needs
@@ -28,12 +28,12 @@ returns c =
 returns-2 : tie.Need-returns-2
 returns-2 c =
     let a = c .before .before .args in
-    λ o v h e. at-left (form o .immediate) (a .bits) (a .w) (c .less .result) (c .less .ensures) (sym (parts (a .code) o v h e .row) ∙ c .before .match .keys2)
+    λ o v h e. at-left (form o .immediate) (a .bits) (a .w) (c .minus-or-zero .result) (c .minus-or-zero .ensures) (sym (parts (a .code) o v h e .row) ∙ c .before .match .keys2)
 
 returns-3 : tie.Need-returns-3
 returns-3 c =
     let a = c .before .before .args in
-    λ o v h e. at-right (form o .immediate) (a .bits) (a .w) (c .less2 .result) (c .less2 .ensures) (sym (parts (a .code) o v h e .row) ∙ c .before .match .keys3)
+    λ o v h e. at-right (form o .immediate) (a .bits) (a .w) (c .minus-or-zero2 .result) (c .minus-or-zero2 .ensures) (sym (parts (a .code) o v h e .row) ∙ c .before .match .keys3)
 
 returns-4 : tie.Need-returns-4
 returns-4 c =
@@ -47,9 +47,9 @@ pub immediate-at-spec : {M : Type 1} → statement M
 immediate-at-spec =
     tie.close
     (tie.spec
-    less-requires
-    mul-less
-    less-requires-2
+    minus-or-zero-requires
+    mul-minus-or-zero
+    minus-or-zero-requires-2
     element-at-requires
     returns
     returns-2
