@@ -137,8 +137,8 @@ uint64_t neon_write_text(const uint64_t *pool, size_t words, size_t count, size_
                          size_t *length);
 
 /* *length is that of the text of a node, or ceiling + 1 where the text is longer; 0 where it is refused. A buffer of *length bytes
- * is one that neon_write_text fills, where *length is no more than the ceiling. Its time grows with the ceiling up to 2^21 - 2, from
- * there on with the nodes. */
+ * is one that neon_write_text fills, where *length is no more than the ceiling. Its time grows with the nodes for a node below 1,024, and for
+ * any node from a ceiling of 2^21 - 1 on; else with the ceiling. */
 uint64_t neon_text_length(const uint64_t *pool, size_t words, size_t count, size_t node, uint32_t ceiling, uint64_t *length);
 
 /* Words. A64 instruction words stand in memory as four bytes each, the lowest first; records as six words each, as in a block.

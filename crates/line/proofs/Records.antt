@@ -16,11 +16,11 @@ use Rattle.neon.specs.Op.{isOperation, opAt, isArrangement, arrangementAt, lane
 use Rattle.neon.specs.Form.{hasForm, least, most}
 use Rattle.neon.specs.Refusal.{Refusal, refusal, reserve, mostRecords, registersOk, recordNumber, recordsRefusal, sizeNumber, blockRefusal}
 use Rattle.neon.proofs.Legal.{accepted}
-use Rattle.pool.specs.Node.{bad, var, codeOf, Cell, kindNumber, places}
+use Rattle.pool.specs.Node.{bad, var, codeOf, Cell, wordAt, kindNumber, places}
 use Rattle.pool.proofs.Facts.{kind-code}
 use Rattle.text_digits.specs.Writing.{Wrote}
 use Rattle.text_parts.specs.Text.{text}
-use Rattle.text_bound.specs.Bounds.{Leaves}
+use Rattle.text_length.specs.Known.{Registers}
 use Rattle.text_digits.proofs.Laws.{wrote-none, wrote-as}
 use Rattle.block_check.specs.Records.{recordsFrom, recordsOf}
 use Rattle.block_check.proofs.Refusals.{block-legal}
@@ -97,10 +97,10 @@ module _ (p : ℕ) (line : List ℕ) where
   long e = eqb-true (length line) 24 (and-both (eqb (length line) 24) _ e .0)
 
 -- the first 32 nodes of an accepted block's pool are registers
-var-low : (ws : List ℕ) (r : ℕ) → VarAt ws r → kindNumber ws r < 3
-var-low ws r v =
+var-here : (ws : List ℕ) (r : ℕ) → VarAt ws r → (kindNumber ws r ≡ 1) × (wordAt ws r 2 ≡ r)
+var-here ws r v =
     let κ = ap (λ (k : Cell). k .kind) v in
-    ⊎-elim (λ e. absurd (no (sym κ ∙ e))) (λ e. omega (arith, sym e ∙ ap codeOf κ)) (kind-code (kindNumber ws r))
+    (⊎-elim (λ e. absurd (no (sym κ ∙ e))) (λ e. sym e ∙ ap codeOf κ) (kind-code (kindNumber ws r)), ap (λ (k : Cell). k .x) v)
   where
     no : var ≡ bad → ⊥
     no e = let z : codeOf var ≡ codeOf bad = ap codeOf e in omega arith
@@ -116,8 +116,8 @@ module _ (line : List ℕ) {old new : List ℕ} {a : BlockAnswer} (b : Answered 
   unfolding text recordText
   node-text = ap display (b .accepted z .terms (recordOf line .d) low-d .tree)
 
-  pub registers : Leaves new 32
-  registers = record { at = λ r h. var-low new r (b .accepted z .vars r h) }
+  pub registers : Registers new
+  registers = record { at = λ r h. var-here new r (b .accepted z .vars r h) }
 
   pub node-under : nodeOf (a .map) (recordOf line .d) < a .map .count
   node-under = b .accepted z .terms (recordOf line .d) low-d .under

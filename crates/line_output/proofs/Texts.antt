@@ -1,12 +1,9 @@
 -- The answers to a line: a text too long for its buffer, and a text between its number and its newline. Assumes nothing.
 use mathlib.Core.List.{List, [], _∷_, _++_}
-use mathlib.Core.Bool.{Bool, true, false}
-use mathlib.Core.Path.{_≡_, refl, sym, ap, _∙_}
-use Prim.Native.Nat.{ℕ, _+_, min, _≤_, _<_}
-use native.Mathlib.Omega.{arith}
-use lib.Dec.{leb}
+use mathlib.Core.Path.{_≡_, ap}
+use Prim.Native.Nat.{ℕ, _≤_, _<_}
 use lib.ListN.{length}
-use borrow.Author.Tests.{le-leb, lt-leb, leb-true, leb-false}
+use borrow.Author.Tests.{le-leb, lt-leb}
 use Rattle.text_digits.specs.Writing.{Wrote}
 use Rattle.text_digits.proofs.Laws.{wrote-then}
 use Rattle.line_columns.specs.Columns.{columns}
@@ -15,14 +12,6 @@ use Rattle.line_output.specs.Answer.{textRoom, roomNumber, written}
 
 pub length-columns : (x : ℕ) → x < 10000 → length (columns x) ≡ 4
 length-columns x h = ap length (columns-are x h)
-
--- a length up to one more than the room says whether a text has room
-pub has-room : (x y : ℕ) → x ≡ min y (textRoom + 1) → leb x textRoom ≡ leb y textRoom
-has-room x y e = go (leb y textRoom) refl
-  where
-    go : (t : Bool) → leb y textRoom ≡ t → leb x textRoom ≡ leb y textRoom
-    go true h = let l = leb-true y textRoom h in le-leb x textRoom (omega arith) ∙ sym h
-    go false h = let l = leb-false y textRoom h in lt-leb x textRoom (omega arith) ∙ sym h
 
 pub term-refused : {l m : List ℕ} {at r : ℕ} (s : List ℕ) → textRoom < length s → Wrote l at (columns 9 ++ (10 ∷ [])) r m → Wrote l at (written (roomNumber s) s) r m
 term-refused s h w = rw (lt-leb (length s) textRoom h) w

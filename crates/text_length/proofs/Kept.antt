@@ -1,29 +1,59 @@
--- Lengths that are kept up to a bound: taking one off a number within the bound is taking off the text's length. Assumes nothing.
+-- Lengths that are kept up to a bound: of the first nodes, of one more, and of the registers. Assumes nothing.
+use mathlib.Core.Bool.{Bool, true, false}
 use mathlib.Core.List.{List}
 use mathlib.Core.Logic.{⊎-elim}
-use mathlib.Core.Path.{_≡_, sym, subst, _∙_}
-use Prim.Native.Nat.{ℕ, suc, _+_, _-_, _≤_, _<_, min}
+use mathlib.Core.Path.{_≡_, refl, sym, subst, _∙_}
+use Prim.Native.Nat.{ℕ, suc, _+_, _≤_, _<_, min}
 use native.Mathlib.Omega.{arith}
 use native.Mathlib.Nat.{eq-or-lt-of-le, le-of-suc-le-suc}
-use lib.ListN.{length, getD, set, length-set}
+use lib.Dec.{ltb}
+use lib.ListN.{length, getD, set}
 use lib.Seq.{getD-set-same, getD-set-other}
-use Rattle.text_parts.specs.Text.{text}
-use Rattle.text_length.specs.Known.{Known}
+use borrow.Author.Tests.{ltb-true, ltb-false}
+use Rattle.terms.specs.Display.{decimal}
+use Rattle.pool.specs.Node.{wordAt, kindNumber}
+use Rattle.text_digits.proofs.Lengths.{decimal-one, decimal-two}
+use Rattle.text_parts.specs.Text.{text, Ready}
+use Rattle.text_parts.proofs.Operands.{ready-less}
+use Rattle.text_length.specs.Known.{Known, Kept, Registers, RegisterLengths}
+use Rattle.text_length.proofs.Sizes.{size-var}
 
-module _ {ws lengths : List ℕ} {b n : ℕ} (k : Known ws b lengths n) where
-  pub kept : {m c d : ℕ} → m < n → c ≤ b → d ≡ c - getD lengths m 0 → d ≡ c - length (text ws m)
-  kept {m} l h e = omega (arith, k .at m l)
+-- the length kept of an earlier node
+pub kept : {ws lengths : List ℕ} {b n m : ℕ} → Known ws b lengths n → (n ≤ length lengths) × (b ≤ 4294967296) → m < n → Kept lengths m
+kept {m = m} k h l = record { below = omega (arith, h, l); small = omega (arith, h, k .at m l) }
 
 -- none is known at first, and one more once it is stored
 pub known-none : {ws lengths : List ℕ} {b : ℕ} → Known ws b lengths 0
 known-none = record { at = λ m l. absurd (omega (arith, l)) }
 
-pub known-more : {ws lengths : List ℕ} {b j r : ℕ} → Known ws b lengths j → j < length lengths → r ≡ b - length (text ws j)
-    → Known ws b (set lengths j (b - r)) (j + 1)
-known-more {ws} {lengths} {b} {j} {r} k l e = record { at = λ m h. go m h }
+-- what holds of the entries before j, and of the one that is stored there, holds of those before j + 1
+pub stored : (P : ℕ → ℕ → Type 0) (lengths : List ℕ) {j x : ℕ} → ((m : ℕ) → m < j → P m (getD lengths m 0)) → j < length lengths → P j x → (m : ℕ) → m < j + 1
+    → P m (getD (set lengths j x) m 0)
+stored P lengths {j} {x} f l q m h =
+    ⊎-elim (λ e. subst (λ (i : ℕ). P i (getD (set lengths j x) i 0)) (sym e) (subst (P j) (sym (getD-set-same lengths j x 0 l)) q))
+    (λ i. subst (P m) (sym (getD-set-other lengths j m x 0 (λ z. omega (arith, z, i)))) (f m i))
+    (eq-or-lt-of-le (omega (arith, h)))
+
+pub known-more : {ws lengths : List ℕ} {b j x : ℕ} → Known ws b lengths j → j < length lengths → x ≡ min (length (text ws j)) b → Known ws b (set lengths j x) (j + 1)
+known-more {ws} {lengths} {b} k l e = record { at = stored (λ m x. x ≡ min (length (text ws m)) b) lengths (k .at) l e }
+
+-- nodes up to n keep the rules
+pub ready-to : {ws : List ℕ} {n m : ℕ} → m ≤ n → Ready ws n → Ready ws m
+ready-to {ws} {n} l r = ⊎-elim (λ e. subst (λ (i : ℕ). Ready ws i) (sym e) r) (λ i. ready-less i r) (eq-or-lt-of-le l)
+
+-- a register's text is short
+register-short : (r : ℕ) → r < 32 → length (decimal r) ≤ 2
+register-short r h = go (ltb r 10) refl
   where
-    go : (m : ℕ) → m < j + 1 → getD (set lengths j (b - r)) m 0 ≡ min (length (text ws m)) b
-    go m h =
-        ⊎-elim (λ q. subst (λ (i : ℕ). getD (set lengths j (b - r)) i 0 ≡ min (length (text ws i)) b) (sym q) (getD-set-same lengths j (b - r) 0 l ∙ omega arith))
-        (λ q. getD-set-other lengths j m (b - r) 0 (λ z. omega (arith, z, q)) ∙ k .at m q)
-        (eq-or-lt-of-le (omega (arith, h)))
+    go : (t : Bool) → ltb r 10 ≡ t → length (decimal r) ≤ 2
+    go true e = omega (arith, decimal-one r (ltb-true r 10 e))
+    go false e = omega (arith, decimal-two r (ltb-false r 10 e) (omega (arith, h)))
+
+pub registers-known : {ws lengths : List ℕ} {b n : ℕ} → Ready ws n → 32 ≤ n → Registers ws → RegisterLengths lengths → 4 ≤ b → Known ws b lengths 32
+registers-known {ws} {lengths} {b} {n} y h v e l = record { at = λ r i. go r i }
+  where
+    go : (r : ℕ) → r < 32 → getD lengths r 0 ≡ min (length (text ws r)) b
+    go r i =
+        let q = v .at r i in
+        let z = size-var ws r (ready-less (omega (arith, i, h)) y) 1 (sym (q .0)) refl in
+        omega (arith, l, e .at r i, register-short r i, rw (q .1) at z)

@@ -17,14 +17,16 @@ ghost use mathlib.Core.Path.{_≡_};
 ghost use mathlib.Core.Bool.{true, cond};
 ghost use Prim.Native.Nat.{_+_, _-_, _≤_, _<_, min};
 ghost use lib.Dec.{eqb};
-ghost use lib.ListN.{length, getD};
+ghost use lib.ListN.{length};
 ghost use Rattle.pool.specs.Node.{kindNumber};
 ghost use Rattle.text_operators.specs.Between.{Joined, betweenText};
 ghost use Rattle.text_parts.specs.Text.{text, Ready, openText, endText, single};
 ghost use Rattle.text_length.specs.Answer.{Measured};
-ghost use Rattle.text_length.specs.Known.{Known};
+ghost use Rattle.text_length.specs.Known.{Registers};
 
-// From this number of characters on a length is summed up node by node.
+pub mod nodes;
+
+// From this number of characters on the length of a node of a large pool is summed up node by node.
 const BY_NODES: usize = 2097152;
 
 // What is left of b when the length of a Var's or a Const's text is taken off it, and 0 where the text is longer.
@@ -88,69 +90,6 @@ fn less_node(p: &&[u64], n: Node, b: usize) -> usize
     less_node(p, right(*p, n), d)
 }
 
-// What is left of c when the length that is kept of a node is taken off it.
-fn less_at(c: usize, lengths: &[usize], n: Node) -> usize
-    requires { ⌜ n .0 < length (now lengths) ⌝ }
-    ensures { λ r. ⌜ r ≡ c - getD (now (lengths .entry)) (n .0) 0 ⌝ }
-{
-    let at = n.0;
-    less(c, lengths[at])
-}
-
-// As `less_node`, where the lengths of the nodes before it are known, each up to b.
-fn less_known(p: &[u64], n: Node, b: usize, lengths: &[usize]) -> usize
-    requires { ⌜ Ready (now p) (n .0) ⌝ }
-    requires { ⌜ n .0 ≤ length (now lengths) ⌝ }
-    requires { ⌜ Known (now p) b (now lengths) (n .0) ⌝ }
-    ensures { λ r. ⌜ r ≡ b - length (text (now (p .entry)) (n .0)) ⌝ }
-{
-    let k = kind_of(p, n);
-    if k < 3 {
-        return less_leaf(p, n, k, b);
-    }
-    if is_single(k) {
-        return less_at(less_single(p, n, k, b), lengths, first(p, n));
-    }
-    let mut c = less(b, own_length(k));
-    if k == 15 {
-        c = less_at(c, lengths, first(p, n));
-    }
-    let d = less_at(c, lengths, left(p, n));
-    less_at(d, lengths, right(p, n))
-}
-
-// The lengths of the nodes before n, each up to b.
-fn put_lengths(p: &[u64], n: Node, b: usize, lengths: &mut [usize])
-    requires { ⌜ Ready (now p) (n .0) ⌝ }
-    requires { ⌜ n .0 ≤ length (now lengths) ⌝ }
-    ensures { λ _. ⌜ Known (now (p .entry)) b (now (lengths .exit)) (n .0) ⌝ }
-{
-    let mut j = 0;
-    while j < n.0 {
-        lengths[j] = b - less_known(p, Node(j), b, lengths);
-        j += 1;
-    }
-}
-
-// A place for the length of each node of a pool.
-fn no_lengths() -> [usize; 65536]
-    ensures { λ r. ⌜ length r ≡ 65536 ⌝ }
-{
-    [0usize; 65536]
-}
-
-// As `less_node`, by a length for each node: its time grows with the nodes and not with b. A text may have a node far more often than the
-// pool. The lengths take 0.5 MB of stack.
-fn less_by_nodes(p: &[u64], n: Node, b: usize) -> usize
-    requires { ⌜ Ready (now p) (n .0) ⌝ }
-    requires { ⌜ n .0 < 65536 ⌝ }
-    ensures { λ r. ⌜ r ≡ b - length (text (now (p .entry)) (n .0)) ⌝ }
-{
-    let mut lengths = no_lengths();
-    put_lengths(p, n, b, &mut lengths);
-    less_known(p, n, b, &lengths)
-}
-
 // As `less_node`, of a plain slice. Its time grows with b.
 pub fn measure(p: &[u64], n: Node, b: usize) -> usize
     requires { ⌜ Ready (now p) (n .0) ⌝ }
@@ -159,25 +98,33 @@ pub fn measure(p: &[u64], n: Node, b: usize) -> usize
     less_node(&p, n, b)
 }
 
-// The same for any b: for a large one by the way whose time grows with the nodes.
-fn less_any(p: &[u64], n: Node, b: usize) -> usize
-    requires { ⌜ Ready (now p) (n .0) ⌝ }
-    ensures { λ r. ⌜ r ≡ b - length (text (now (p .entry)) (n .0)) ⌝ }
-{
-    if (BY_NODES <= b) & (n.0 < 65536) {
-        return less_by_nodes(p, n, b);
-    }
-    measure(p, n, b)
-}
-
-// The length of a node's text, or one more than the ceiling where the text is longer, of a pool that is known to be good.
+// The length of a node's text, or one more than the ceiling where the text is longer, of a pool that is known to be good: node by node,
+// unless the pool is large and the ceiling low.
 pub fn length_to(p: &[u64], n: Node, ceiling: u32) -> u64
     requires { ⌜ Ready (now p) (n .0) ⌝ }
     ensures { λ r. ⌜ r ≡ min (length (text (now (p .entry)) (n .0))) (ceiling + 1) ⌝ }
 {
     let most = (ceiling as usize) + 1;
-    let left = less_any(p, n, most);
+    if n.0 < 1024 {
+        return nodes::length_of_few(p, n, most) as u64;
+    }
+    if (BY_NODES <= most) & (n.0 < 65536) {
+        return nodes::length_of_many(p, n, most) as u64;
+    }
+    let left = measure(p, n, most);
     (most - left) as u64
+}
+
+// The same of a pool that begins with the registers.
+pub fn length_in_block(p: &[u64], n: Node, ceiling: u32) -> u64
+    requires { ⌜ Ready (now p) (n .0) × Registers (now p) ⌝ }
+    requires { ⌜ 3 ≤ ceiling ⌝ }
+    ensures { λ r. ⌜ r ≡ min (length (text (now (p .entry)) (n .0))) (ceiling + 1) ⌝ }
+{
+    if (32 <= n.0) & (n.0 < 256) {
+        return nodes::length_past_registers(p, n, (ceiling as usize) + 1) as u64;
+    }
+    length_to(p, n, ceiling)
 }
 
 // A number of document 01, and the text's length up to a ceiling.

@@ -10,7 +10,6 @@ use pool_fields::right;
 use pool_fields::second;
 use text_digits::put;
 use text_operators::put_between;
-use text_parts::is_single;
 use text_parts::put_end;
 use text_parts::put_leaf;
 use text_parts::put_open;
@@ -41,7 +40,11 @@ fn write_term(p: &&[u64], n: Node, buf: &mut &mut [u8], at: usize) -> usize
         i = put(b", ", *buf, j);
     }
     let j = write_term(p, left(*p, n), buf, i);
-    if is_single(k) {
+    // two tests: of one test for both the compiler makes six instructions at each node
+    if k == 16 {
+        return put_end(*p, n, k, *buf, j);
+    }
+    if 18 <= k {
         return put_end(*p, n, k, *buf, j);
     }
     let l = put_between(k, *buf, j);

@@ -1,9 +1,7 @@
 -- `line_output::put_term` meets its contract: 9 for a text without room, else its number, a blank, the text and a newline.
-use mathlib.Core.Path.{_≡_, sym, _∙_}
 use Prim.Native.Nat.{_≤_}
 use native.Mathlib.Omega.{arith}
 use lib.ListN.{length}
-use borrow.Author.Tests.{not-true, not-false, leb-true, leb-false}
 use Rattle.text_digits.proofs.Laws.{wrote-length}
 use Rattle.text_parts.specs.Text.{text, Ready}
 use Rattle.text_length.proofs.Answers.{ready}
@@ -21,10 +19,10 @@ start c = c .before .before .before .before
 
 -- past the test the text has room
 roomy : (c : tie.Else1) → let a = start c .args in length (text (a .pool .now) (a .node)) ≤ textRoom
-roomy c = leb-true _ _ (sym (c .before .fits2 .ensures) ∙ not-false _ (c .if1 .left))
+roomy c = omega (arith, c .before .length-in-block .ensures, c .if1 .left)
 
-fits-requires : tie.Need-fits-requires
-fits-requires c κs = let s = c .before .before in (whole s, s .pre .1 .0 .1)
+length-in-block-requires : tie.Need-length-in-block-requires
+length-in-block-requires c κs = let s = c .before .before in ((whole s, s .pre .1 .0 .1), omega arith)
 
 put-number-requires : tie.Need-put-number-requires
 put-number-requires c κs = search needs
@@ -38,7 +36,7 @@ returns c =
     let i = p .before .before in
     let f = i .before in
     let a = f .before .before .before .args in
-    term-refused (text (a .pool .now) (a .node)) (leb-false _ _ (sym (f .fits2 .ensures) ∙ not-true _ (i .if1 .taken))) (p .put-number .ensures)
+    term-refused (text (a .pool .now) (a .node)) (omega (arith, f .length-in-block .ensures, i .if1 .taken)) (p .put-number .ensures)
 
 put-columns-requires : tie.Need-put-columns-requires
 put-columns-requires c κs =
@@ -99,7 +97,7 @@ pub put-term-spec : {M : Type 1} → statement M
 put-term-spec =
     tie.close
     (tie.spec
-    fits-requires
+    length-in-block-requires
     put-number-requires
     same-length
     returns

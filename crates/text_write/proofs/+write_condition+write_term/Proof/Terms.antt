@@ -2,9 +2,10 @@
 use mathlib.Core.Bool.{true, false}
 use mathlib.Core.List.{List, _++_}
 use mathlib.Core.Logic.{⊎-elim}
-use mathlib.Core.Path.{_≡_, refl, sym, _∙_}
+use mathlib.Core.Path.{_≡_, refl}
 use Prim.Native.Nat.{ℕ}
 use native.Mathlib.Omega.{arith}
+use borrow.Author.Tests.{eq-eqb, ne-eqb, le-leb, lt-leb}
 use denote.Ref.{at-last}
 use Rattle.terms.specs.Display.{bytes}
 use Rattle.pool_fields.specs.Fields.{opA, leftOf, rightOf}
@@ -87,26 +88,31 @@ module _ (t : ℕ) where
       Room (c .write-term .last .1 .1 .0 .now) (c .write-term .result) (rest (pool (start i)) (node (start i)) (kind i))
   left-room c = room-step (left-wrote c .wrote) (front-room (fronted c))
 
-  -- an only operand
-  abbrev Single : Type 0
-  Single = write-term-lts.Then3 (write-term-claims t) (write-term-at t) write-term.Post
+  -- an only operand: an Extract's, and an extension's
+  end-is : (c : Inner) → single (kind c) ≡ true → rest (pool (start c)) (node (start c)) (kind c) ≡ endText (pool (start c)) (node (start c))
+  end-is c s = rw s
 
-  single-is : (c : Single) → single (kind (inner (fronted (c .before .before)))) ≡ true
-  single-is c = sym (c .before .is-single .ensures) ∙ c .if3 .taken
+  abbrev Range : Type 0
+  Range = write-term-lts.Then3 (write-term-claims t) (write-term-at t) write-term.Post
 
-  end-is : (c : Single) → let i = inner (fronted (c .before .before)) in
-      rest (pool (start i)) (node (start i)) (kind i) ≡ endText (pool (start i)) (node (start i))
-  end-is c = rw (single-is c)
+  range-is : (c : Range) → single (kind (inner (fronted (c .before)))) ≡ true
+  range-is c = rw (eq-eqb _ 16 (c .if3 .taken)) refl
+
+  abbrev Extension : Type 0
+  Extension = write-term-lts.Then4 (write-term-claims t) (write-term-at t) write-term.Post
+
+  extension-is : (c : Extension) → single (kind (inner (fronted (c .before .before)))) ≡ true
+  extension-is c = rw (ne-eqb _ 16 (c .before .if3 .left), le-leb 18 _ (c .if4 .taken)) refl
 
   -- two operands
   abbrev Two : Type 0
-  Two = write-term-lts.Else3 (write-term-claims t) (write-term-at t) write-term.Post
+  Two = write-term-lts.Else4 (write-term-claims t) (write-term-at t) write-term.Post
 
   abbrev lefted : Two → Lefted
   lefted c = c .before .before
 
   two-is : (c : Two) → single (kind (inner (fronted (lefted c)))) ≡ false
-  two-is c = sym (c .before .is-single .ensures) ∙ c .if3 .left
+  two-is c = rw (ne-eqb _ 16 (c .before .if3 .left), lt-leb 18 _ (c .if4 .left)) refl
 
   rest-is : (c : Two) → let i = inner (fronted (lefted c)) in
       rest (pool (start i)) (node (start i)) (kind i) ≡ betweenText (kind i) ++ (text (pool (start i)) (rightOf (pool (start i)) (node (start i))) ++ bytes ")")
@@ -215,24 +221,38 @@ module _ (t : ℕ) where
       let d = left-term (pool s) (node s) (s .pre .1 .0 .0) (kind i) (i .before .kind-of .ensures) (i .if1 .left) in
       rw (l .left .ensures) (omega (arith, s .pre .0, d .before), ((d .ready, d .wide), room-front _ (front-room f)))
 
-  pub is-single-requires : write-term-lts.Need-is-single-requires (write-term-claims t) (write-term-at t) write-term.Post
-  is-single-requires c κs = tt
-
   pub slice-aggregate-put-end : write-term-lts.Need-slice-aggregate-put-end (write-term-claims t) (write-term-at t) write-term.Post
   slice-aggregate-put-end c = refl
 
   pub put-end-requires : write-term-lts.Need-put-end-requires (write-term-claims t) (write-term-at t) write-term.Post
   put-end-requires c κs =
       let e = c .before .before in
-      let i = inner (fronted (e .before .before)) in
-      ((start i .pre .1 .0 .0, i .before .kind-of .ensures, single-is e), room-as (end-is e) (left-room (e .before .before)))
+      let i = inner (fronted (e .before)) in
+      ((start i .pre .1 .0 .0, i .before .kind-of .ensures, range-is e), room-as (end-is i (range-is e)) (left-room (e .before)))
 
   pub returns-2 : write-term-lts.Need-returns-2 (write-term-claims t) (write-term-at t) write-term.Post
   returns-2 c =
       let e = c .before .before .before in
+      let l = e .before in
+      behind-as (whole-is (inner (fronted l)))
+      (behind-more (front-wrote (fronted l)) (behind-more (left-wrote l) (behind-as (end-is (inner (fronted l)) (range-is e)) (behind-one _ (c .put-end .ensures)))))
+
+  pub slice-aggregate-put-end-2 : write-term-lts.Need-slice-aggregate-put-end-2 (write-term-claims t) (write-term-at t) write-term.Post
+  slice-aggregate-put-end-2 c = refl
+
+  pub put-end-requires-2 : write-term-lts.Need-put-end-requires-2 (write-term-claims t) (write-term-at t) write-term.Post
+  put-end-requires-2 c κs =
+      let e = c .before .before in
+      let l = e .before .before in
+      let i = inner (fronted l) in
+      ((start i .pre .1 .0 .0, i .before .kind-of .ensures, extension-is e), room-as (end-is i (extension-is e)) (left-room l))
+
+  pub returns-3 : write-term-lts.Need-returns-3 (write-term-claims t) (write-term-at t) write-term.Post
+  returns-3 c =
+      let e = c .before .before .before in
       let l = e .before .before in
       behind-as (whole-is (inner (fronted l)))
-      (behind-more (front-wrote (fronted l)) (behind-more (left-wrote l) (behind-as (end-is e) (behind-one _ (c .put-end .ensures)))))
+      (behind-more (front-wrote (fronted l)) (behind-more (left-wrote l) (behind-as (end-is (inner (fronted l)) (extension-is e)) (behind-one _ (c .put-end2 .ensures)))))
 
   pub slice-aggregate-put-between : write-term-lts.Need-slice-aggregate-put-between (write-term-claims t) (write-term-at t) write-term.Post
   slice-aggregate-put-between c = refl
@@ -265,8 +285,8 @@ module _ (t : ℕ) where
   pub put-requires-2 : write-term-lts.Need-put-requires-2 (write-term-claims t) (write-term-at t) write-term.Post
   put-requires-2 c κs = right-room (c .before .before)
 
-  pub returns-3 : write-term-lts.Need-returns-3 (write-term-claims t) (write-term-at t) write-term.Post
-  returns-3 c =
+  pub returns-4 : write-term-lts.Need-returns-4 (write-term-claims t) (write-term-at t) write-term.Post
+  returns-4 c =
       let r = c .before .before .before in
       let g = signed r in
       let l = lefted (two g) in

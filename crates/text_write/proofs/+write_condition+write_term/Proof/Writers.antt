@@ -15,7 +15,6 @@ use Rattle.pool_fields.proofs.left.Reads as left-reads
 use Rattle.pool_fields.proofs.right.Reads as right-reads
 use Rattle.pool_fields.proofs.second.Reads as second-reads
 use Rattle.text_operators.proofs.put_between.Reads as put-between-reads
-use Rattle.text_parts.proofs.is_single.Reads as is-single-reads
 use Rattle.text_parts.proofs.put_end.Reads as put-end-reads
 use Rattle.text_parts.proofs.put_leaf.Reads as put-leaf-reads
 use Rattle.text_parts.proofs.put_open.Reads as put-open-reads
@@ -86,8 +85,6 @@ write-term-claims t = (
   left-reads.Learnt,
   write-term-below t,
   write-term.Post,
-  is-single-reads.Asked,
-  is-single-reads.Learnt,
   put-end-reads.Asked,
   put-end-reads.Learnt,
   put-between-reads.Asked,

@@ -1,0 +1,50 @@
+-- `text_length::nodes::hex_length` meets its contract: a digit is four bits, and the highest bit is below the zeros that lead.
+use native.Mathlib.Omega.{arith}
+use mathlib.Core.Path.{_≡_, sym, ap, _∙_}
+use lib.Count.{leading-le}
+use lib.ListN.{length}
+use Rattle.terms.specs.Display.{hexadecimal}
+use Rattle.pool.specs.Node.{wide}
+use Rattle.text_digits.proofs.Laws.{length-digit}
+use Rattle.text_length.proofs.Hex.{word-digits, words-digits}
+use borrow.Author.Needs.{needs}
+use Rattle.text_length.proofs.nodes.hex_length.Statement.{statement}
+use Rattle.text_length.proofs.nodes.hex_length.Tie as tie
+
+sub-result : tie.Need-sub-result
+sub-result c = omega (arith, leading-le 64 (c .before .args .high))
+
+cast-result : tie.Need-cast-result
+cast-result c = search needs
+
+returns : tie.Need-returns
+returns c =
+    let s = c .before in
+    words-digits (s .args .low) (s .args .high) (s .fits .low .fits) (c .if1 .taken) (s .fits .high .fits)
+
+returns-2 : tie.Need-returns-2
+unfolding hexadecimal
+returns-2 c =
+    let e = c .before in
+    let a = e .before .args in
+    let l = length-digit (a .low) (a .high) (omega (arith, e .if1 .left, c .if2 .taken)) in
+    (sym l, omega arith)
+
+sub-result-2 : tie.Need-sub-result-2
+sub-result-2 c = omega (arith, leading-le 64 (c .before .before .args .low))
+
+cast-result-2 : tie.Need-cast-result-2
+cast-result-2 c = search needs
+
+returns-3 : tie.Need-returns-3
+returns-3 c =
+    let e = c .before in
+    let s = e .before in
+    let z : wide (s .args .low) (s .args .high) ≡ s .args .low = omega (arith, e .if1 .left) in
+    let d = word-digits (s .args .low) (omega (arith, c .if2 .left)) (s .fits .low .fits) in
+    rw z (d .0, omega (arith, d .1))
+
+pub hex-length-spec : {M : Type 1} → statement M
+hex-length-spec =
+    tie.close
+    (tie.spec sub-result cast-result returns returns-2 sub-result-2 cast-result-2 returns-3)
