@@ -66,6 +66,9 @@ pub enum Number {
     Unknown(u64),
 }
 
+/// [`Pool::text`] gives texts of up to so many bytes.
+const LONGEST_TEXT: u32 = 1 << 24;
+
 /// Each number with its word.
 const NUMBERS: [(u64, Number, &str); 12] = [
     (1, Number::BadPool, "bad pool"),
@@ -329,21 +332,14 @@ impl Pool {
     ///
     /// Sharing is written out, so a text may be far longer than the pool: [`Number::ShortBuffer`] stands for more than 2^24 bytes.
     pub fn text(&self, node: Node) -> Result<String, Refusal> {
-        let mut buffer = vec![0; self.text_length(node)?];
+        let (number, length) = raw::text_length(&self.words, self.count, node.0, LONGEST_TEXT);
+        answer(number)?;
+        if length > u64::from(LONGEST_TEXT) {
+            return Err(Refusal { number: Number::ShortBuffer, position: None });
+        }
+        let mut buffer = vec![0; length as usize];
         self.write_text(node, &mut buffer)?;
         Ok(String::from_utf8(buffer).expect("the text is ASCII"))
-    }
-
-    /// Most texts are short, and are measured on the caller's stack.
-    fn text_length(&self, node: Node) -> Result<usize, Refusal> {
-        for ceiling in [raw::SHORT_TEXT as u32, 1 << 24] {
-            let (number, length) = raw::text_length(&self.words, self.count, node.0, ceiling);
-            answer(number)?;
-            if length <= u64::from(ceiling) {
-                return Ok(length as usize);
-            }
-        }
-        Err(Refusal { number: Number::ShortBuffer, position: None })
     }
 
     /// Writes the text of a node to the front of a buffer, and returns its length.

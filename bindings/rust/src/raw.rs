@@ -21,8 +21,8 @@ const DEEP_STACK: usize = 8 << 20;
 /// A level of a text has so many bytes or more.
 const LEVEL: usize = 5;
 
-/// A text of so many bytes is of a term that is not deeper.
-pub const SHORT_TEXT: usize = LEVEL * SHALLOW;
+/// From this ceiling on a length is summed up node by node, in 0.5 MB of stack whatever the depth.
+const BY_NODES: u32 = (1 << 21) - 1;
 
 /// A call that goes down a term of up to so many levels.
 fn with_stack<T: Send>(levels: usize, call: impl FnOnce() -> T + Send) -> T {
@@ -106,7 +106,8 @@ pub fn write_text(pool: &[u64], count: usize, node: usize, buffer: &mut [u8]) ->
 
 /// Number and length.
 pub fn text_length(pool: &[u64], count: usize, node: usize, ceiling: u32) -> (u64, u64) {
-    with_stack(ceiling as usize / LEVEL, || {
+    let levels = if ceiling < BY_NODES { ceiling as usize / LEVEL } else { 0 };
+    with_stack(levels, || {
         let mut length = 0;
         let number = unsafe { neon_text_length(pool.as_ptr(), pool.len(), count, node, ceiling, &mut length) };
         (number, length)
