@@ -1,3 +1,4 @@
+-- The canonical words of a term: they unfold to its distinct subtrees in the order of a walk, determine the term, and pass the check.
 pub mod Lists
 pub mod Trees
 pub mod Good

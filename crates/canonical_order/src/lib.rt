@@ -72,7 +72,8 @@ fn turn(
     requires { ⌜ Classes (now pool) (root + 1) (now class) ⌝ }
     requires { ⌜ Walking (now pool) (now class) root (now number) (now order) (s .count) (now stack) (s .depth) ⌝ }
     requires { ⌜ 0 < s .depth ⌝ }
-    ensures { λ r. ⌜ Stepped (now (pool .entry)) (now (class .entry)) root (now (number .entry)) (now (stack .entry)) (s .depth) (now (number .exit)) (now (order .exit)) (r .count) (now (stack .exit)) (r .depth) ⌝ }
+    ensures { λ r. ⌜ Stepped (now (pool .entry)) (now (class .entry)) root (now (number .entry)) (now (stack .entry)) (s .depth)
+        (now (number .exit)) (now (order .exit)) (r .count) (now (stack .exit)) (r .depth) ⌝ }
 {
     let top = s.depth - 1;
     let n = wide(stack[top]);

@@ -1,3 +1,4 @@
+-- A joined pool: its words, node by node; its trees; the theorems of specs/Meaning.antt.
 pub mod Checks
 pub mod ByKind
 pub mod Renamed

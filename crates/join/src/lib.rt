@@ -2,6 +2,7 @@
 use pool::Node;
 use pool::places;
 use pool::push;
+use pool::words::Kind;
 use pool::words::kind_of;
 use pool::words::kind_word;
 use pool::words::set_of;
@@ -153,7 +154,7 @@ fn put_eq(first: &[u64], c: usize, second: &[u64], d: usize, x: usize, y: usize,
     push(
         out,
         c + d - 32,
-        kind_word(12, 0, set),
+        kind_word(Kind::EQ, 0, set),
         x as u64 + 65536 * b,
         0,
         0,

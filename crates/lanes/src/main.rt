@@ -92,6 +92,6 @@ fn main() {
     let mut pool = [0u64; line::POOL_WORDS];
     let mut held = [0u8; line::LINE_ROOM];
     let mut input = [0u8; 65536];
-    let mut out = [0u8; 262144];
+    let mut out = [0u8; 131072];
     run(&mut pool, &mut held, &mut input, &mut out);
 }

@@ -11,8 +11,8 @@ ghost use Rattle.pool.specs.Node.{places};
 ghost use Rattle.text_digits.specs.Writing.{Wrote};
 ghost use Rattle.line.specs.Line.{answerIn, PoolAfter};
 
-// The words of a pool for a block of one: 32 registers and 768 nodes.
-pub const POOL_WORDS: usize = 3200;
+// The words of a pool for a block of one.
+pub const POOL_WORDS: usize = 4 * (32 + pool::Node::RESERVE);
 
 // The bytes to hold of a line: one more than a line in columns has.
 pub const LINE_ROOM: usize = 25;

@@ -1,1 +1,2 @@
+-- Taking the bytes of a line one by one.
 pub mod Gathering

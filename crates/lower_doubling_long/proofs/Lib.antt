@@ -1,1 +1,2 @@
+-- The doubling long multiplications, from what their calls build.
 pub mod Multiplying

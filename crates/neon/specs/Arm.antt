@@ -4,10 +4,7 @@ use Prim.Native.Nat.{ℕ, zero, suc, _+_, _-_, _*_, _/_, _%_, _^_}
 use lib.Dec.{ltb, eqb}
 use lib.IntN.{ℤ, pos, negsuc, negℤ, natAbs, _+ℤ_, _-ℤ_, _*ℤ_}
 use lib.Signed.{ltZ, shrZ}
-use Rattle.neon.specs.Op.{Op, Arrangement, laneBits, full, SHL, SQSHLI, UQSHLI, SQSHLU, SSHR, USHR, SRSHR, URSHR, SSHL, USHL, SRSHL, URSHL, SQSHL, UQSHL, SQRSHL, UQRSHL, SLI, SRI, SQADD, UQADD}
-use Rattle.neon.specs.Op.{SQSUB, UQSUB, SHADD, UHADD, SRHADD, URHADD, SQXTN, UQXTN, SQXTUN, SHRN, RSHRN, SQSHRN, SQRSHRN, UQSHRN, UQRSHRN, SQSHRUN, SQRSHRUN, SQABS, SQNEG, SQDMULH, SQRDMULH}
-use Rattle.neon.specs.Op.{SQDMULL, SQDMLAL, SQDMLSL, SQDMULL2, SQDMLAL2, SQDMLSL2, SQDMULLE, SQDMLALE, SQDMLSLE, SQDMULL2E, SQDMLAL2E, SQDMLSL2E, SUQADD, USQADD, SABD, UABD, SABA, UABA, CNT}
-use Rattle.neon.specs.Op.{CLZ, CLS, RBIT, ADDHN, RADDHN, SUBHN, RSUBHN}
+use Rattle.neon.specs.Op.{Op, Arrangement, laneBits, full}
 use Rattle.neon.specs.Form.{Lanes, form, isNarrow, sourceBits, laneCount, firstLane, secondLane, byElement}
 
 -- z mod 2 ^ n
@@ -84,73 +81,73 @@ doubled n a b = cS n (S (n / 2) a *ℤ S (n / 2) b *ℤ pos 2)
 
 -- a lane of the result, of n bits: i is the immediate, d the old lane, a and b the source lanes
 unfoldable pub armLane : Op → (n i d a b : ℕ) → ℕ
-armLane SHL n i d a b = wrap n (scale (U a) i)
-armLane SQSHLI n i d a b = wrap n (cS n (scale (S n a) i))
-armLane UQSHLI n i d a b = wrap n (cU n (scale (U a) i))
-armLane SQSHLU n i d a b = wrap n (cU n (scale (S n a) i))
-armLane SSHR n i d a b = wrap n (floor (S n a) i)
-armLane USHR n i d a b = wrap n (floor (U a) i)
-armLane SRSHR n i d a b = wrap n (round (S n a) i)
-armLane URSHR n i d a b = wrap n (round (U a) i)
-armLane SSHL n i d a b = wrap n (shiftZ (S n a) (byte b))
-armLane USHL n i d a b = wrap n (shiftZ (U a) (byte b))
-armLane SRSHL n i d a b = wrap n (roundZ (S n a) (byte b))
-armLane URSHL n i d a b = wrap n (roundZ (U a) (byte b))
-armLane SQSHL n i d a b = wrap n (cS n (shiftZ (S n a) (byte b)))
-armLane UQSHL n i d a b = wrap n (cU n (shiftZ (U a) (byte b)))
-armLane SQRSHL n i d a b = wrap n (cS n (roundZ (S n a) (byte b)))
-armLane UQRSHL n i d a b = wrap n (cU n (roundZ (U a) (byte b)))
-armLane SLI n i d a b = wrap n (scale (U a) i) + d % 2 ^ i
-armLane SRI n i d a b = d / 2 ^ (n - i) * 2 ^ (n - i) + wrap n (floor (U a) i)
-armLane SQADD n i d a b = wrap n (cS n (S n a +ℤ S n b))
-armLane UQADD n i d a b = wrap n (cU n (U a +ℤ U b))
-armLane SQSUB n i d a b = wrap n (cS n (S n a -ℤ S n b))
-armLane UQSUB n i d a b = wrap n (cU n (U a -ℤ U b))
-armLane SHADD n i d a b = wrap n (floor (S n a +ℤ S n b) 1)
-armLane UHADD n i d a b = wrap n (floor (U a +ℤ U b) 1)
-armLane SRHADD n i d a b = wrap n (round (S n a +ℤ S n b) 1)
-armLane URHADD n i d a b = wrap n (round (U a +ℤ U b) 1)
-armLane SQXTN n i d a b = wrap n (cS n (S (n * 2) a))
-armLane UQXTN n i d a b = wrap n (cU n (U a))
-armLane SQXTUN n i d a b = wrap n (cU n (S (n * 2) a))
-armLane SHRN n i d a b = wrap n (floor (U a) i)
-armLane RSHRN n i d a b = wrap n (round (U a) i)
-armLane SQSHRN n i d a b = wrap n (cS n (floor (S (n * 2) a) i))
-armLane SQRSHRN n i d a b = wrap n (cS n (round (S (n * 2) a) i))
-armLane UQSHRN n i d a b = wrap n (cU n (floor (U a) i))
-armLane UQRSHRN n i d a b = wrap n (cU n (round (U a) i))
-armLane SQSHRUN n i d a b = wrap n (cU n (floor (S (n * 2) a) i))
-armLane SQRSHRUN n i d a b = wrap n (cU n (round (S (n * 2) a) i))
-armLane SQABS n i d a b = wrap n (cS n (pos (natAbs (S n a))))
-armLane SQNEG n i d a b = wrap n (cS n (negℤ (S n a)))
-armLane SQDMULH n i d a b = wrap n (cS n (floor (S n a *ℤ S n b *ℤ pos 2) n))
-armLane SQRDMULH n i d a b = wrap n (cS n (round (S n a *ℤ S n b *ℤ pos 2) n))
-armLane SQDMULL n i d a b = wrap n (doubled n a b)
-armLane SQDMLAL n i d a b = wrap n (cS n (S n d +ℤ doubled n a b))
-armLane SQDMLSL n i d a b = wrap n (cS n (S n d -ℤ doubled n a b))
-armLane SQDMULL2 n i d a b = wrap n (doubled n a b)
-armLane SQDMLAL2 n i d a b = wrap n (cS n (S n d +ℤ doubled n a b))
-armLane SQDMLSL2 n i d a b = wrap n (cS n (S n d -ℤ doubled n a b))
-armLane SQDMULLE n i d a b = wrap n (doubled n a b)
-armLane SQDMLALE n i d a b = wrap n (cS n (S n d +ℤ doubled n a b))
-armLane SQDMLSLE n i d a b = wrap n (cS n (S n d -ℤ doubled n a b))
-armLane SQDMULL2E n i d a b = wrap n (doubled n a b)
-armLane SQDMLAL2E n i d a b = wrap n (cS n (S n d +ℤ doubled n a b))
-armLane SQDMLSL2E n i d a b = wrap n (cS n (S n d -ℤ doubled n a b))
-armLane SUQADD n i d a b = wrap n (cS n (S n d +ℤ U a))
-armLane USQADD n i d a b = wrap n (cU n (U d +ℤ S n a))
-armLane SABD n i d a b = wrap n (pos (natAbs (S n a -ℤ S n b)))
-armLane UABD n i d a b = wrap n (pos (natAbs (U a -ℤ U b)))
-armLane SABA n i d a b = wrap n (U d +ℤ pos (natAbs (S n a -ℤ S n b)))
-armLane UABA n i d a b = wrap n (U d +ℤ pos (natAbs (U a -ℤ U b)))
-armLane CNT n i d a b = ones n a
-armLane CLZ n i d a b = equalRun 0 n a
-armLane CLS n i d a b = equalRun (bitAt (n - 1) a) (n - 1) a
-armLane RBIT n i d a b = lanes 1 n (λ j. bitAt (n - 1 - j) a)
-armLane ADDHN n i d a b = wrap (n * 2) (U a +ℤ U b) / 2 ^ n
-armLane RADDHN n i d a b = wrap (n * 2) (U a +ℤ U b +ℤ pos (2 ^ (n - 1))) / 2 ^ n
-armLane SUBHN n i d a b = wrap (n * 2) (U a -ℤ U b) / 2 ^ n
-armLane RSUBHN n i d a b = wrap (n * 2) (U a -ℤ U b +ℤ pos (2 ^ (n - 1))) / 2 ^ n
+armLane Op.SHL n i d a b = wrap n (scale (U a) i)
+armLane Op.SQSHLI n i d a b = wrap n (cS n (scale (S n a) i))
+armLane Op.UQSHLI n i d a b = wrap n (cU n (scale (U a) i))
+armLane Op.SQSHLU n i d a b = wrap n (cU n (scale (S n a) i))
+armLane Op.SSHR n i d a b = wrap n (floor (S n a) i)
+armLane Op.USHR n i d a b = wrap n (floor (U a) i)
+armLane Op.SRSHR n i d a b = wrap n (round (S n a) i)
+armLane Op.URSHR n i d a b = wrap n (round (U a) i)
+armLane Op.SSHL n i d a b = wrap n (shiftZ (S n a) (byte b))
+armLane Op.USHL n i d a b = wrap n (shiftZ (U a) (byte b))
+armLane Op.SRSHL n i d a b = wrap n (roundZ (S n a) (byte b))
+armLane Op.URSHL n i d a b = wrap n (roundZ (U a) (byte b))
+armLane Op.SQSHL n i d a b = wrap n (cS n (shiftZ (S n a) (byte b)))
+armLane Op.UQSHL n i d a b = wrap n (cU n (shiftZ (U a) (byte b)))
+armLane Op.SQRSHL n i d a b = wrap n (cS n (roundZ (S n a) (byte b)))
+armLane Op.UQRSHL n i d a b = wrap n (cU n (roundZ (U a) (byte b)))
+armLane Op.SLI n i d a b = wrap n (scale (U a) i) + d % 2 ^ i
+armLane Op.SRI n i d a b = d / 2 ^ (n - i) * 2 ^ (n - i) + wrap n (floor (U a) i)
+armLane Op.SQADD n i d a b = wrap n (cS n (S n a +ℤ S n b))
+armLane Op.UQADD n i d a b = wrap n (cU n (U a +ℤ U b))
+armLane Op.SQSUB n i d a b = wrap n (cS n (S n a -ℤ S n b))
+armLane Op.UQSUB n i d a b = wrap n (cU n (U a -ℤ U b))
+armLane Op.SHADD n i d a b = wrap n (floor (S n a +ℤ S n b) 1)
+armLane Op.UHADD n i d a b = wrap n (floor (U a +ℤ U b) 1)
+armLane Op.SRHADD n i d a b = wrap n (round (S n a +ℤ S n b) 1)
+armLane Op.URHADD n i d a b = wrap n (round (U a +ℤ U b) 1)
+armLane Op.SQXTN n i d a b = wrap n (cS n (S (n * 2) a))
+armLane Op.UQXTN n i d a b = wrap n (cU n (U a))
+armLane Op.SQXTUN n i d a b = wrap n (cU n (S (n * 2) a))
+armLane Op.SHRN n i d a b = wrap n (floor (U a) i)
+armLane Op.RSHRN n i d a b = wrap n (round (U a) i)
+armLane Op.SQSHRN n i d a b = wrap n (cS n (floor (S (n * 2) a) i))
+armLane Op.SQRSHRN n i d a b = wrap n (cS n (round (S (n * 2) a) i))
+armLane Op.UQSHRN n i d a b = wrap n (cU n (floor (U a) i))
+armLane Op.UQRSHRN n i d a b = wrap n (cU n (round (U a) i))
+armLane Op.SQSHRUN n i d a b = wrap n (cU n (floor (S (n * 2) a) i))
+armLane Op.SQRSHRUN n i d a b = wrap n (cU n (round (S (n * 2) a) i))
+armLane Op.SQABS n i d a b = wrap n (cS n (pos (natAbs (S n a))))
+armLane Op.SQNEG n i d a b = wrap n (cS n (negℤ (S n a)))
+armLane Op.SQDMULH n i d a b = wrap n (cS n (floor (S n a *ℤ S n b *ℤ pos 2) n))
+armLane Op.SQRDMULH n i d a b = wrap n (cS n (round (S n a *ℤ S n b *ℤ pos 2) n))
+armLane Op.SQDMULL n i d a b = wrap n (doubled n a b)
+armLane Op.SQDMLAL n i d a b = wrap n (cS n (S n d +ℤ doubled n a b))
+armLane Op.SQDMLSL n i d a b = wrap n (cS n (S n d -ℤ doubled n a b))
+armLane Op.SQDMULL2 n i d a b = wrap n (doubled n a b)
+armLane Op.SQDMLAL2 n i d a b = wrap n (cS n (S n d +ℤ doubled n a b))
+armLane Op.SQDMLSL2 n i d a b = wrap n (cS n (S n d -ℤ doubled n a b))
+armLane Op.SQDMULLE n i d a b = wrap n (doubled n a b)
+armLane Op.SQDMLALE n i d a b = wrap n (cS n (S n d +ℤ doubled n a b))
+armLane Op.SQDMLSLE n i d a b = wrap n (cS n (S n d -ℤ doubled n a b))
+armLane Op.SQDMULL2E n i d a b = wrap n (doubled n a b)
+armLane Op.SQDMLAL2E n i d a b = wrap n (cS n (S n d +ℤ doubled n a b))
+armLane Op.SQDMLSL2E n i d a b = wrap n (cS n (S n d -ℤ doubled n a b))
+armLane Op.SUQADD n i d a b = wrap n (cS n (S n d +ℤ U a))
+armLane Op.USQADD n i d a b = wrap n (cU n (U d +ℤ S n a))
+armLane Op.SABD n i d a b = wrap n (pos (natAbs (S n a -ℤ S n b)))
+armLane Op.UABD n i d a b = wrap n (pos (natAbs (U a -ℤ U b)))
+armLane Op.SABA n i d a b = wrap n (U d +ℤ pos (natAbs (S n a -ℤ S n b)))
+armLane Op.UABA n i d a b = wrap n (U d +ℤ pos (natAbs (U a -ℤ U b)))
+armLane Op.CNT n i d a b = ones n a
+armLane Op.CLZ n i d a b = equalRun 0 n a
+armLane Op.CLS n i d a b = equalRun (bitAt (n - 1) a) (n - 1) a
+armLane Op.RBIT n i d a b = lanes 1 n (λ j. bitAt (n - 1 - j) a)
+armLane Op.ADDHN n i d a b = wrap (n * 2) (U a +ℤ U b) / 2 ^ n
+armLane Op.RADDHN n i d a b = wrap (n * 2) (U a +ℤ U b +ℤ pos (2 ^ (n - 1))) / 2 ^ n
+armLane Op.SUBHN n i d a b = wrap (n * 2) (U a -ℤ U b) / 2 ^ n
+armLane Op.RSUBHN n i d a b = wrap (n * 2) (U a -ℤ U b +ℤ pos (2 ^ (n - 1))) / 2 ^ n
 
 -- lane j of the result
 unfoldable pub armAt : Op → Arrangement → (i d a b j : ℕ) → ℕ

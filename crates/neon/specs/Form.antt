@@ -3,10 +3,7 @@
 use mathlib.Core.Bool.{Bool, true, false, cond, _&&_, _||_}
 use Prim.Native.Nat.{ℕ, _+_, _-_, _*_, _/_}
 use lib.Dec.{leb, eqb}
-use Rattle.neon.specs.Op.{Op, opAt, isOperation, Arrangement, arrangementAt, isArrangement, laneBits, full, bitsIf, SHL, SQSHLI, UQSHLI, SQSHLU, SSHR, USHR, SRSHR, URSHR, SSHL, USHL, SRSHL}
-use Rattle.neon.specs.Op.{URSHL, SQSHL, UQSHL, SQRSHL, UQRSHL, SLI, SRI, SQADD, UQADD, SQSUB, UQSUB, SHADD, UHADD, SRHADD, URHADD, SQXTN, UQXTN, SQXTUN, SHRN, RSHRN, SQSHRN, SQRSHRN, UQSHRN}
-use Rattle.neon.specs.Op.{UQRSHRN, SQSHRUN, SQRSHRUN, SQABS, SQNEG, SQDMULH, SQRDMULH, SQDMULL, SQDMLAL, SQDMLSL, SQDMULL2, SQDMLAL2, SQDMLSL2, SQDMULLE, SQDMLALE, SQDMLSLE, SQDMULL2E}
-use Rattle.neon.specs.Op.{SQDMLAL2E, SQDMLSL2E, SUQADD, USQADD, SABD, UABD, SABA, UABA, CNT, CLZ, CLS, RBIT, ADDHN, RADDHN, SUBHN, RSUBHN}
+use Rattle.neon.specs.Op.{Op, opAt, isOperation, Arrangement, arrangementAt, isArrangement, laneBits, full, bitsIf}
 
 -- a source lane has the result's bits; twice as many; or half as many, from the lower or the upper lanes
 pub data Lanes : Type 0 where
@@ -35,73 +32,73 @@ abbrev pub row : Lanes → Immediate → Class → Reads → Form
 row l i c r = record { lanes = l; immediate = i; class = c; reads = r }
 
 abbrev pub form : Op → Form
-form SHL = row Same Left Every N
-form SQSHLI = row Same Left Every N
-form UQSHLI = row Same Left Every N
-form SQSHLU = row Same Left Every N
-form SSHR = row Same Right Every N
-form USHR = row Same Right Every N
-form SRSHR = row Same Right Every N
-form URSHR = row Same Right Every N
-form SSHL = row Same None Every NM
-form USHL = row Same None Every NM
-form SRSHL = row Same None Every NM
-form URSHL = row Same None Every NM
-form SQSHL = row Same None Every NM
-form UQSHL = row Same None Every NM
-form SQRSHL = row Same None Every NM
-form UQRSHL = row Same None Every NM
-form SLI = row Same Left Every DN
-form SRI = row Same Right Every DN
-form SQADD = row Same None Every NM
-form UQADD = row Same None Every NM
-form SQSUB = row Same None Every NM
-form UQSUB = row Same None Every NM
-form SHADD = row Same None Not2D NM
-form UHADD = row Same None Not2D NM
-form SRHADD = row Same None Not2D NM
-form URHADD = row Same None Not2D NM
-form SQXTN = row Narrow None Not2D N
-form UQXTN = row Narrow None Not2D N
-form SQXTUN = row Narrow None Not2D N
-form SHRN = row Narrow Right Not2D N
-form RSHRN = row Narrow Right Not2D N
-form SQSHRN = row Narrow Right Not2D N
-form SQRSHRN = row Narrow Right Not2D N
-form UQSHRN = row Narrow Right Not2D N
-form UQRSHRN = row Narrow Right Not2D N
-form SQSHRUN = row Narrow Right Not2D N
-form SQRSHRUN = row Narrow Right Not2D N
-form SQABS = row Same None Every N
-form SQNEG = row Same None Every N
-form SQDMULH = row Same None From4HTo4S NM
-form SQRDMULH = row Same None From4HTo4S NM
-form SQDMULL = row (Long false) None From4S NM
-form SQDMLAL = row (Long false) None From4S DNM
-form SQDMLSL = row (Long false) None From4S DNM
-form SQDMULL2 = row (Long true) None From4S NM
-form SQDMLAL2 = row (Long true) None From4S DNM
-form SQDMLSL2 = row (Long true) None From4S DNM
-form SQDMULLE = row (Long false) Element From4S NM
-form SQDMLALE = row (Long false) Element From4S DNM
-form SQDMLSLE = row (Long false) Element From4S DNM
-form SQDMULL2E = row (Long true) Element From4S NM
-form SQDMLAL2E = row (Long true) Element From4S DNM
-form SQDMLSL2E = row (Long true) Element From4S DNM
-form SUQADD = row Same None Every DN
-form USQADD = row Same None Every DN
-form SABD = row Same None Not2D NM
-form UABD = row Same None Not2D NM
-form SABA = row Same None Not2D DNM
-form UABA = row Same None Not2D DNM
-form CNT = row Same None Bytes N
-form CLZ = row Same None Not2D N
-form CLS = row Same None Not2D N
-form RBIT = row Same None Bytes N
-form ADDHN = row Narrow None Not2D NM
-form RADDHN = row Narrow None Not2D NM
-form SUBHN = row Narrow None Not2D NM
-form RSUBHN = row Narrow None Not2D NM
+form Op.SHL = row Same Left Every N
+form Op.SQSHLI = row Same Left Every N
+form Op.UQSHLI = row Same Left Every N
+form Op.SQSHLU = row Same Left Every N
+form Op.SSHR = row Same Right Every N
+form Op.USHR = row Same Right Every N
+form Op.SRSHR = row Same Right Every N
+form Op.URSHR = row Same Right Every N
+form Op.SSHL = row Same None Every NM
+form Op.USHL = row Same None Every NM
+form Op.SRSHL = row Same None Every NM
+form Op.URSHL = row Same None Every NM
+form Op.SQSHL = row Same None Every NM
+form Op.UQSHL = row Same None Every NM
+form Op.SQRSHL = row Same None Every NM
+form Op.UQRSHL = row Same None Every NM
+form Op.SLI = row Same Left Every DN
+form Op.SRI = row Same Right Every DN
+form Op.SQADD = row Same None Every NM
+form Op.UQADD = row Same None Every NM
+form Op.SQSUB = row Same None Every NM
+form Op.UQSUB = row Same None Every NM
+form Op.SHADD = row Same None Not2D NM
+form Op.UHADD = row Same None Not2D NM
+form Op.SRHADD = row Same None Not2D NM
+form Op.URHADD = row Same None Not2D NM
+form Op.SQXTN = row Narrow None Not2D N
+form Op.UQXTN = row Narrow None Not2D N
+form Op.SQXTUN = row Narrow None Not2D N
+form Op.SHRN = row Narrow Right Not2D N
+form Op.RSHRN = row Narrow Right Not2D N
+form Op.SQSHRN = row Narrow Right Not2D N
+form Op.SQRSHRN = row Narrow Right Not2D N
+form Op.UQSHRN = row Narrow Right Not2D N
+form Op.UQRSHRN = row Narrow Right Not2D N
+form Op.SQSHRUN = row Narrow Right Not2D N
+form Op.SQRSHRUN = row Narrow Right Not2D N
+form Op.SQABS = row Same None Every N
+form Op.SQNEG = row Same None Every N
+form Op.SQDMULH = row Same None From4HTo4S NM
+form Op.SQRDMULH = row Same None From4HTo4S NM
+form Op.SQDMULL = row (Long false) None From4S NM
+form Op.SQDMLAL = row (Long false) None From4S DNM
+form Op.SQDMLSL = row (Long false) None From4S DNM
+form Op.SQDMULL2 = row (Long true) None From4S NM
+form Op.SQDMLAL2 = row (Long true) None From4S DNM
+form Op.SQDMLSL2 = row (Long true) None From4S DNM
+form Op.SQDMULLE = row (Long false) Element From4S NM
+form Op.SQDMLALE = row (Long false) Element From4S DNM
+form Op.SQDMLSLE = row (Long false) Element From4S DNM
+form Op.SQDMULL2E = row (Long true) Element From4S NM
+form Op.SQDMLAL2E = row (Long true) Element From4S DNM
+form Op.SQDMLSL2E = row (Long true) Element From4S DNM
+form Op.SUQADD = row Same None Every DN
+form Op.USQADD = row Same None Every DN
+form Op.SABD = row Same None Not2D NM
+form Op.UABD = row Same None Not2D NM
+form Op.SABA = row Same None Not2D DNM
+form Op.UABA = row Same None Not2D DNM
+form Op.CNT = row Same None Bytes N
+form Op.CLZ = row Same None Not2D N
+form Op.CLS = row Same None Not2D N
+form Op.RBIT = row Same None Bytes N
+form Op.ADDHN = row Narrow None Not2D NM
+form Op.RADDHN = row Narrow None Not2D NM
+form Op.SUBHN = row Narrow None Not2D NM
+form Op.RSUBHN = row Narrow None Not2D NM
 
 abbrev pub inClass : Class → Arrangement → Bool
 inClass Every v = true

@@ -16,7 +16,8 @@ pub extern "C" fn neon_join(
     node: &mut usize,
     count: &mut usize,
 ) -> u64
-    ensures { λ r. ⌜ Joined (now (first .entry)) «first_count» (now (second .entry)) «second_count» a b (now (joined .entry)) (now (joined .exit)) (record { number = r; node = now (node .exit); count = now (count .exit) }) ⌝ }
+    ensures { λ r. ⌜ Joined (now (first .entry)) «first_count» (now (second .entry)) «second_count» a b (now (joined .entry)) (now (joined .exit))
+        (record { number = r; node = now (node .exit); count = now (count .exit) }) ⌝ }
 {
     let j = join::join(first, first_count, second, second_count, a, b, joined);
     *node = j.node;

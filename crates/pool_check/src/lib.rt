@@ -1,5 +1,6 @@
 // The pool check of document 01: whether every node below the count keeps the pool's rules; and the numbers 1 and 5 of what is asked of a node.
 use pool::Node;
+use pool::words::Kind;
 use pool::words::kind_of;
 use pool_rules::const_ok;
 use pool_rules::extend_ok;
@@ -23,27 +24,27 @@ fn node_ok(pool: &[u64], n: Node, plain: usize) -> bool
     ensures { λ r. ⌜ r ≡ (okNode (now (pool .entry)) (n .0) && plainAt (now (pool .entry)) plain (n .0)) ⌝ }
 {
     let kind = kind_of(pool, n);
-    if kind == 2 {
+    if kind == Kind::CONST {
         return const_ok(pool, n);
     }
-    if kind == 16 {
+    if kind == Kind::EXTRACT {
         return extract_ok(pool, n);
     }
-    if kind == 15 {
+    if kind == Kind::ITE {
         return ite_ok(pool, n);
     }
-    if 18 <= kind {
+    if Kind::ZERO_EXTEND <= kind {
         if kind < 20 {
             return extend_ok(pool, n);
         }
         return false;
     }
     // a call of its own: each of the two is compiled for what is known of the kind
-    if kind == 17 {
-        return pair_ok(pool, n, 17);
+    if kind == Kind::CONCAT {
+        return pair_ok(pool, n, Kind::CONCAT);
     }
-    if kind < 3 {
-        if kind == 1 {
+    if kind < Kind::ADD {
+        if kind == Kind::VAR {
             return (n.0 < plain) & var_ok(pool, n);
         }
         return false;

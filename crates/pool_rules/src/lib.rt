@@ -64,10 +64,10 @@ fn width_over(kind: u64, a: u64, b: u64) -> u64
     requires { ⌜ (a < 65536) × (b < 65536) ⌝ }
     ensures { λ r. ⌜ r ≡ widthOver kind a b ⌝ }
 {
-    if kind == 17 {
+    if kind == pool::words::Kind::CONCAT {
         return a + b;
     }
-    if kind < 12 {
+    if kind < pool::words::Kind::EQ {
         return a;
     }
     0
@@ -93,7 +93,7 @@ pub fn pair_ok(p: &[u64], n: Node, kind: u64) -> bool
     let wb = width_of(p, b);
     let width = width_of(p, n);
     (1 <= wa)
-        & ((wa == wb) | (kind == 17) & (1 <= wb))
+        & ((wa == wb) | (kind == pool::words::Kind::CONCAT) & (1 <= wb))
         & (width == width_over(kind, wa, wb))
         & (width <= 129)
         & (low(p, n) == 0)

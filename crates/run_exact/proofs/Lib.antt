@@ -1,1 +1,2 @@
+-- Exact integers in three words, and lanes clamped from them.
 pub mod Laws

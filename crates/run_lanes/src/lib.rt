@@ -29,7 +29,8 @@ ghost use Rattle.terms.specs.declared.BinOp.the-variants.{Add, Sub};
 ghost use Rattle.trees.specs.declared.SaturatingKind.the-variants.{AddSub, Halving, Narrow, ShiftNarrow, DoublingMultiplyHigh, Unary};
 ghost use Rattle.trees.specs.Arith.{kindBits};
 ghost use Rattle.lower_kinds.specs.Sources.{AmountIn, KindIn};
-ghost use Rattle.saturation.specs.Family.{ownRange, shiftLaneZ, shiftBeyond, insertLaneZ, mixedLaneZ, mixedBeyond, doublingLaneZ, doublingBeyond, saturatingLaneZ, saturatingBeyond, differenceLaneZ, plusZ, highZ, familyLane, familyBeyond};
+ghost use Rattle.saturation.specs.Family.{ownRange, shiftLaneZ, shiftBeyond, insertLaneZ, mixedLaneZ, mixedBeyond, doublingLaneZ, doublingBeyond};
+ghost use Rattle.saturation.specs.Family.{saturatingLaneZ, saturatingBeyond, differenceLaneZ, plusZ, highZ, familyLane, familyBeyond};
 ghost use Rattle.run_exact.specs.Exact.{Answers, Held};
 ghost use Rattle.run_lanes.specs.Rows.{InsertIn, RowIn, sourceOf};
 

@@ -7,10 +7,7 @@ use native.Mathlib.Omega.{arith}
 use Rattle.terms.specs.Expr.{Expr, Var, Const, width}
 use Rattle.terms.specs.Value.{value, bit}
 use Rattle.neon.specs.declared.Instruction.{Instruction}
-use Rattle.neon.specs.Op.{Op, Arrangement, opAt, arrangementAt, laneBits, full, SHL, SQSHLI, UQSHLI, SQSHLU, SSHR, USHR, SRSHR, URSHR, SSHL, USHL, SRSHL, URSHL, SQSHL, UQSHL, SQRSHL, UQRSHL}
-use Rattle.neon.specs.Op.{SLI, SRI, SQADD, UQADD, SQSUB, UQSUB, SHADD, UHADD, SRHADD, URHADD, SQXTN, UQXTN, SQXTUN, SHRN, RSHRN, SQSHRN, SQRSHRN, UQSHRN, UQRSHRN, SQSHRUN, SQRSHRUN, SQABS}
-use Rattle.neon.specs.Op.{SQNEG, SQDMULH, SQRDMULH, SQDMULL, SQDMLAL, SQDMLSL, SQDMULL2, SQDMLAL2, SQDMLSL2, SQDMULLE, SQDMLALE, SQDMLSLE, SQDMULL2E, SQDMLAL2E, SQDMLSL2E, SUQADD, USQADD}
-use Rattle.neon.specs.Op.{SABD, UABD, SABA, UABA, CNT, CLZ, CLS, RBIT, ADDHN, RADDHN, SUBHN, RSUBHN}
+use Rattle.neon.specs.Op.{Op, Arrangement, opAt, arrangementAt, laneBits, full}
 use Rattle.neon.specs.Form.{form, firstFull, secondFull, byElement, sourceBits, least, most, laneCount, firstLane, secondLane}
 use Rattle.neon.specs.Arm.{lane}
 use Rattle.neon.specs.Run.{readBits, armStep, armRun}
@@ -32,73 +29,73 @@ use Rattle.saturation.proofs.Families.{BitIs, bit-has, bit-is}
 -- a family that cannot saturate does not, whatever the immediate
 pub unsaturable : (o : Op) (i i′ : ℕ) (u : Bool) → saturable (neonOp o i′ u) ≡ false → (n d a b : ℕ) → saturatesLane o n i d a b ≡ false
 unfolding saturatesLane
-unsaturable SQSHLI i i′ u e n d a b = absurd (false≢true (sym e))
-unsaturable UQSHLI i i′ u e n d a b = absurd (false≢true (sym e))
-unsaturable SQSHLU i i′ u e n d a b = absurd (false≢true (sym e))
-unsaturable SQSHL i i′ u e n d a b = absurd (false≢true (sym e))
-unsaturable UQSHL i i′ u e n d a b = absurd (false≢true (sym e))
-unsaturable SQRSHL i i′ u e n d a b = absurd (false≢true (sym e))
-unsaturable UQRSHL i i′ u e n d a b = absurd (false≢true (sym e))
-unsaturable SQADD i i′ u e n d a b = absurd (false≢true (sym e))
-unsaturable UQADD i i′ u e n d a b = absurd (false≢true (sym e))
-unsaturable SQSUB i i′ u e n d a b = absurd (false≢true (sym e))
-unsaturable UQSUB i i′ u e n d a b = absurd (false≢true (sym e))
-unsaturable SQXTN i i′ u e n d a b = absurd (false≢true (sym e))
-unsaturable UQXTN i i′ u e n d a b = absurd (false≢true (sym e))
-unsaturable SQXTUN i i′ u e n d a b = absurd (false≢true (sym e))
-unsaturable SQSHRN i i′ u e n d a b = absurd (false≢true (sym e))
-unsaturable SQRSHRN i i′ u e n d a b = absurd (false≢true (sym e))
-unsaturable UQSHRN i i′ u e n d a b = absurd (false≢true (sym e))
-unsaturable UQRSHRN i i′ u e n d a b = absurd (false≢true (sym e))
-unsaturable SQSHRUN i i′ u e n d a b = absurd (false≢true (sym e))
-unsaturable SQRSHRUN i i′ u e n d a b = absurd (false≢true (sym e))
-unsaturable SQABS i i′ u e n d a b = absurd (false≢true (sym e))
-unsaturable SQNEG i i′ u e n d a b = absurd (false≢true (sym e))
-unsaturable SQDMULH i i′ u e n d a b = absurd (false≢true (sym e))
-unsaturable SQRDMULH i i′ u e n d a b = absurd (false≢true (sym e))
-unsaturable SQDMULL i i′ u e n d a b = absurd (false≢true (sym e))
-unsaturable SQDMLAL i i′ u e n d a b = absurd (false≢true (sym e))
-unsaturable SQDMLSL i i′ u e n d a b = absurd (false≢true (sym e))
-unsaturable SQDMULL2 i i′ u e n d a b = absurd (false≢true (sym e))
-unsaturable SQDMLAL2 i i′ u e n d a b = absurd (false≢true (sym e))
-unsaturable SQDMLSL2 i i′ u e n d a b = absurd (false≢true (sym e))
-unsaturable SQDMULLE i i′ u e n d a b = absurd (false≢true (sym e))
-unsaturable SQDMLALE i i′ u e n d a b = absurd (false≢true (sym e))
-unsaturable SQDMLSLE i i′ u e n d a b = absurd (false≢true (sym e))
-unsaturable SQDMULL2E i i′ u e n d a b = absurd (false≢true (sym e))
-unsaturable SQDMLAL2E i i′ u e n d a b = absurd (false≢true (sym e))
-unsaturable SQDMLSL2E i i′ u e n d a b = absurd (false≢true (sym e))
-unsaturable SUQADD i i′ u e n d a b = absurd (false≢true (sym e))
-unsaturable USQADD i i′ u e n d a b = absurd (false≢true (sym e))
-unsaturable SHL i i′ u e n d a b = refl
-unsaturable SSHR i i′ u e n d a b = refl
-unsaturable USHR i i′ u e n d a b = refl
-unsaturable SRSHR i i′ u e n d a b = refl
-unsaturable URSHR i i′ u e n d a b = refl
-unsaturable SSHL i i′ u e n d a b = refl
-unsaturable USHL i i′ u e n d a b = refl
-unsaturable SRSHL i i′ u e n d a b = refl
-unsaturable URSHL i i′ u e n d a b = refl
-unsaturable SLI i i′ u e n d a b = refl
-unsaturable SRI i i′ u e n d a b = refl
-unsaturable SHADD i i′ u e n d a b = refl
-unsaturable UHADD i i′ u e n d a b = refl
-unsaturable SRHADD i i′ u e n d a b = refl
-unsaturable URHADD i i′ u e n d a b = refl
-unsaturable SHRN i i′ u e n d a b = refl
-unsaturable RSHRN i i′ u e n d a b = refl
-unsaturable SABD i i′ u e n d a b = refl
-unsaturable UABD i i′ u e n d a b = refl
-unsaturable SABA i i′ u e n d a b = refl
-unsaturable UABA i i′ u e n d a b = refl
-unsaturable CNT i i′ u e n d a b = refl
-unsaturable CLZ i i′ u e n d a b = refl
-unsaturable CLS i i′ u e n d a b = refl
-unsaturable RBIT i i′ u e n d a b = refl
-unsaturable ADDHN i i′ u e n d a b = refl
-unsaturable RADDHN i i′ u e n d a b = refl
-unsaturable SUBHN i i′ u e n d a b = refl
-unsaturable RSUBHN i i′ u e n d a b = refl
+unsaturable Op.SQSHLI i i′ u e n d a b = absurd (false≢true (sym e))
+unsaturable Op.UQSHLI i i′ u e n d a b = absurd (false≢true (sym e))
+unsaturable Op.SQSHLU i i′ u e n d a b = absurd (false≢true (sym e))
+unsaturable Op.SQSHL i i′ u e n d a b = absurd (false≢true (sym e))
+unsaturable Op.UQSHL i i′ u e n d a b = absurd (false≢true (sym e))
+unsaturable Op.SQRSHL i i′ u e n d a b = absurd (false≢true (sym e))
+unsaturable Op.UQRSHL i i′ u e n d a b = absurd (false≢true (sym e))
+unsaturable Op.SQADD i i′ u e n d a b = absurd (false≢true (sym e))
+unsaturable Op.UQADD i i′ u e n d a b = absurd (false≢true (sym e))
+unsaturable Op.SQSUB i i′ u e n d a b = absurd (false≢true (sym e))
+unsaturable Op.UQSUB i i′ u e n d a b = absurd (false≢true (sym e))
+unsaturable Op.SQXTN i i′ u e n d a b = absurd (false≢true (sym e))
+unsaturable Op.UQXTN i i′ u e n d a b = absurd (false≢true (sym e))
+unsaturable Op.SQXTUN i i′ u e n d a b = absurd (false≢true (sym e))
+unsaturable Op.SQSHRN i i′ u e n d a b = absurd (false≢true (sym e))
+unsaturable Op.SQRSHRN i i′ u e n d a b = absurd (false≢true (sym e))
+unsaturable Op.UQSHRN i i′ u e n d a b = absurd (false≢true (sym e))
+unsaturable Op.UQRSHRN i i′ u e n d a b = absurd (false≢true (sym e))
+unsaturable Op.SQSHRUN i i′ u e n d a b = absurd (false≢true (sym e))
+unsaturable Op.SQRSHRUN i i′ u e n d a b = absurd (false≢true (sym e))
+unsaturable Op.SQABS i i′ u e n d a b = absurd (false≢true (sym e))
+unsaturable Op.SQNEG i i′ u e n d a b = absurd (false≢true (sym e))
+unsaturable Op.SQDMULH i i′ u e n d a b = absurd (false≢true (sym e))
+unsaturable Op.SQRDMULH i i′ u e n d a b = absurd (false≢true (sym e))
+unsaturable Op.SQDMULL i i′ u e n d a b = absurd (false≢true (sym e))
+unsaturable Op.SQDMLAL i i′ u e n d a b = absurd (false≢true (sym e))
+unsaturable Op.SQDMLSL i i′ u e n d a b = absurd (false≢true (sym e))
+unsaturable Op.SQDMULL2 i i′ u e n d a b = absurd (false≢true (sym e))
+unsaturable Op.SQDMLAL2 i i′ u e n d a b = absurd (false≢true (sym e))
+unsaturable Op.SQDMLSL2 i i′ u e n d a b = absurd (false≢true (sym e))
+unsaturable Op.SQDMULLE i i′ u e n d a b = absurd (false≢true (sym e))
+unsaturable Op.SQDMLALE i i′ u e n d a b = absurd (false≢true (sym e))
+unsaturable Op.SQDMLSLE i i′ u e n d a b = absurd (false≢true (sym e))
+unsaturable Op.SQDMULL2E i i′ u e n d a b = absurd (false≢true (sym e))
+unsaturable Op.SQDMLAL2E i i′ u e n d a b = absurd (false≢true (sym e))
+unsaturable Op.SQDMLSL2E i i′ u e n d a b = absurd (false≢true (sym e))
+unsaturable Op.SUQADD i i′ u e n d a b = absurd (false≢true (sym e))
+unsaturable Op.USQADD i i′ u e n d a b = absurd (false≢true (sym e))
+unsaturable Op.SHL i i′ u e n d a b = refl
+unsaturable Op.SSHR i i′ u e n d a b = refl
+unsaturable Op.USHR i i′ u e n d a b = refl
+unsaturable Op.SRSHR i i′ u e n d a b = refl
+unsaturable Op.URSHR i i′ u e n d a b = refl
+unsaturable Op.SSHL i i′ u e n d a b = refl
+unsaturable Op.USHL i i′ u e n d a b = refl
+unsaturable Op.SRSHL i i′ u e n d a b = refl
+unsaturable Op.URSHL i i′ u e n d a b = refl
+unsaturable Op.SLI i i′ u e n d a b = refl
+unsaturable Op.SRI i i′ u e n d a b = refl
+unsaturable Op.SHADD i i′ u e n d a b = refl
+unsaturable Op.UHADD i i′ u e n d a b = refl
+unsaturable Op.SRHADD i i′ u e n d a b = refl
+unsaturable Op.URHADD i i′ u e n d a b = refl
+unsaturable Op.SHRN i i′ u e n d a b = refl
+unsaturable Op.RSHRN i i′ u e n d a b = refl
+unsaturable Op.SABD i i′ u e n d a b = refl
+unsaturable Op.UABD i i′ u e n d a b = refl
+unsaturable Op.SABA i i′ u e n d a b = refl
+unsaturable Op.UABA i i′ u e n d a b = refl
+unsaturable Op.CNT i i′ u e n d a b = refl
+unsaturable Op.CLZ i i′ u e n d a b = refl
+unsaturable Op.CLS i i′ u e n d a b = refl
+unsaturable Op.RBIT i i′ u e n d a b = refl
+unsaturable Op.ADDHN i i′ u e n d a b = refl
+unsaturable Op.RADDHN i i′ u e n d a b = refl
+unsaturable Op.SUBHN i i′ u e n d a b = refl
+unsaturable Op.RSUBHN i i′ u e n d a b = refl
 
 pub none : (k : ℕ) (f : ℕ → Bool) → ((j : ℕ) → f j ≡ false) → some k f ≡ false
 unfolding some

@@ -12,10 +12,7 @@ use Rattle.terms.specs.Expr.{Expr, Const, Bv, Compare, Ite, width}
 use Rattle.terms.specs.Value.{value, bit}
 use Rattle.terms.specs.declared.BinOp.the-variants.{Add, Sub, Or}
 use Rattle.terms.specs.declared.CmpOp.the-variants.{Slt}
-use Rattle.neon.specs.Op.{Op, SHL, SQSHLI, UQSHLI, SQSHLU, SSHR, USHR, SRSHR, URSHR, SSHL, USHL, SRSHL, URSHL, SQSHL, UQSHL, SQRSHL, UQRSHL, SLI, SRI, SQADD, UQADD, SQSUB, UQSUB, SHADD}
-use Rattle.neon.specs.Op.{UHADD, SRHADD, URHADD, SQXTN, UQXTN, SQXTUN, SHRN, RSHRN, SQSHRN, SQRSHRN, UQSHRN, UQRSHRN, SQSHRUN, SQRSHRUN, SQABS, SQNEG, SQDMULH, SQRDMULH, SQDMULL, SQDMLAL}
-use Rattle.neon.specs.Op.{SQDMLSL, SQDMULL2, SQDMLAL2, SQDMLSL2, SQDMULLE, SQDMLALE, SQDMLSLE, SQDMULL2E, SQDMLAL2E, SQDMLSL2E, SUQADD, USQADD, SABD, UABD, SABA, UABA, CNT, CLZ, CLS, RBIT}
-use Rattle.neon.specs.Op.{ADDHN, RADDHN, SUBHN, RSUBHN}
+use Rattle.neon.specs.Op.{Op}
 use Rattle.neon.specs.Arm.{S, cS, byte, doubled, floor, round, scale}
 use Rattle.neon.specs.Form.{form, least, most, sourceBits}
 use Rattle.trees.specs.declared.SaturateTo.the-variants.{Signed, Unsigned, SignedToUnsigned}
@@ -221,70 +218,70 @@ module _ (r : ℕ → ℕ) (n i : ℕ) (d a b : Expr) (w x y : ℕ) (h8 : 8 ≤ 
 
   pub bit-is : (o : Op) → least o ≤ i → i ≤ most o n → Sources r a b x y (sourceBits (form o .lanes) n) → (upper : Bool) → BitIs r (laneBit (neonOp o i upper) n d a b) (saturatesLane o n i w x y)
   unfolding saturatesLane shiftBit saturatingBit doublingLongBit
-  bit-is SQSHLI l h g u = as-bit r _ (is-lost r a n i hn true (Const i n) (S n x) (g .sx) (g .qa) (by-const r i n))
-  bit-is UQSHLI l h g u = as-bit r _ (is-lost r a n i hn false (Const i n) (pos x) (g .ux) (g .pa) (by-const r i n))
-  bit-is SQSHLU l h g u = as-bit r _ (bit-sqshlu r a n i (S n x) hn (g .sx) (g .qa))
-  bit-is SQSHL l h g u = bit-register r false true a b n (S n x) h8 (g .sx) (g .qa) y (g .hy) (g .pb)
-  bit-is UQSHL l h g u = bit-register r false false a b n (pos x) h8 (g .ux) (g .pa) y (g .hy) (g .pb)
-  bit-is SQRSHL l h g u = bit-register r true true a b n (S n x) h8 (g .sx) (g .qa) y (g .hy) (g .pb)
-  bit-is UQRSHL l h g u = bit-register r true false a b n (pos x) h8 (g .ux) (g .pa) y (g .hy) (g .pb)
-  bit-is SQADD l h g u = as-bit r _ (bit-sqaddsub r a b n (S n x) (S n y) hn (g .qa) (g .qb) false (g .sx) (g .sy))
-  bit-is UQADD l h g u = as-bit r _ (bit-uqadd r a b n (pos x) (pos y) hn (g .pa) (g .pb) (g .ux) (g .uy))
-  bit-is SQSUB l h g u = as-bit r _ (bit-sqaddsub r a b n (S n x) (S n y) hn (g .qa) (g .qb) true (g .sx) (g .sy))
-  bit-is UQSUB l h g u = as-bit r _ (bit-uqsub r a b n (pos x) (pos y) hn (g .pa) (g .pb) (g .ux) (g .uy))
-  bit-is SQXTN l h g u = as-bit r _ (bit-sqxtn r a b n (S (n * 2) x) hn (g .qa) (g .sx))
-  bit-is UQXTN l h g u = as-bit r _ (bit-uqxtn r a b n (pos x) hn (g .pa) (g .ux))
-  bit-is SQXTUN l h g u = as-bit r _ (bit-sqxtun r a b n (S (n * 2) x) hn (g .qa) (g .sx))
-  bit-is SQSHRN l h g u = as-bit r _ (bit-sqshrn r a b n (S (n * 2) x) hn (g .qa) false i l h (g .sx))
-  bit-is SQRSHRN l h g u = as-bit r _ (bit-sqshrn r a b n (S (n * 2) x) hn (g .qa) true i l h (g .sx))
-  bit-is UQSHRN l h g u = as-bit r _ (bit-uqshrn r a b n (pos x) hn (g .pa) false i l h (g .ux))
-  bit-is UQRSHRN l h g u = as-bit r _ (bit-uqshrn r a b n (pos x) hn (g .pa) true i l h (g .ux))
-  bit-is SQSHRUN l h g u = as-bit r _ (bit-sqshrun r a b n (S (n * 2) x) hn (g .qa) false i l h (g .sx))
-  bit-is SQRSHRUN l h g u = as-bit r _ (bit-sqshrun r a b n (S (n * 2) x) hn (g .qa) true i l h (g .sx))
-  bit-is SQABS l h g u = as-bit r _ (bit-sqabs r a b n (S n x) hn (g .sx) (g .qa))
-  bit-is SQNEG l h g u = as-bit r _ (bit-sqneg r a b n (S n x) hn (g .sx) (g .qa))
-  bit-is SQDMULH l h g u = as-bit r _ (bit-dmulh r a b n (S n x) (S n y) hn (g .sx) (g .sy) (g .qa) (g .qb) false)
-  bit-is SQRDMULH l h g u = as-bit r _ (bit-dmulh r a b n (S n x) (S n y) hn (g .sx) (g .sy) (g .qa) (g .qb) true)
-  bit-is SQDMULL l h g u = long g
-  bit-is SQDMLAL l h g u = long-with false g
-  bit-is SQDMLSL l h g u = long-with true g
-  bit-is SQDMULL2 l h g u = long g
-  bit-is SQDMLAL2 l h g u = long-with false g
-  bit-is SQDMLSL2 l h g u = long-with true g
-  bit-is SQDMULLE l h g u = long g
-  bit-is SQDMLALE l h g u = long-with false g
-  bit-is SQDMLSLE l h g u = long-with true g
-  bit-is SQDMULL2E l h g u = long g
-  bit-is SQDMLAL2E l h g u = long-with false g
-  bit-is SQDMLSL2E l h g u = long-with true g
-  bit-is SUQADD l h g u = as-bit r _ (bit-suqadd r d a n (S n w) (pos x) hn qd (g .pa) sw (g .ux))
-  bit-is USQADD l h g u = as-bit r _ (bit-usqadd r d a n (pos w) (S n x) hn pd (g .qa) uw (g .sx))
-  bit-is SHL l h g u = never r
-  bit-is SSHR l h g u = never r
-  bit-is USHR l h g u = never r
-  bit-is SRSHR l h g u = never r
-  bit-is URSHR l h g u = never r
-  bit-is SSHL l h g u = never r
-  bit-is USHL l h g u = never r
-  bit-is SRSHL l h g u = never r
-  bit-is URSHL l h g u = never r
-  bit-is SLI l h g u = never r
-  bit-is SRI l h g u = never r
-  bit-is SHADD l h g u = never r
-  bit-is UHADD l h g u = never r
-  bit-is SRHADD l h g u = never r
-  bit-is URHADD l h g u = never r
-  bit-is SHRN l h g u = never r
-  bit-is RSHRN l h g u = never r
-  bit-is SABD l h g u = never r
-  bit-is UABD l h g u = never r
-  bit-is SABA l h g u = never r
-  bit-is UABA l h g u = never r
-  bit-is CNT l h g u = never r
-  bit-is CLZ l h g u = never r
-  bit-is CLS l h g u = never r
-  bit-is RBIT l h g u = never r
-  bit-is ADDHN l h g u = never r
-  bit-is RADDHN l h g u = never r
-  bit-is SUBHN l h g u = never r
-  bit-is RSUBHN l h g u = never r
+  bit-is Op.SQSHLI l h g u = as-bit r _ (is-lost r a n i hn true (Const i n) (S n x) (g .sx) (g .qa) (by-const r i n))
+  bit-is Op.UQSHLI l h g u = as-bit r _ (is-lost r a n i hn false (Const i n) (pos x) (g .ux) (g .pa) (by-const r i n))
+  bit-is Op.SQSHLU l h g u = as-bit r _ (bit-sqshlu r a n i (S n x) hn (g .sx) (g .qa))
+  bit-is Op.SQSHL l h g u = bit-register r false true a b n (S n x) h8 (g .sx) (g .qa) y (g .hy) (g .pb)
+  bit-is Op.UQSHL l h g u = bit-register r false false a b n (pos x) h8 (g .ux) (g .pa) y (g .hy) (g .pb)
+  bit-is Op.SQRSHL l h g u = bit-register r true true a b n (S n x) h8 (g .sx) (g .qa) y (g .hy) (g .pb)
+  bit-is Op.UQRSHL l h g u = bit-register r true false a b n (pos x) h8 (g .ux) (g .pa) y (g .hy) (g .pb)
+  bit-is Op.SQADD l h g u = as-bit r _ (bit-sqaddsub r a b n (S n x) (S n y) hn (g .qa) (g .qb) false (g .sx) (g .sy))
+  bit-is Op.UQADD l h g u = as-bit r _ (bit-uqadd r a b n (pos x) (pos y) hn (g .pa) (g .pb) (g .ux) (g .uy))
+  bit-is Op.SQSUB l h g u = as-bit r _ (bit-sqaddsub r a b n (S n x) (S n y) hn (g .qa) (g .qb) true (g .sx) (g .sy))
+  bit-is Op.UQSUB l h g u = as-bit r _ (bit-uqsub r a b n (pos x) (pos y) hn (g .pa) (g .pb) (g .ux) (g .uy))
+  bit-is Op.SQXTN l h g u = as-bit r _ (bit-sqxtn r a b n (S (n * 2) x) hn (g .qa) (g .sx))
+  bit-is Op.UQXTN l h g u = as-bit r _ (bit-uqxtn r a b n (pos x) hn (g .pa) (g .ux))
+  bit-is Op.SQXTUN l h g u = as-bit r _ (bit-sqxtun r a b n (S (n * 2) x) hn (g .qa) (g .sx))
+  bit-is Op.SQSHRN l h g u = as-bit r _ (bit-sqshrn r a b n (S (n * 2) x) hn (g .qa) false i l h (g .sx))
+  bit-is Op.SQRSHRN l h g u = as-bit r _ (bit-sqshrn r a b n (S (n * 2) x) hn (g .qa) true i l h (g .sx))
+  bit-is Op.UQSHRN l h g u = as-bit r _ (bit-uqshrn r a b n (pos x) hn (g .pa) false i l h (g .ux))
+  bit-is Op.UQRSHRN l h g u = as-bit r _ (bit-uqshrn r a b n (pos x) hn (g .pa) true i l h (g .ux))
+  bit-is Op.SQSHRUN l h g u = as-bit r _ (bit-sqshrun r a b n (S (n * 2) x) hn (g .qa) false i l h (g .sx))
+  bit-is Op.SQRSHRUN l h g u = as-bit r _ (bit-sqshrun r a b n (S (n * 2) x) hn (g .qa) true i l h (g .sx))
+  bit-is Op.SQABS l h g u = as-bit r _ (bit-sqabs r a b n (S n x) hn (g .sx) (g .qa))
+  bit-is Op.SQNEG l h g u = as-bit r _ (bit-sqneg r a b n (S n x) hn (g .sx) (g .qa))
+  bit-is Op.SQDMULH l h g u = as-bit r _ (bit-dmulh r a b n (S n x) (S n y) hn (g .sx) (g .sy) (g .qa) (g .qb) false)
+  bit-is Op.SQRDMULH l h g u = as-bit r _ (bit-dmulh r a b n (S n x) (S n y) hn (g .sx) (g .sy) (g .qa) (g .qb) true)
+  bit-is Op.SQDMULL l h g u = long g
+  bit-is Op.SQDMLAL l h g u = long-with false g
+  bit-is Op.SQDMLSL l h g u = long-with true g
+  bit-is Op.SQDMULL2 l h g u = long g
+  bit-is Op.SQDMLAL2 l h g u = long-with false g
+  bit-is Op.SQDMLSL2 l h g u = long-with true g
+  bit-is Op.SQDMULLE l h g u = long g
+  bit-is Op.SQDMLALE l h g u = long-with false g
+  bit-is Op.SQDMLSLE l h g u = long-with true g
+  bit-is Op.SQDMULL2E l h g u = long g
+  bit-is Op.SQDMLAL2E l h g u = long-with false g
+  bit-is Op.SQDMLSL2E l h g u = long-with true g
+  bit-is Op.SUQADD l h g u = as-bit r _ (bit-suqadd r d a n (S n w) (pos x) hn qd (g .pa) sw (g .ux))
+  bit-is Op.USQADD l h g u = as-bit r _ (bit-usqadd r d a n (pos w) (S n x) hn pd (g .qa) uw (g .sx))
+  bit-is Op.SHL l h g u = never r
+  bit-is Op.SSHR l h g u = never r
+  bit-is Op.USHR l h g u = never r
+  bit-is Op.SRSHR l h g u = never r
+  bit-is Op.URSHR l h g u = never r
+  bit-is Op.SSHL l h g u = never r
+  bit-is Op.USHL l h g u = never r
+  bit-is Op.SRSHL l h g u = never r
+  bit-is Op.URSHL l h g u = never r
+  bit-is Op.SLI l h g u = never r
+  bit-is Op.SRI l h g u = never r
+  bit-is Op.SHADD l h g u = never r
+  bit-is Op.UHADD l h g u = never r
+  bit-is Op.SRHADD l h g u = never r
+  bit-is Op.URHADD l h g u = never r
+  bit-is Op.SHRN l h g u = never r
+  bit-is Op.RSHRN l h g u = never r
+  bit-is Op.SABD l h g u = never r
+  bit-is Op.UABD l h g u = never r
+  bit-is Op.SABA l h g u = never r
+  bit-is Op.UABA l h g u = never r
+  bit-is Op.CNT l h g u = never r
+  bit-is Op.CLZ l h g u = never r
+  bit-is Op.CLS l h g u = never r
+  bit-is Op.RBIT l h g u = never r
+  bit-is Op.ADDHN l h g u = never r
+  bit-is Op.RADDHN l h g u = never r
+  bit-is Op.SUBHN l h g u = never r
+  bit-is Op.RSUBHN l h g u = never r

@@ -11,9 +11,6 @@ const OUTPUT: i32 = 1;
 
 const ERRORS: i32 = 2;
 
-// A pool for 85 records: 32 registers and 768 nodes a record, four words each.
-const POOL_WORDS: usize = 261248;
-
 // Room for the scripts of such pools, and little enough for a stack of 8 MB with the pool.
 const SCRIPT_BYTES: usize = 5242880;
 
@@ -118,7 +115,7 @@ fn answer(input: &[u8], end: usize, a: u64, b: u64, pool: &mut [u64], out: &mut 
 // The buffer has one byte more than the longest input that is taken, so that a longer one is seen.
 fn ask(a: u64, b: u64) {
     let mut input = [0u8; script_lines::MOST_BYTES + 1];
-    let mut pool = [0u64; POOL_WORDS];
+    let mut pool = [0u64; script_lines::POOL_WORDS];
     let mut out = [0u8; SCRIPT_BYTES];
     let f = fill(INPUT, &mut input, 0);
     if f.good {

@@ -8,6 +8,9 @@ ghost use Rattle.script_lines.specs.Output.{ScriptGiven};
 // The longest input that is read. No block of 85 records needs as much.
 pub const MOST_BYTES: usize = 65536;
 
+// The words of a pool for the longest block.
+pub const POOL_WORDS: usize = 4 * (32 + pool::Node::RESERVE * block_check::MOST_RECORDS);
+
 // 0 or a number of document 01, the position of the record that is refused, and the bytes written.
 pub struct Given {
     pub number: u64,

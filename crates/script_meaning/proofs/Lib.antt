@@ -1,3 +1,4 @@
+-- A pool's script, read by the standard at a start: the theorems of specs/Demand.antt, and an example byte for byte.
 pub mod Reading
 pub mod Numbers
 pub mod Vars

@@ -143,7 +143,8 @@ fn put_two(p: &[u64], k: u64, a: Node, b: Node, buf: &mut [u8], at: usize) -> us
 fn put_three(p: &[u64], a: Node, b: Node, c: Node, buf: &mut [u8], at: usize) -> usize
     requires { ⌜ (4 * a .0 + 3 < length (now p)) × (4 * b .0 + 3 < length (now p)) × (4 * c .0 + 3 < length (now p)) ⌝ }
     requires { ⌜ Room (now buf) at (show (apply3 (bytes "ite") (nameOf (now p) (a .0)) (nameOf (now p) (b .0)) (nameOf (now p) (c .0)))) ⌝ }
-    ensures { λ r. ⌜ Wrote (now (buf .entry)) at (show (apply3 (bytes "ite") (nameOf (now (p .entry)) (a .0)) (nameOf (now (p .entry)) (b .0)) (nameOf (now (p .entry)) (c .0)))) r (now (buf .exit)) ⌝ }
+    ensures { λ r. ⌜ Wrote (now (buf .entry)) at (show (apply3 (bytes "ite") (nameOf (now (p .entry)) (a .0)) (nameOf (now (p .entry)) (b .0))
+        (nameOf (now (p .entry)) (c .0)))) r (now (buf .exit)) ⌝ }
 {
     let i = put(b"(ite ", buf, at);
     let j = put_name(p, a, buf, i);

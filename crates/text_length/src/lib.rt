@@ -1,5 +1,6 @@
 // The length of a node's text up to a ceiling: by a pass over the text that stops once the ceiling is passed, or node by node.
 use pool::Node;
+use pool::words::Kind;
 use pool::words::kind_of;
 use pool::words::width_of;
 use pool_check::node_number;
@@ -35,7 +36,7 @@ fn less_leaf(p: &[u64], n: Node, k: u64, b: usize) -> usize
     requires { ⌜ Ready (now p) (n .0) × (k ≡ kindNumber (now p) (n .0)) × (k < 3) ⌝ }
     ensures { λ r. ⌜ r ≡ b - length (text (now (p .entry)) (n .0)) ⌝ }
 {
-    if k == 1 {
+    if k == Kind::VAR {
         return less(b, decimal_length(low(p, n)) + 1);
     }
     let c = less(b, decimal_length(width_of(p, n)) + 3);
@@ -47,7 +48,7 @@ fn less_single(p: &[u64], n: Node, k: u64, b: usize) -> usize
     requires { ⌜ Ready (now p) (n .0) × (k ≡ kindNumber (now p) (n .0)) × (single k ≡ true) ⌝ }
     ensures { λ r. ⌜ r ≡ b - (length (openText k) + length (endText (now (p .entry)) (n .0))) ⌝ }
 {
-    if k == 16 {
+    if k == Kind::EXTRACT {
         let c = less(b, decimal_length(low(p, n)) + 3);
         return less(c, decimal_length(high(p, n)));
     }
@@ -59,10 +60,10 @@ fn own_length(k: u64) -> usize
     requires { ⌜ Joined k ⌝ }
     ensures { λ r. ⌜ r ≡ length (openText k) + cond (eqb k 15) 2 0 + length (betweenText k) + 1 ⌝ }
 {
-    if k < 15 {
+    if k < Kind::ITE {
         return operator_length(k) + 2;
     }
-    if k == 15 { 9 } else { 10 }
+    if k == Kind::ITE { 9 } else { 10 }
 }
 
 // What is left of b when the length of a node's text is taken off it, and 0 where the text is longer. Its own characters
@@ -76,14 +77,14 @@ fn less_node(p: &&[u64], n: Node, b: usize) -> usize
         return 0;
     }
     let k = kind_of(*p, n);
-    if k < 3 {
+    if k < Kind::ADD {
         return less_leaf(*p, n, k, b);
     }
     if is_single(k) {
         return less_node(p, first(*p, n), less_single(*p, n, k, b));
     }
     let mut c = less(b, own_length(k));
-    if k == 15 {
+    if k == Kind::ITE {
         c = less_node(p, first(*p, n), c);
     }
     let d = less_node(p, left(*p, n), c);

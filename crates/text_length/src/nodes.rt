@@ -1,6 +1,7 @@
 // The length of a node's text node by node: each node's is its own characters and the lengths kept of its operands, up to a bound. The time
 // grows with the nodes; a text may have a node far more often than the pool.
 use pool::Node;
+use pool::words::Kind;
 use pool::words::kind_of;
 use pool::words::width_of;
 use pool_fields::first;
@@ -46,7 +47,7 @@ fn leaf_length(p: &[u64], n: Node, k: u64) -> usize
     requires { ⌜ Ready (now p) (n .0) × (k ≡ kindNumber (now p) (n .0)) × (k < 3) ⌝ }
     ensures { λ r. ⌜ r ≡ length (text (now (p .entry)) (n .0)) ⌝ }
 {
-    if k == 1 {
+    if k == Kind::VAR {
         return decimal_length(low(p, n)) + 1;
     }
     decimal_length(width_of(p, n)) + 3 + hex_length(low(p, n), high(p, n))
@@ -71,7 +72,7 @@ fn operator_characters(k: u64) -> usize
     requires { ⌜ (3 ≤ k) × (k < 15) ⌝ }
     ensures { λ r. ⌜ (r ≡ length (openText k) + length (betweenText k) + 1) × (r < 16) ⌝ }
 {
-    ((OPERATORS >> (4 * (k - 3))) % 16) as usize
+    ((OPERATORS >> (4 * (k - Kind::ADD))) % 16) as usize
 }
 
 // The length that is kept of a node.
@@ -100,20 +101,20 @@ fn known_length(p: &[u64], n: Node, b: usize, lengths: &[usize]) -> usize
     ensures { λ r. ⌜ r ≡ min (length (text (now (p .entry)) (n .0))) b ⌝ }
 {
     let k = kind_of(p, n);
-    if k < 3 {
+    if k < Kind::ADD {
         return least(leaf_length(p, n, k), b);
     }
-    if k < 15 {
+    if k < Kind::ITE {
         return least(two_lengths(p, n, lengths) + operator_characters(k), b);
     }
-    if k == 16 {
+    if k == Kind::EXTRACT {
         return least(length_at(lengths, first(p, n)) + range_length(p, n), b);
     }
-    if 18 <= k {
+    if Kind::ZERO_EXTEND <= k {
         return least(length_at(lengths, first(p, n)) + extension_length(p, n), b);
     }
     let two = two_lengths(p, n, lengths);
-    if k == 15 {
+    if k == Kind::ITE {
         return least(two + length_at(lengths, third(p, n)) + 9, b);
     }
     least(two + 10, b)

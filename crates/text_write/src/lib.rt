@@ -41,10 +41,10 @@ fn write_term(p: &&[u64], n: Node, buf: &mut &mut [u8], at: usize) -> usize
     }
     let j = write_term(p, left(*p, n), buf, i);
     // two tests: of one test for both the compiler makes six instructions at each node
-    if k == 16 {
+    if k == Kind::EXTRACT {
         return put_end(*p, n, k, *buf, j);
     }
-    if 18 <= k {
+    if Kind::ZERO_EXTEND <= k {
         return put_end(*p, n, k, *buf, j);
     }
     let l = put_between(k, *buf, j);

@@ -5,7 +5,7 @@ use Prim.Native.Nat.{ℕ}
 use lib.Dec.{eqb}
 use Rattle.terms.specs.Expr.{Const, Var, Compare, Ite, Extract, Concat, width}
 use Rattle.terms.specs.Value.{value, msb, bvneg, bvnot, bvadd, bvsub, bvmul, bvshl, bvlshr, bvashr, bvslt, bvsext}
-use Rattle.neon.specs.Op.{Op, SQADD, SQSUB, UQSUB, SQSHLI, SQSHL, SSHL, SRSHL, SRI, SQDMULH, SQRDMULH, UQXTN, CLS, SQABS, SHADD, SQDMLAL, USQADD, SUQADD, SQRSHRN, UQRSHRN, SQSHLU, RADDHN, RSUBHN}
+use Rattle.neon.specs.Op.{Op}
 use Rattle.neon.specs.Form.{form, sourceBits}
 use Rattle.neon.specs.Arm.{armLane, wrap, S, clampZ, cS, cU, ones, equalRun, lanes}
 use Rattle.trees.specs.Neon.{neonOp, valueOf}
@@ -21,41 +21,41 @@ pub data Case : Type 0 where
 
 abbrev pub setP : List Case
 setP =
-    case SQADD 8 0 0 0x7f 0x01 0x7f
-    ∷ case SQSUB 8 0 0 0x80 0x01 0x80
-    ∷ case UQSUB 8 0 0 3 5 0
-    ∷ case SQSHLI 8 7 0 0xff 0 0x80
-    ∷ case SQSHLI 8 7 0 0x01 0 0x7f
-    ∷ case SQSHL 8 0 0 0xff 7 0x80
-    ∷ case SQSHL 8 0 0 0x01 7 0x7f
-    ∷ case SSHL 8 0 0 0x80 0x80 0xff
-    ∷ case SRSHL 8 0 0 0x7f 0x80 0
-    ∷ case SRI 8 8 0x3c 0x55 0 0x3c
-    ∷ case SQDMULH 16 0 0 0x8000 0x8000 0x7fff
-    ∷ case SQRDMULH 32 0 0 0x8000_0000 0x8000_0000 0x7fff_ffff
-    ∷ case UQXTN 16 0 0 65600 0 65535
-    ∷ case CLS 8 0 0 0x80 0 0
-    ∷ case SQABS 8 0 0 0x80 0 0x7f
-    ∷ case SHADD 8 0 0 0xff 0x00 0xff
-    ∷ case SQDMLAL 32 0 0x8000_0000 0x8000 0x8000 0xffff_ffff
-    ∷ case USQADD 8 0 3 0xfb 0 0
+    case Op.SQADD 8 0 0 0x7f 0x01 0x7f
+    ∷ case Op.SQSUB 8 0 0 0x80 0x01 0x80
+    ∷ case Op.UQSUB 8 0 0 3 5 0
+    ∷ case Op.SQSHLI 8 7 0 0xff 0 0x80
+    ∷ case Op.SQSHLI 8 7 0 0x01 0 0x7f
+    ∷ case Op.SQSHL 8 0 0 0xff 7 0x80
+    ∷ case Op.SQSHL 8 0 0 0x01 7 0x7f
+    ∷ case Op.SSHL 8 0 0 0x80 0x80 0xff
+    ∷ case Op.SRSHL 8 0 0 0x7f 0x80 0
+    ∷ case Op.SRI 8 8 0x3c 0x55 0 0x3c
+    ∷ case Op.SQDMULH 16 0 0 0x8000 0x8000 0x7fff
+    ∷ case Op.SQRDMULH 32 0 0 0x8000_0000 0x8000_0000 0x7fff_ffff
+    ∷ case Op.UQXTN 16 0 0 65600 0 65535
+    ∷ case Op.CLS 8 0 0 0x80 0 0
+    ∷ case Op.SQABS 8 0 0 0x80 0 0x7f
+    ∷ case Op.SHADD 8 0 0 0xff 0x00 0xff
+    ∷ case Op.SQDMLAL 32 0 0x8000_0000 0x8000 0x8000 0xffff_ffff
+    ∷ case Op.USQADD 8 0 3 0xfb 0 0
     ∷ []
 
 -- SRSHL at n + 1 bits; SUQADD and USQADD at n + 1 bits; a rounding narrow at 2n bits; SQSHLU without its extra bit; SQDMLAL without
 -- its second clamp; RADDHN and RSUBHN without their half
 abbrev pub faults : List Case
 faults =
-    case SRSHL 8 0 0 0x80 0x80 0
-    ∷ case SRSHL 8 0 0 0x00 0xf7 0
-    ∷ case SUQADD 8 0 0x7f 0xff 0 0x7f
-    ∷ case USQADD 8 0 0xff 0x7f 0 0xff
-    ∷ case SQRSHRN 8 4 0 0x7fff 0 0x7f
-    ∷ case UQRSHRN 8 8 0 0xffff 0 0xff
-    ∷ case SQSHLU 8 0 0 0x01 0 0x01
-    ∷ case SQDMLAL 32 0 0x7fff_ffff 0x4000 0x4000 0x7fff_ffff
-    ∷ case RADDHN 8 0 0 0x0080 0x0000 0x01
-    ∷ case RADDHN 8 0 0 0x007f 0x0000 0x00
-    ∷ case RSUBHN 8 0 0 0x0100 0x0080 0x01
+    case Op.SRSHL 8 0 0 0x80 0x80 0
+    ∷ case Op.SRSHL 8 0 0 0x00 0xf7 0
+    ∷ case Op.SUQADD 8 0 0x7f 0xff 0 0x7f
+    ∷ case Op.USQADD 8 0 0xff 0x7f 0 0xff
+    ∷ case Op.SQRSHRN 8 4 0 0x7fff 0 0x7f
+    ∷ case Op.UQRSHRN 8 8 0 0xffff 0 0xff
+    ∷ case Op.SQSHLU 8 0 0 0x01 0 0x01
+    ∷ case Op.SQDMLAL 32 0 0x7fff_ffff 0x4000 0x4000 0x7fff_ffff
+    ∷ case Op.RADDHN 8 0 0 0x0080 0x0000 0x01
+    ∷ case Op.RADDHN 8 0 0 0x007f 0x0000 0x00
+    ∷ case Op.RSUBHN 8 0 0 0x0100 0x0080 0x01
     ∷ []
 
 -- the result is the Arm value, and the value of the Rust's term of one lane

@@ -2,10 +2,7 @@
 use mathlib.Core.Bool.{Bool, true, false}
 use Prim.Native.Nat.{ℕ}
 use Rattle.terms.specs.Expr.{Expr}
-use Rattle.neon.specs.Op.{Op, Arrangement, laneBits, full, SHL, SQSHLI, UQSHLI, SQSHLU, SSHR, USHR, SRSHR, URSHR, SSHL, USHL, SRSHL, URSHL, SQSHL, UQSHL, SQRSHL, UQRSHL, SLI, SRI, SQADD, UQADD, SQSUB}
-use Rattle.neon.specs.Op.{UQSUB, SHADD, UHADD, SRHADD, URHADD, SQXTN, UQXTN, SQXTUN, SHRN, RSHRN, SQSHRN, SQRSHRN, UQSHRN, UQRSHRN, SQSHRUN, SQRSHRUN, SQABS, SQNEG, SQDMULH, SQRDMULH, SQDMULL}
-use Rattle.neon.specs.Op.{SQDMLAL, SQDMLSL, SQDMULL2, SQDMLAL2, SQDMLSL2, SQDMULLE, SQDMLALE, SQDMLSLE, SQDMULL2E, SQDMLAL2E, SQDMLSL2E, SUQADD, USQADD, SABD, UABD, SABA, UABA, CNT, CLZ, CLS, RBIT}
-use Rattle.neon.specs.Op.{ADDHN, RADDHN, SUBHN, RSUBHN}
+use Rattle.neon.specs.Op.{Op, Arrangement, laneBits, full}
 use Rattle.neon.specs.Form.{laneCount}
 use Rattle.trees.specs.declared.NeonOp.{NeonOp}
 use Rattle.trees.specs.declared.NeonOp.the-variants.{Shift, ShiftInsert, MixedSignAdd, DoublingLong, Saturating, BitwiseUnary, AbsoluteDifference, HighNarrow}
@@ -17,73 +14,73 @@ use Rattle.trees.specs.Width.{highNarrowLanes}
 
 -- i is the immediate; `upper` is that of a narrowing 2 form
 abbrev pub neonOp : Op → ℕ → Bool → NeonOp
-neonOp SHL i upper = Shift (LeftImmediate i Never) false
-neonOp SQSHLI i upper = Shift (LeftImmediate i (Into Signed)) true
-neonOp UQSHLI i upper = Shift (LeftImmediate i (Into Unsigned)) false
-neonOp SQSHLU i upper = Shift (LeftImmediate i (Into SignedToUnsigned)) true
-neonOp SSHR i upper = Shift (RightImmediate i false) true
-neonOp USHR i upper = Shift (RightImmediate i false) false
-neonOp SRSHR i upper = Shift (RightImmediate i true) true
-neonOp URSHR i upper = Shift (RightImmediate i true) false
-neonOp SSHL i upper = Shift (Register false false) true
-neonOp USHL i upper = Shift (Register false false) false
-neonOp SRSHL i upper = Shift (Register true false) true
-neonOp URSHL i upper = Shift (Register true false) false
-neonOp SQSHL i upper = Shift (Register false true) true
-neonOp UQSHL i upper = Shift (Register false true) false
-neonOp SQRSHL i upper = Shift (Register true true) true
-neonOp UQRSHL i upper = Shift (Register true true) false
-neonOp SLI i upper = ShiftInsert true i
-neonOp SRI i upper = ShiftInsert false i
-neonOp SQADD i upper = Saturating (AddSub Add Signed) true false
-neonOp UQADD i upper = Saturating (AddSub Add Unsigned) false false
-neonOp SQSUB i upper = Saturating (AddSub Sub Signed) true false
-neonOp UQSUB i upper = Saturating (AddSub Sub SignedToUnsigned) false false
-neonOp SHADD i upper = Saturating (Halving false) true false
-neonOp UHADD i upper = Saturating (Halving false) false false
-neonOp SRHADD i upper = Saturating (Halving true) true false
-neonOp URHADD i upper = Saturating (Halving true) false false
-neonOp SQXTN i upper = Saturating (Narrow Signed) true upper
-neonOp UQXTN i upper = Saturating (Narrow Unsigned) false upper
-neonOp SQXTUN i upper = Saturating (Narrow SignedToUnsigned) true upper
-neonOp SHRN i upper = Saturating (ShiftNarrow i false Never) false upper
-neonOp RSHRN i upper = Saturating (ShiftNarrow i true Never) false upper
-neonOp SQSHRN i upper = Saturating (ShiftNarrow i false (Into Signed)) true upper
-neonOp SQRSHRN i upper = Saturating (ShiftNarrow i true (Into Signed)) true upper
-neonOp UQSHRN i upper = Saturating (ShiftNarrow i false (Into Unsigned)) false upper
-neonOp UQRSHRN i upper = Saturating (ShiftNarrow i true (Into Unsigned)) false upper
-neonOp SQSHRUN i upper = Saturating (ShiftNarrow i false (Into SignedToUnsigned)) true upper
-neonOp SQRSHRUN i upper = Saturating (ShiftNarrow i true (Into SignedToUnsigned)) true upper
-neonOp SQABS i upper = Saturating (Unary false) true false
-neonOp SQNEG i upper = Saturating (Unary true) true false
-neonOp SQDMULH i upper = Saturating (DoublingMultiplyHigh false) true false
-neonOp SQRDMULH i upper = Saturating (DoublingMultiplyHigh true) true false
-neonOp SQDMULL i upper = DoublingLong Nothing false false
-neonOp SQDMLAL i upper = DoublingLong (With Add) false false
-neonOp SQDMLSL i upper = DoublingLong (With Sub) false false
-neonOp SQDMULL2 i upper = DoublingLong Nothing true false
-neonOp SQDMLAL2 i upper = DoublingLong (With Add) true false
-neonOp SQDMLSL2 i upper = DoublingLong (With Sub) true false
-neonOp SQDMULLE i upper = DoublingLong Nothing false true
-neonOp SQDMLALE i upper = DoublingLong (With Add) false true
-neonOp SQDMLSLE i upper = DoublingLong (With Sub) false true
-neonOp SQDMULL2E i upper = DoublingLong Nothing true true
-neonOp SQDMLAL2E i upper = DoublingLong (With Add) true true
-neonOp SQDMLSL2E i upper = DoublingLong (With Sub) true true
-neonOp SUQADD i upper = MixedSignAdd true
-neonOp USQADD i upper = MixedSignAdd false
-neonOp SABD i upper = AbsoluteDifference true false
-neonOp UABD i upper = AbsoluteDifference false false
-neonOp SABA i upper = AbsoluteDifference true true
-neonOp UABA i upper = AbsoluteDifference false true
-neonOp CNT i upper = BitwiseUnary PopulationCount
-neonOp CLZ i upper = BitwiseUnary LeadingZeros
-neonOp CLS i upper = BitwiseUnary LeadingSignBits
-neonOp RBIT i upper = BitwiseUnary ReverseBits
-neonOp ADDHN i upper = HighNarrow false false upper
-neonOp RADDHN i upper = HighNarrow false true upper
-neonOp SUBHN i upper = HighNarrow true false upper
-neonOp RSUBHN i upper = HighNarrow true true upper
+neonOp Op.SHL i upper = Shift (LeftImmediate i Never) false
+neonOp Op.SQSHLI i upper = Shift (LeftImmediate i (Into Signed)) true
+neonOp Op.UQSHLI i upper = Shift (LeftImmediate i (Into Unsigned)) false
+neonOp Op.SQSHLU i upper = Shift (LeftImmediate i (Into SignedToUnsigned)) true
+neonOp Op.SSHR i upper = Shift (RightImmediate i false) true
+neonOp Op.USHR i upper = Shift (RightImmediate i false) false
+neonOp Op.SRSHR i upper = Shift (RightImmediate i true) true
+neonOp Op.URSHR i upper = Shift (RightImmediate i true) false
+neonOp Op.SSHL i upper = Shift (Register false false) true
+neonOp Op.USHL i upper = Shift (Register false false) false
+neonOp Op.SRSHL i upper = Shift (Register true false) true
+neonOp Op.URSHL i upper = Shift (Register true false) false
+neonOp Op.SQSHL i upper = Shift (Register false true) true
+neonOp Op.UQSHL i upper = Shift (Register false true) false
+neonOp Op.SQRSHL i upper = Shift (Register true true) true
+neonOp Op.UQRSHL i upper = Shift (Register true true) false
+neonOp Op.SLI i upper = ShiftInsert true i
+neonOp Op.SRI i upper = ShiftInsert false i
+neonOp Op.SQADD i upper = Saturating (AddSub Add Signed) true false
+neonOp Op.UQADD i upper = Saturating (AddSub Add Unsigned) false false
+neonOp Op.SQSUB i upper = Saturating (AddSub Sub Signed) true false
+neonOp Op.UQSUB i upper = Saturating (AddSub Sub SignedToUnsigned) false false
+neonOp Op.SHADD i upper = Saturating (Halving false) true false
+neonOp Op.UHADD i upper = Saturating (Halving false) false false
+neonOp Op.SRHADD i upper = Saturating (Halving true) true false
+neonOp Op.URHADD i upper = Saturating (Halving true) false false
+neonOp Op.SQXTN i upper = Saturating (Narrow Signed) true upper
+neonOp Op.UQXTN i upper = Saturating (Narrow Unsigned) false upper
+neonOp Op.SQXTUN i upper = Saturating (Narrow SignedToUnsigned) true upper
+neonOp Op.SHRN i upper = Saturating (ShiftNarrow i false Never) false upper
+neonOp Op.RSHRN i upper = Saturating (ShiftNarrow i true Never) false upper
+neonOp Op.SQSHRN i upper = Saturating (ShiftNarrow i false (Into Signed)) true upper
+neonOp Op.SQRSHRN i upper = Saturating (ShiftNarrow i true (Into Signed)) true upper
+neonOp Op.UQSHRN i upper = Saturating (ShiftNarrow i false (Into Unsigned)) false upper
+neonOp Op.UQRSHRN i upper = Saturating (ShiftNarrow i true (Into Unsigned)) false upper
+neonOp Op.SQSHRUN i upper = Saturating (ShiftNarrow i false (Into SignedToUnsigned)) true upper
+neonOp Op.SQRSHRUN i upper = Saturating (ShiftNarrow i true (Into SignedToUnsigned)) true upper
+neonOp Op.SQABS i upper = Saturating (Unary false) true false
+neonOp Op.SQNEG i upper = Saturating (Unary true) true false
+neonOp Op.SQDMULH i upper = Saturating (DoublingMultiplyHigh false) true false
+neonOp Op.SQRDMULH i upper = Saturating (DoublingMultiplyHigh true) true false
+neonOp Op.SQDMULL i upper = DoublingLong Nothing false false
+neonOp Op.SQDMLAL i upper = DoublingLong (With Add) false false
+neonOp Op.SQDMLSL i upper = DoublingLong (With Sub) false false
+neonOp Op.SQDMULL2 i upper = DoublingLong Nothing true false
+neonOp Op.SQDMLAL2 i upper = DoublingLong (With Add) true false
+neonOp Op.SQDMLSL2 i upper = DoublingLong (With Sub) true false
+neonOp Op.SQDMULLE i upper = DoublingLong Nothing false true
+neonOp Op.SQDMLALE i upper = DoublingLong (With Add) false true
+neonOp Op.SQDMLSLE i upper = DoublingLong (With Sub) false true
+neonOp Op.SQDMULL2E i upper = DoublingLong Nothing true true
+neonOp Op.SQDMLAL2E i upper = DoublingLong (With Add) true true
+neonOp Op.SQDMLSL2E i upper = DoublingLong (With Sub) true true
+neonOp Op.SUQADD i upper = MixedSignAdd true
+neonOp Op.USQADD i upper = MixedSignAdd false
+neonOp Op.SABD i upper = AbsoluteDifference true false
+neonOp Op.UABD i upper = AbsoluteDifference false false
+neonOp Op.SABA i upper = AbsoluteDifference true true
+neonOp Op.UABA i upper = AbsoluteDifference false true
+neonOp Op.CNT i upper = BitwiseUnary PopulationCount
+neonOp Op.CLZ i upper = BitwiseUnary LeadingZeros
+neonOp Op.CLS i upper = BitwiseUnary LeadingSignBits
+neonOp Op.RBIT i upper = BitwiseUnary ReverseBits
+neonOp Op.ADDHN i upper = HighNarrow false false upper
+neonOp Op.RADDHN i upper = HighNarrow false true upper
+neonOp Op.SUBHN i upper = HighNarrow true false upper
+neonOp Op.RSUBHN i upper = HighNarrow true true upper
 
 abbrev pub shapeOf : Op → Arrangement → ℕ → NeonShape
 shapeOf o v i = record { op = neonOp o i (full v); «lane_bits» = laneBits v; lanes = laneCount o v; «source_index» = record { 0 = i } }

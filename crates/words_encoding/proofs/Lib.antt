@@ -1,3 +1,4 @@
+-- Encoding and decoding are inverse on legal records; the sample words hold.
 pub mod Fields
 pub mod Operations
 pub mod Decoding

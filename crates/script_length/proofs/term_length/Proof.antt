@@ -119,9 +119,11 @@ cut-length-requires c κs =
     let s = cut-entry c in
     let R = s .pre .0 in
     let i = cut c .if3 .taken in
-    let small = range-small (ws s) (n s) (R .ready) (k s) (s .pre .1) i in
-    (named-as R (cut-of (ws s) (n s) (R .ready) (k s) (s .pre .1) i .0) (c .first2 .ensures), omega (arith, c .before .before .cut-hi .ensures, small .0),
-      omega (arith, c .before .cut-lo .ensures, small .1))
+    let small = range-small (ws s) (n s) (R .ready) (k s) (s .pre .1) i in (
+      named-as R (cut-of (ws s) (n s) (R .ready) (k s) (s .pre .1) i .0) (c .first2 .ensures),
+      omega (arith, c .before .before .cut-hi .ensures, small .0),
+      omega (arith, c .before .cut-lo .ensures, small .1),
+    )
 
 returns-3 : tie.Need-returns-3
 returns-3 c =

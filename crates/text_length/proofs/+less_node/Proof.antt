@@ -41,7 +41,28 @@ less-node-below t =
 
 -- what the functions that `less_node` calls ask and ensure
 abbrev claims : ℕ → less-node-lts.Claims
-claims t = (kind-of-reads.Asked, kind-of-reads.Learnt, less-leaf-reads.Asked, less-leaf-reads.Learnt, is-single-reads.Asked, is-single-reads.Learnt, first-reads.Asked, first-reads.Learnt, less-single-reads.Asked, less-single-reads.Learnt, less-node-below t, less-node.Post, own-length-reads.Asked, own-length-reads.Learnt, less-reads.Asked, less-reads.Learnt, left-reads.Asked, left-reads.Learnt, right-reads.Asked, right-reads.Learnt)
+claims t = (
+  kind-of-reads.Asked,
+  kind-of-reads.Learnt,
+  less-leaf-reads.Asked,
+  less-leaf-reads.Learnt,
+  is-single-reads.Asked,
+  is-single-reads.Learnt,
+  first-reads.Asked,
+  first-reads.Learnt,
+  less-single-reads.Asked,
+  less-single-reads.Learnt,
+  less-node-below t,
+  less-node.Post,
+  own-length-reads.Asked,
+  own-length-reads.Learnt,
+  less-reads.Asked,
+  less-reads.Learnt,
+  left-reads.Asked,
+  left-reads.Learnt,
+  right-reads.Asked,
+  right-reads.Learnt,
+)
 
 module _ (t : ℕ) where
   abbrev Start : Type 0

@@ -27,7 +27,9 @@ returns c =
     let l-low = l-decimal-length .before in
     let l-if1 = l-low .before in
     let st = l-if1 .before .before in
-    omega (arith, size-var (st .args .p .now) (st .args .n .0) (st .pre .0) (st .args .k) (st .pre .1) (l-if1 .if1 .taken), c .less .ensures, rw (l-low .low .ensures) at (l-decimal-length .decimal-length .ensures .0))
+    let a = st .args in
+    let size = size-var (a .p .now) (a .n .0) (st .pre .0) (a .k) (st .pre .1) (l-if1 .if1 .taken) in
+    omega (arith, size, c .less .ensures, rw (l-low .low .ensures) at (l-decimal-length .decimal-length .ensures .0))
 
 width-of-requires : tie.Need-width-of-requires
 width-of-requires c κs = search needs
@@ -61,7 +63,11 @@ returns-2 c =
     let l-width-of = l-decimal-length2 .before in
     let l-if1 = l-width-of .before in
     let st = l-if1 .before .before in
-    omega (arith, size-const (st .args .p .now) (st .args .n .0) (st .pre .0) (st .args .k) (st .pre .1) (is-const (st .args .p .now) (st .args .n .0) (st .pre .0) (st .args .k) (st .pre .1) (st .pre .2) (l-if1 .if1 .left)), l-less2 .less2 .ensures, rw (l-width-of .width-of .ensures .0) at (l-decimal-length2 .decimal-length2 .ensures .0), rw (l-low2 .low2 .ensures, l-high .high .ensures) at (c .less-hex .ensures))
+    let a = st .args in
+    let const = is-const (a .p .now) (a .n .0) (st .pre .0) (a .k) (st .pre .1) (st .pre .2) (l-if1 .if1 .left) in
+    let size = size-const (a .p .now) (a .n .0) (st .pre .0) (a .k) (st .pre .1) const in
+    let width = rw (l-width-of .width-of .ensures .0) at (l-decimal-length2 .decimal-length2 .ensures .0) in
+    omega (arith, size, l-less2 .less2 .ensures, width, rw (l-low2 .low2 .ensures, l-high .high .ensures) at (c .less-hex .ensures))
 
 pub less-leaf-spec : {M : Type 1} → statement M
 less-leaf-spec =

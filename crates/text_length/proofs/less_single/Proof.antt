@@ -42,7 +42,11 @@ returns c =
     let l-low = l-decimal-length .before in
     let l-if1 = l-low .before in
     let st = l-if1 .before .before in
-    omega (arith, about-extract (st .args .p .now) (st .args .n .0) (st .pre .0) (st .args .k) (st .pre .1) (l-if1 .if1 .taken), l-less .less .ensures, c .less2 .ensures, rw (l-low .low .ensures) at (l-decimal-length .decimal-length .ensures .0), rw (l-high .high .ensures) at (l-decimal-length2 .decimal-length2 .ensures .0))
+    let a = st .args in
+    let about = about-extract (a .p .now) (a .n .0) (st .pre .0) (a .k) (st .pre .1) (l-if1 .if1 .taken) in
+    let hi = rw (l-low .low .ensures) at (l-decimal-length .decimal-length .ensures .0) in
+    let lo = rw (l-high .high .ensures) at (l-decimal-length2 .decimal-length2 .ensures .0) in
+    omega (arith, about, l-less .less .ensures, c .less2 .ensures, hi, lo)
 
 width-of-requires : tie.Need-width-of-requires
 width-of-requires c κs = search needs
@@ -64,7 +68,9 @@ returns-2 c =
     let l-width-of = l-decimal-length3 .before in
     let l-if1 = l-width-of .before in
     let st = l-if1 .before .before in
-    omega (arith, about-extend (st .args .p .now) (st .args .n .0) (st .pre .0) (st .args .k) (st .pre .1) (from-18 (is-single _ (st .pre .2)) (l-if1 .if1 .left)), c .less3 .ensures, rw (l-width-of .width-of .ensures .0) at (l-decimal-length3 .decimal-length3 .ensures .0))
+    let a = st .args in
+    let about = about-extend (a .p .now) (a .n .0) (st .pre .0) (a .k) (st .pre .1) (from-18 (is-single _ (st .pre .2)) (l-if1 .if1 .left)) in
+    omega (arith, about, c .less3 .ensures, rw (l-width-of .width-of .ensures .0) at (l-decimal-length3 .decimal-length3 .ensures .0))
 
 pub less-single-spec : {M : Type 1} → statement M
 less-single-spec =

@@ -49,7 +49,8 @@ loop-again : tie.Need-loop-again Inv-loop μ-loop
 loop-again c =
     let l-loop-test = c in
     let l-loop = l-loop-test .before in
-    (length-set (l-loop .loop .nodes) _ _ ∙ l-loop .loop .inv .0, omega (arith, l-loop-test .loop-test .taken), one-more (l-loop .loop .nodes) (l-loop .loop .r) (l-loop .loop .inv .0) (l-loop-test .loop-test .taken) (l-loop .loop .inv .2))
+    let turn = l-loop .loop in
+    (length-set (turn .nodes) _ _ ∙ turn .inv .0, omega (arith, l-loop-test .loop-test .taken), one-more (turn .nodes) (turn .r) (turn .inv .0) (l-loop-test .loop-test .taken) (turn .inv .2))
 
 returns : tie.Need-returns Inv-loop μ-loop
 unfolding record-of
