@@ -27,7 +27,7 @@ ghost use Rattle.text_length.specs.Known.{Registers};
 
 pub mod nodes;
 
-// From this number of characters on the length of a node of a large pool is summed up node by node.
+// From this number of characters on a length is summed up node by node.
 const BY_NODES: usize = 2097152;
 
 // What is left of b when the length of a Var's or a Const's text is taken off it, and 0 where the text is longer.
@@ -99,31 +99,33 @@ pub fn measure(p: &[u64], n: Node, b: usize) -> usize
     less_node(&p, n, b)
 }
 
-// The length of a node's text, or one more than the ceiling where the text is longer, of a pool that is known to be good: node by node,
-// unless the pool is large and the ceiling low.
+// The length of a node's text, or one more than the ceiling where the text is longer, of a pool that is known to be good.
 pub fn length_to(p: &[u64], n: Node, ceiling: u32) -> u64
     requires { ⌜ Ready (now p) (n .0) ⌝ }
     ensures { λ r. ⌜ r ≡ min (length (text (now (p .entry)) (n .0))) (ceiling + 1) ⌝ }
 {
     let most = (ceiling as usize) + 1;
-    if n.0 < 1024 {
-        return nodes::length_of_few(p, n, most) as u64;
-    }
-    if (BY_NODES <= most) & (n.0 < 65536) {
-        return nodes::length_of_many(p, n, most) as u64;
+    if n.0 < 65536 {
+        if BY_NODES <= most {
+            return nodes::length_of_many(p, n, most) as u64;
+        }
     }
     let left = measure(p, n, most);
     (most - left) as u64
 }
 
-// The same of a pool that begins with the registers.
+// The same of a pool that begins with the registers: node by node, which for the pool of a block of one is cheaper.
 pub fn length_in_block(p: &[u64], n: Node, ceiling: u32) -> u64
     requires { ⌜ Ready (now p) (n .0) × Registers (now p) ⌝ }
     requires { ⌜ 3 ≤ ceiling ⌝ }
     ensures { λ r. ⌜ r ≡ min (length (text (now (p .entry)) (n .0))) (ceiling + 1) ⌝ }
 {
+    let bound = (ceiling as usize) + 1;
     if (32 <= n.0) & (n.0 < 256) {
-        return nodes::length_past_registers(p, n, (ceiling as usize) + 1) as u64;
+        return nodes::length_past_registers(p, n, bound) as u64;
+    }
+    if n.0 < 1024 {
+        return nodes::length_of_few(p, n, bound) as u64;
     }
     length_to(p, n, ceiling)
 }

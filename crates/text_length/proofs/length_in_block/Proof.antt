@@ -1,4 +1,4 @@
--- `length_in_block` meets its contract: both ways give the length up to the ceiling and one.
+-- `length_in_block` meets its contract: each way gives the length up to the ceiling and one.
 use native.Mathlib.Omega.{arith}
 use lib.Dec.{leb, ltb}
 use borrow.Author.Tests.{leb-true, ltb-true}
@@ -7,8 +7,8 @@ use borrow.Author.Needs.{needs}
 use Rattle.text_length.proofs.length_in_block.Statement.{statement}
 use Rattle.text_length.proofs.length_in_block.Tie as tie
 
-add-length-past-registers : tie.Need-add-length-past-registers
-add-length-past-registers c = search needs
+add-bound : tie.Need-add-bound
+add-bound c = search needs
 
 length-past-registers-requires : tie.Need-length-past-registers-requires
 length-past-registers-requires c κs =
@@ -20,18 +20,26 @@ length-past-registers-requires c κs =
 returns : tie.Need-returns
 returns c = search needs
 
-length-to-requires : tie.Need-length-to-requires
-length-to-requires c κs = search needs
+length-of-few-requires : tie.Need-length-of-few-requires
+length-of-few-requires c κs = search needs
 
 returns-2 : tie.Need-returns-2
 returns-2 c = search needs
+
+length-to-requires : tie.Need-length-to-requires
+length-to-requires c κs = search needs
+
+returns-3 : tie.Need-returns-3
+returns-3 c = search needs
 
 pub length-in-block-spec : {M : Type 1} → statement M
 length-in-block-spec =
     tie.close
     (tie.spec
-    add-length-past-registers
+    add-bound
     length-past-registers-requires
     returns
+    length-of-few-requires
+    returns-2
     length-to-requires
-    returns-2)
+    returns-3)
