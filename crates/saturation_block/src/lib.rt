@@ -13,9 +13,9 @@ ghost use Rattle.saturation_block.specs.Size.{flagSize, flagRefusal};
 ghost use Rattle.saturation_block.specs.Block.{Answered};
 
 // The records that such a block may have, and the nodes that one of them may add.
-const MOST_RECORDS: usize = 31;
+const MOST_SATURATION_RECORDS: usize = 31;
 
-const RESERVE: usize = 2_048;
+const SATURATION_RESERVE: usize = 2_048;
 
 // The number and the position of document 01, the map of the registers, and the node of the bit.
 pub struct SaturationAnswer {
@@ -29,10 +29,10 @@ pub struct SaturationAnswer {
 fn size_number(words: usize, count: usize) -> u64
     ensures { λ r. ⌜ r ≡ flagSize (placesIn words) count ⌝ }
 {
-    if MOST_RECORDS < count {
+    if MOST_SATURATION_RECORDS < count {
         return 8;
     }
-    if words / 4 < 32 + RESERVE * count + 1 {
+    if words / 4 < 32 + SATURATION_RESERVE * count + 1 {
         return 6;
     }
     0
