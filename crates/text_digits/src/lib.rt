@@ -10,7 +10,7 @@ ghost use Rattle.text_digits.specs.Pairs.{fourPairs};
 ghost use Rattle.text_digits.specs.Writing.{Room, Wrote};
 
 // What is left of x when y is taken off, and 0 where y is larger.
-pub fn less(x: usize, y: usize) -> usize
+pub fn minus_or_zero(x: usize, y: usize) -> usize
     ensures { λ r. ⌜ r ≡ x - y ⌝ }
 {
     if x < y { 0 } else { x - y }
@@ -179,7 +179,7 @@ fn one_digit(low: u64, high: u64) -> bool
 pub fn less_hex(low: u64, high: u64, b: usize) -> usize
     ensures { λ r. ⌜ r ≡ b - length (hexadecimal (wide low high)) ⌝ }
 {
-    let c = less(b, 1);
+    let c = minus_or_zero(b, 1);
     if one_digit(low, high) {
         return c;
     }

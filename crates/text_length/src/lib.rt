@@ -4,14 +4,16 @@ use pool::words::Kind;
 use pool::words::kind_of;
 use pool::words::width_of;
 use pool_check::node_number;
+use pool_fields::cut_hi;
+use pool_fields::cut_lo;
 use pool_fields::first;
 use pool_fields::high;
 use pool_fields::left;
 use pool_fields::low;
 use pool_fields::right;
 use text_digits::decimal_length;
-use text_digits::less;
 use text_digits::less_hex;
+use text_digits::minus_or_zero;
 use text_operators::operator_length;
 use text_parts::is_single;
 ghost use mathlib.Core.Path.{_≡_};
@@ -37,9 +39,9 @@ fn less_leaf(p: &[u64], n: Node, k: u64, b: usize) -> usize
     ensures { λ r. ⌜ r ≡ b - length (text (now (p .entry)) (n .0)) ⌝ }
 {
     if k == Kind::VAR {
-        return less(b, decimal_length(low(p, n)) + 1);
+        return minus_or_zero(b, decimal_length(low(p, n)) + 1);
     }
-    let c = less(b, decimal_length(width_of(p, n)) + 3);
+    let c = minus_or_zero(b, decimal_length(width_of(p, n)) + 3);
     less_hex(low(p, n), high(p, n), c)
 }
 
@@ -49,10 +51,10 @@ fn less_single(p: &[u64], n: Node, k: u64, b: usize) -> usize
     ensures { λ r. ⌜ r ≡ b - (length (openText k) + length (endText (now (p .entry)) (n .0))) ⌝ }
 {
     if k == Kind::EXTRACT {
-        let c = less(b, decimal_length(low(p, n)) + 3);
-        return less(c, decimal_length(high(p, n)));
+        let c = minus_or_zero(b, decimal_length(cut_hi(p, n).0) + 3);
+        return minus_or_zero(c, decimal_length(cut_lo(p, n).0));
     }
-    less(b, decimal_length(width_of(p, n)) + 8)
+    minus_or_zero(b, decimal_length(width_of(p, n)) + 8)
 }
 
 // How many characters of its own a node with two operands has, or an Ite.
@@ -83,7 +85,7 @@ fn less_node(p: &&[u64], n: Node, b: usize) -> usize
     if is_single(k) {
         return less_node(p, first(*p, n), less_single(*p, n, k, b));
     }
-    let mut c = less(b, own_length(k));
+    let mut c = minus_or_zero(b, own_length(k));
     if k == Kind::ITE {
         c = less_node(p, first(*p, n), c);
     }

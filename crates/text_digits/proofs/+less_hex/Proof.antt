@@ -12,7 +12,7 @@ use borrow.Fn.PlainCycle.{Measures, is, falls, and}
 use Rattle.text_digits.proofs.less_hex.Reads as less-hex
 use Rattle.text_digits.proofs.less_hex.Kinds as less-hex-kinds
 use Rattle.text_digits.proofs.+less_hex.Lts-less_hex as less-hex-lts
-use Rattle.text_digits.proofs.less.Reads as less-reads
+use Rattle.text_digits.proofs.minus_or_zero.Reads as minus-or-zero-reads
 use Rattle.text_digits.proofs.one_digit.Reads as one-digit-reads
 use Rattle.text_digits.proofs.+less_hex.{statement}
 use Rattle.text_digits.proofs.+less_hex.Tie.{close}
@@ -29,7 +29,7 @@ less-hex-below t =
 
 -- what the functions that `less_hex` calls ask and ensure
 abbrev claims : ℕ → less-hex-lts.Claims
-claims t = (less-reads.Asked, less-reads.Learnt, one-digit-reads.Asked, one-digit-reads.Learnt, less-hex-below t, less-hex.Post)
+claims t = (minus-or-zero-reads.Asked, minus-or-zero-reads.Learnt, one-digit-reads.Asked, one-digit-reads.Learnt, less-hex-below t, less-hex.Post)
 
 module _ (t : ℕ) where
   -- more than one digit
@@ -42,8 +42,8 @@ module _ (t : ℕ) where
   more : (c : More) → 16 ≤ wide (start c .args .low) (start c .args .high)
   more c = ltb-false _ 16 (sym (c .before .one-digit .ensures) ∙ c .if1 .left)
 
-  less-requires : less-hex-lts.Need-less-requires (claims t) (less-hex-at t) less-hex.Post
-  less-requires c κs = search needs
+  minus-or-zero-requires : less-hex-lts.Need-minus-or-zero-requires (claims t) (less-hex-at t) less-hex.Post
+  minus-or-zero-requires c κs = search needs
 
   one-digit-requires : less-hex-lts.Need-one-digit-requires (claims t) (less-hex-at t) less-hex.Post
   one-digit-requires c κs = search needs
@@ -53,7 +53,7 @@ module _ (t : ℕ) where
   returns c =
       let l = c .before .before in
       let a = l .before .args in
-      omega (arith, l .less .ensures, length-digit (a .low) (a .high) (ltb-true _ 16 (sym (c .before .one-digit .ensures) ∙ c .if1 .taken)))
+      omega (arith, l .minus-or-zero .ensures, length-digit (a .low) (a .high) (ltb-true _ 16 (sym (c .before .one-digit .ensures) ∙ c .if1 .taken)))
 
   mul-less-hex : less-hex-lts.Need-mul-less-hex (claims t) (less-hex-at t) less-hex.Post
   mul-less-hex c = omega arith
@@ -69,13 +69,13 @@ module _ (t : ℕ) where
   returns-2 c =
       let e = c .before in
       let s = start e in
-      omega (arith, e .before .before .less .ensures, c .less-hex .ensures, length-words (s .args .low) (s .args .high) (more e))
+      omega (arith, e .before .before .minus-or-zero .ensures, c .less-hex .ensures, length-words (s .args .low) (s .args .high) (more e))
 
 pub +less-hex-spec : {M : Type 1} → statement M
 +less-hex-spec =
     close μ-less-hex λ t.
     less-hex-lts.spec (claims t) (less-hex-at t) less-hex.Post
-    (less-requires t)
+    (minus-or-zero-requires t)
     (one-digit-requires t)
     (returns t)
     (mul-less-hex t)

@@ -16,7 +16,7 @@ use Rattle.text_length.proofs.Sizes.{before, less-one, less-two}
 use Rattle.text_length.proofs.less_node.Reads as less-node
 use Rattle.text_length.proofs.less_node.Kinds as less-node-kinds
 use Rattle.text_length.proofs.+less_node.Lts-less_node as less-node-lts
-use Rattle.text_digits.proofs.less.Reads as less-reads
+use Rattle.text_digits.proofs.minus_or_zero.Reads as minus-or-zero-reads
 use Rattle.pool_fields.proofs.first.Reads as first-reads
 use Rattle.pool.proofs.words.kind_of.Reads as kind-of-reads
 use Rattle.pool_fields.proofs.left.Reads as left-reads
@@ -56,8 +56,8 @@ claims t = (
   less-node.Post,
   own-length-reads.Asked,
   own-length-reads.Learnt,
-  less-reads.Asked,
-  less-reads.Learnt,
+  minus-or-zero-reads.Asked,
+  minus-or-zero-reads.Learnt,
   left-reads.Asked,
   left-reads.Learnt,
   right-reads.Asked,
@@ -106,7 +106,7 @@ module _ (t : ℕ) where
 
   -- its own characters are taken off
   abbrev Own : Type 0
-  Own = less-node-lts.After-less (claims t) (less-node-at t) less-node.Post
+  Own = less-node-lts.After-minus-or-zero (claims t) (less-node-at t) less-node.Post
 
   abbrev two : Own → Two
   two c = c .before .before
@@ -116,7 +116,7 @@ module _ (t : ℕ) where
   Conditioned = less-node-lts.Joined4 (claims t) (less-node-at t) less-node.Post
 
   condition-less : (c : Conditioned) → let r = read-two (two (c .before)) in
-      let s = start r in c .if4 .c ≡ c .before .less .result - before (pool s) (node s) (s .pre .1) (kind r) (r .kind-of .ensures)
+      let s = start r in c .if4 .c ≡ c .before .minus-or-zero .result - before (pool s) (node s) (s .pre .1) (kind r) (r .kind-of .ensures)
   condition-less c =
       ⊎-elim (λ w. rw (eq-eqb _ 15 (w .0 .taken)) (w .4 ∙ (rw (w .2 .ensures) at (w .3 .ensures))))
       (λ w. rw (ne-eqb _ 15 (w .0 .left)) (omega (arith, w .1)))
@@ -172,8 +172,8 @@ module _ (t : ℕ) where
       let s = start r in
       a-joined (pool s) (node s) (s .pre .1) _ (r .kind-of .ensures) (c .before .before .if2 .left) (two-is c)
 
-  less-requires : less-node-lts.Need-less-requires (claims t) (less-node-at t) less-node.Post
-  less-requires c κs = search needs
+  minus-or-zero-requires : less-node-lts.Need-minus-or-zero-requires (claims t) (less-node-at t) less-node.Post
+  minus-or-zero-requires c κs = search needs
 
   first-requires-2 : less-node-lts.Need-first-requires-2 (claims t) (less-node-at t) less-node.Post
   first-requires-2 c κs = start (read-two (two (c .before .before))) .pre .1 .inside
@@ -219,7 +219,7 @@ module _ (t : ℕ) where
       let r = read-two w in
       let s = start r in
       less-two (pool s) (node s) (s .pre .1) _ (r .kind-of .ensures) (s .args .b) (w .before .before .if2 .left) (two-is w)
-      (rw (o .before .own-length .ensures) at (o .less .ensures)) (condition-less q) (rw (f .left .ensures) at (l .less-node3 .ensures))
+      (rw (o .before .own-length .ensures) at (o .minus-or-zero .ensures)) (condition-less q) (rw (f .left .ensures) at (l .less-node3 .ensures))
       (rw (g .right .ensures) at (c .less-node4 .ensures))
 
 pub +less-node-spec : {M : Type 1} → statement M
@@ -236,7 +236,7 @@ pub +less-node-spec : {M : Type 1} → statement M
     (less-node-requires t)
     (returns-3 t)
     (own-length-requires t)
-    (less-requires t)
+    (minus-or-zero-requires t)
     (first-requires-2 t)
     (less-node-requires-2 t)
     (left-requires t)

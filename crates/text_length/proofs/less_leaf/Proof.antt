@@ -15,11 +15,11 @@ decimal-length-requires c κs =
     let st = l-if1 .before .before in
     rw (c .low .ensures) (register-small (st .args .p .now) (st .args .n .0) (st .pre .0) (st .args .k) (st .pre .1) (l-if1 .if1 .taken))
 
-add-less : tie.Need-add-less
-add-less c = search needs
+add-minus-or-zero : tie.Need-add-minus-or-zero
+add-minus-or-zero c = search needs
 
-less-requires : tie.Need-less-requires
-less-requires c κs = search needs
+minus-or-zero-requires : tie.Need-minus-or-zero-requires
+minus-or-zero-requires c κs = search needs
 
 returns : tie.Need-returns
 returns c =
@@ -29,7 +29,7 @@ returns c =
     let st = l-if1 .before .before in
     let a = st .args in
     let size = size-var (a .p .now) (a .n .0) (st .pre .0) (a .k) (st .pre .1) (l-if1 .if1 .taken) in
-    omega (arith, size, c .less .ensures, rw (l-low .low .ensures) at (l-decimal-length .decimal-length .ensures .0))
+    omega (arith, size, c .minus-or-zero .ensures, rw (l-low .low .ensures) at (l-decimal-length .decimal-length .ensures .0))
 
 width-of-requires : tie.Need-width-of-requires
 width-of-requires c κs = search needs
@@ -39,11 +39,11 @@ decimal-length-requires-2 c κs =
     let st = c .before .before .before in
     rw (c .width-of .ensures .0) (width-small (st .args .p .now) (st .args .n .0) (st .pre .0) (st .args .k) (st .pre .1))
 
-add-less-2 : tie.Need-add-less-2
-add-less-2 c = search needs
+add-minus-or-zero-2 : tie.Need-add-minus-or-zero-2
+add-minus-or-zero-2 c = search needs
 
-less-requires-2 : tie.Need-less-requires-2
-less-requires-2 c κs = search needs
+minus-or-zero-requires-2 : tie.Need-minus-or-zero-requires-2
+minus-or-zero-requires-2 c κs = search needs
 
 low-requires-2 : tie.Need-low-requires-2
 low-requires-2 c κs = search needs
@@ -58,8 +58,8 @@ returns-2 : tie.Need-returns-2
 returns-2 c =
     let l-high = c .before in
     let l-low2 = l-high .before in
-    let l-less2 = l-low2 .before in
-    let l-decimal-length2 = l-less2 .before in
+    let l-minus-or-zero2 = l-low2 .before in
+    let l-decimal-length2 = l-minus-or-zero2 .before in
     let l-width-of = l-decimal-length2 .before in
     let l-if1 = l-width-of .before in
     let st = l-if1 .before .before in
@@ -67,7 +67,7 @@ returns-2 c =
     let const = is-const (a .p .now) (a .n .0) (st .pre .0) (a .k) (st .pre .1) (st .pre .2) (l-if1 .if1 .left) in
     let size = size-const (a .p .now) (a .n .0) (st .pre .0) (a .k) (st .pre .1) const in
     let width = rw (l-width-of .width-of .ensures .0) at (l-decimal-length2 .decimal-length2 .ensures .0) in
-    omega (arith, size, l-less2 .less2 .ensures, width, rw (l-low2 .low2 .ensures, l-high .high .ensures) at (c .less-hex .ensures))
+    omega (arith, size, l-minus-or-zero2 .minus-or-zero2 .ensures, width, rw (l-low2 .low2 .ensures, l-high .high .ensures) at (c .less-hex .ensures))
 
 pub less-leaf-spec : {M : Type 1} → statement M
 less-leaf-spec =
@@ -75,13 +75,13 @@ less-leaf-spec =
     (tie.spec
     low-requires
     decimal-length-requires
-    add-less
-    less-requires
+    add-minus-or-zero
+    minus-or-zero-requires
     returns
     width-of-requires
     decimal-length-requires-2
-    add-less-2
-    less-requires-2
+    add-minus-or-zero-2
+    minus-or-zero-requires-2
     low-requires-2
     high-requires
     less-hex-requires

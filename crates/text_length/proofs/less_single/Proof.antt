@@ -6,47 +6,47 @@ use borrow.Author.Needs.{needs}
 use Rattle.text_length.proofs.less_single.Statement.{statement}
 use Rattle.text_length.proofs.less_single.Tie as tie
 
-low-requires : tie.Need-low-requires
-low-requires c κs = search needs
+cut-hi-requires : tie.Need-cut-hi-requires
+cut-hi-requires c κs = search needs
 
 decimal-length-requires : tie.Need-decimal-length-requires
 decimal-length-requires c κs =
     let l-if1 = c .before in
     let st = l-if1 .before .before in
-    rw (c .low .ensures) (range-small (st .args .p .now) (st .args .n .0) (st .pre .0) (st .args .k) (st .pre .1) (l-if1 .if1 .taken) .0)
+    rw (c .cut-hi .ensures) (range-small (st .args .p .now) (st .args .n .0) (st .pre .0) (st .args .k) (st .pre .1) (l-if1 .if1 .taken) .0)
 
-add-less : tie.Need-add-less
-add-less c = search needs
+add-minus-or-zero : tie.Need-add-minus-or-zero
+add-minus-or-zero c = search needs
 
-less-requires : tie.Need-less-requires
-less-requires c κs = search needs
+minus-or-zero-requires : tie.Need-minus-or-zero-requires
+minus-or-zero-requires c κs = search needs
 
-high-requires : tie.Need-high-requires
-high-requires c κs = search needs
+cut-lo-requires : tie.Need-cut-lo-requires
+cut-lo-requires c κs = search needs
 
 decimal-length-requires-2 : tie.Need-decimal-length-requires-2
 decimal-length-requires-2 c κs =
     let l-if1 = c .before .before .before .before in
     let st = l-if1 .before .before in
-    rw (c .high .ensures) (range-small (st .args .p .now) (st .args .n .0) (st .pre .0) (st .args .k) (st .pre .1) (l-if1 .if1 .taken) .1)
+    rw (c .cut-lo .ensures) (range-small (st .args .p .now) (st .args .n .0) (st .pre .0) (st .args .k) (st .pre .1) (l-if1 .if1 .taken) .1)
 
-less-requires-2 : tie.Need-less-requires-2
-less-requires-2 c κs = search needs
+minus-or-zero-requires-2 : tie.Need-minus-or-zero-requires-2
+minus-or-zero-requires-2 c κs = search needs
 
 returns : tie.Need-returns
 returns c =
     let l-decimal-length2 = c .before in
-    let l-high = l-decimal-length2 .before in
-    let l-less = l-high .before in
-    let l-decimal-length = l-less .before in
-    let l-low = l-decimal-length .before in
-    let l-if1 = l-low .before in
+    let l-cut-lo = l-decimal-length2 .before in
+    let l-minus-or-zero = l-cut-lo .before in
+    let l-decimal-length = l-minus-or-zero .before in
+    let l-cut-hi = l-decimal-length .before in
+    let l-if1 = l-cut-hi .before in
     let st = l-if1 .before .before in
     let a = st .args in
     let about = about-extract (a .p .now) (a .n .0) (st .pre .0) (a .k) (st .pre .1) (l-if1 .if1 .taken) in
-    let hi = rw (l-low .low .ensures) at (l-decimal-length .decimal-length .ensures .0) in
-    let lo = rw (l-high .high .ensures) at (l-decimal-length2 .decimal-length2 .ensures .0) in
-    omega (arith, about, l-less .less .ensures, c .less2 .ensures, hi, lo)
+    let hi = rw (l-cut-hi .cut-hi .ensures) at (l-decimal-length .decimal-length .ensures .0) in
+    let lo = rw (l-cut-lo .cut-lo .ensures) at (l-decimal-length2 .decimal-length2 .ensures .0) in
+    omega (arith, about, l-minus-or-zero .minus-or-zero .ensures, c .minus-or-zero2 .ensures, hi, lo)
 
 width-of-requires : tie.Need-width-of-requires
 width-of-requires c κs = search needs
@@ -56,11 +56,11 @@ decimal-length-requires-3 c κs =
     let st = c .before .before .before in
     rw (c .width-of .ensures .0) (width-small (st .args .p .now) (st .args .n .0) (st .pre .0) (st .args .k) (st .pre .1))
 
-add-less-2 : tie.Need-add-less-2
-add-less-2 c = search needs
+add-minus-or-zero-2 : tie.Need-add-minus-or-zero-2
+add-minus-or-zero-2 c = search needs
 
-less-requires-3 : tie.Need-less-requires-3
-less-requires-3 c κs = search needs
+minus-or-zero-requires-3 : tie.Need-minus-or-zero-requires-3
+minus-or-zero-requires-3 c κs = search needs
 
 returns-2 : tie.Need-returns-2
 returns-2 c =
@@ -70,22 +70,22 @@ returns-2 c =
     let st = l-if1 .before .before in
     let a = st .args in
     let about = about-extend (a .p .now) (a .n .0) (st .pre .0) (a .k) (st .pre .1) (from-18 (is-single _ (st .pre .2)) (l-if1 .if1 .left)) in
-    omega (arith, about, c .less3 .ensures, rw (l-width-of .width-of .ensures .0) at (l-decimal-length3 .decimal-length3 .ensures .0))
+    omega (arith, about, c .minus-or-zero3 .ensures, rw (l-width-of .width-of .ensures .0) at (l-decimal-length3 .decimal-length3 .ensures .0))
 
 pub less-single-spec : {M : Type 1} → statement M
 less-single-spec =
     tie.close
     (tie.spec
-    low-requires
+    cut-hi-requires
     decimal-length-requires
-    add-less
-    less-requires
-    high-requires
+    add-minus-or-zero
+    minus-or-zero-requires
+    cut-lo-requires
     decimal-length-requires-2
-    less-requires-2
+    minus-or-zero-requires-2
     returns
     width-of-requires
     decimal-length-requires-3
-    add-less-2
-    less-requires-3
+    add-minus-or-zero-2
+    minus-or-zero-requires-3
     returns-2)
