@@ -11,13 +11,13 @@ ghost use Rattle.block_check.specs.Records.{recordsOf, Refuses};
 pub const MOST_RECORDS: usize = 85;
 
 // 0 and 0, or the number and the position that refuse a block.
-pub struct Refused {
+pub struct Checked {
     pub number: u64,
     pub position: usize,
 }
 
 // The first record that is refused.
-pub fn records_refusal(records: &[u64]) -> Refused
+pub fn records_refusal(records: &[u64]) -> Checked
     ensures { λ r. ⌜ Refuses r (recordsRefusal 0 (recordsOf (now (records .entry)))) ⌝ }
 {
     let count = records.len() / 6;
@@ -26,14 +26,14 @@ pub fn records_refusal(records: &[u64]) -> Refused
         let c = record_at(records, j);
         let number = record_number(c.operation, c.arrangement, c.i, c.d, c.n, c.m);
         if 0 < number {
-            return Refused {
+            return Checked {
                 number,
                 position: j,
             };
         }
         j += 1;
     }
-    Refused {
+    Checked {
         number: 0,
         position: 0,
     }
@@ -54,11 +54,11 @@ pub fn size_number(words: usize, count: usize) -> u64
 }
 
 // What refuses records, of which so many are refused by this number: that, or the first that is refused.
-pub fn refusal_by(number: u64, records: &[u64]) -> Refused
+pub fn refusal_by(number: u64, records: &[u64]) -> Checked
     ensures { λ r. ⌜ Refuses r (refusalBy number (recordsOf (now (records .entry)))) ⌝ }
 {
     if 0 < number {
-        return Refused {
+        return Checked {
             number,
             position: 0,
         };
@@ -67,7 +67,7 @@ pub fn refusal_by(number: u64, records: &[u64]) -> Refused
 }
 
 // What refuses a block of these records for this pool.
-pub fn block_refusal(pool: &[u64], records: &[u64]) -> Refused
+pub fn block_refusal(pool: &[u64], records: &[u64]) -> Checked
     ensures { λ r. ⌜ Refuses r (blockRefusal (places (now (pool .entry))) (recordsOf (now (records .entry)))) ⌝ }
 {
     let number = size_number(pool.len(), records.len() / 6);

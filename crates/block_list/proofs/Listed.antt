@@ -13,7 +13,7 @@ use Rattle.pool.specs.Node.{none as noNode, places, placesIn}
 use Rattle.pool.specs.Growth.{Room}
 use Rattle.block_map.specs.declared.RegisterMap.{RegisterMap}
 use Rattle.block_map.specs.Map.{firstMap, noMap}
-use Rattle.block_check.specs.declared.Refused.{Refused}
+use Rattle.block_check.specs.declared.Checked.{Checked}
 use Rattle.block_check.specs.Records.{Refuses}
 use Rattle.block_check.proofs.Refusals.{block-legal}
 use Rattle.block_record.specs.Step.{MapOk, Steps}
@@ -53,7 +53,7 @@ module _ (w0 : List ℕ) (m0 : RegisterMap) (cs : List Instruction) where
 
 -- ---- the whole
 
-module _ (w0 : List ℕ) (cs : List Instruction) (r : Refused) (e : Refuses r (blockRefusal (placesIn (length w0)) cs)) where
+module _ (w0 : List ℕ) (cs : List Instruction) (r : Checked) (e : Refuses r (blockRefusal (placesIn (length w0)) cs)) where
   pub all-refused : (m : RegisterMap) → 0 < r .number → m ≡ noMap → Answered w0 cs w0 (answer r m)
   all-refused m h q = record { number = e .0; position = e .1; refused = λ _. (q, refl); accepted = λ z. absurd (omega (arith, h, z)) }
 

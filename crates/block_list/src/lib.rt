@@ -1,7 +1,7 @@
 // A block as a list of records, on a map of the registers that the caller lends (document 01, "The forms we expect"). These
 // functions only take records apart: block_check, block_record and block do the work, and serve callers that have flat numbers.
 // The Rust has no counterpart: it lowers one instruction at a time.
-use block_check::Refused;
+use block_check::Checked;
 use block_list_check::block_refusal;
 use block_map::RegisterMap;
 use neon::Instruction;
@@ -53,7 +53,7 @@ pub fn lower_instructions(
     pool: &mut [u64],
     records: &[Instruction],
     map: &mut RegisterMap,
-) -> Refused
+) -> Checked
     ensures { λ r. ⌜ Answered (now (pool .entry)) (now (records .entry)) (now (pool .exit)) (answer r (now (map .exit))) ⌝ }
 {
     let refused = block_refusal(pool.len(), records);

@@ -9,7 +9,7 @@ use lib.Seq.{drop-cons}
 use borrow.Author.Tests.{eq-eqb, ne-eqb}
 use Rattle.neon.specs.declared.Instruction.{Instruction}
 use Rattle.neon.specs.Refusal.{Refusal, recordNumber, refusal, recordsRefusal, sizeNumber, blockRefusal}
-use Rattle.block_check.specs.declared.Refused.{Refused}
+use Rattle.block_check.specs.declared.Checked.{Checked}
 use Rattle.block_record_check.specs.Record.{instruction}
 use Rattle.block_check.specs.Records.{Refuses}
 use Rattle.block_check.proofs.Refusals.{by-size, by-records}
@@ -21,7 +21,7 @@ none = instruction 0 0 0 0 0 0
 -- ---- the first that is refused
 
 module _ (p : ℕ) (cs : List Instruction) where
-  refuses : {r : Refused} (x : Refusal) → r .number ≡ x .number → r .position ≡ x .position → blockRefusal p cs ≡ x → Refuses r (blockRefusal p cs)
+  refuses : {r : Checked} (x : Refusal) → r .number ≡ x .number → r .position ≡ x .position → blockRefusal p cs ≡ x → Refuses r (blockRefusal p cs)
   refuses x a b e = (a ∙ sym (ap (λ (y : Refusal). y .number) e), b ∙ sym (ap (λ (y : Refusal). y .position) e))
 
   -- the block's size

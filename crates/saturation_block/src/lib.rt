@@ -1,6 +1,6 @@
 // A block with its saturation bit (document 02, S-12): the terms of the registers as `block` makes them, and beside them a term of one bit,
 // 1 exactly where some lane of some instruction saturates. The Rust has no such term.
-use block_check::Refused;
+use block_check::Checked;
 use block_check::refusal_by;
 use block_map::RegisterMap;
 use pool::Node;
@@ -39,7 +39,7 @@ fn size_number(words: usize, count: usize) -> u64
 }
 
 // What refuses a block of these records for this pool.
-fn refusal(pool: &[u64], records: &[u64]) -> Refused
+fn refusal(pool: &[u64], records: &[u64]) -> Checked
     ensures { λ r. ⌜ Refuses r (flagRefusal (places (now (pool .entry))) (recordsOf (now (records .entry)))) ⌝ }
 {
     let number = size_number(pool.len(), records.len() / 6);

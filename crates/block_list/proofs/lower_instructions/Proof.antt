@@ -43,11 +43,11 @@ use denote.Triple.Walked.{AllGo, goes-ref, goes-none-slice, goes-slice, Walks, w
 use denote.Exit.{yes}
 use Rattle.block_map.specs.declared.RegisterMap.{RegisterMap}
 use Rattle.block_map.specs.Map.{noMap}
-use Rattle.block_check.specs.declared.Refused.{Refused}
+use Rattle.block_check.specs.declared.Checked.{Checked}
 use Rattle.block_map.proofs.RegisterMap as T
 use Rattle.block_map.proofs.RegisterMap.Laws as T′
-use Rattle.block_check.proofs.Refused as T₂
-use Rattle.block_check.proofs.Refused.Laws as T₂′
+use Rattle.block_check.proofs.Checked as T₂
+use Rattle.block_check.proofs.Checked.Laws as T₂′
 use Rattle.block_map.proofs.RegisterMap.refused.Symbol as no-map-def
 use Rattle.block_map.proofs.RegisterMap.refused.Symbol.{name as #register-map·refused}
 use Rattle.block_map.proofs.RegisterMap.refused.Met as no-map-thm
@@ -97,7 +97,7 @@ module _ {M : Type 1} (𝓤 : URA M) (H : Heap 𝓤) (A : Atoms 𝓤) (W : Given
         use2 W (raw (Asking .pre (to-refusing 𝓤 H A W at-mem ran c bounds))) (goes-refusing 𝓤 H A W at-mem ran c bounds) $
         calls-at ! fm Asking refusing-known (to-refusing 𝓤 H A W at-mem ran c bounds)
         (and-then ! (load ! (from ! (stop !)) (look ! 24 refl)) (and-then ! (load ! (from ! (stop !)) (look ! 30 refl)) (no-more !))) (λ v.
-        use1 W (later (some (λ (r : Refused). ((‵ (flft κ₂ q₂) ⊛ ‵ ftrue) ⊛ ‵ (Q .own r (v ∷ []))) ⊛ raw (Refusal 𝓤 H A W at-mem ran c bounds r)))) (id⊢ 𝓤 _) $ await ! tt $ pick ! (λ r. split ! $
+        use1 W (later (some (λ (r : Checked). ((‵ (flft κ₂ q₂) ⊛ ‵ ftrue) ⊛ ‵ (Q .own r (v ∷ []))) ⊛ raw (Refusal 𝓤 H A W at-mem ran c bounds r)))) (id⊢ 𝓤 _) $ await ! tt $ pick ! (λ r. split ! $
         move ! (1 ∷ []) $ use1 W (raw (fact 𝓤 (told r))) (refusing-told 𝓤 H A W at-mem ran c bounds r) $ heard ! (told r) (λ e. split ! $ split ! $
         move ! (2 ∷ []) $ peeks ! Q (Is Q) (shows 𝓤 H A Q) r (v ∷ []) (λ is.
         land ! (from ! (stop !)) (init ! 28 refl (LL.lawful T₂.the-type T₂′.the-laws 𝓤 H A W .typed r _ is .0)) $
@@ -122,7 +122,7 @@ module _ {M : Type 1} (𝓤 : URA M) (H : Heap 𝓤) (A : Atoms 𝓤) (W : Given
         forget ! 22 refl $ forget ! 24 refl $ keep ! (1 ∷ 0 ∷ row 2 34) $
         accepts 𝓤 H A W at-mem ran c bounds s 𝓣 fm start-known run-known r e (omega (arith, nltb→le _ (r .number) small)) (fit r (v ∷ []) is))))))
       where
-        told : Refused → Type 0
+        told : Checked → Type 0
         told r = Told 𝓤 H A W at-mem ran c bounds r
 
     walk : ent 𝓤 (onEntry 𝓤 H A lower-instructions.signature (κ, (κ₂, (κ₃, tt))) (q, (q₂, (q₃, tt))) (x c) (at c)) (WpFn 𝓤 H (𝓣 .C) (𝓣 .Λ) code.function (args c) Done)

@@ -51,7 +51,7 @@ use Rattle.neon.specs.Refusal.{recordNumber, sizeNumber, blockRefusal}
 use Rattle.block_check.specs.Records.{Refuses}
 use Rattle.neon.proofs.Instruction as T₁
 use Rattle.neon.proofs.Instruction.Laws as T₁′
-use Rattle.block_check.proofs.Refused.Laws as T′
+use Rattle.block_check.proofs.Checked.Laws as T′
 use Rattle.block_check.proofs.size_number.Symbol as size-number-def
 use Rattle.block_check.proofs.size_number.Symbol.{name as #block-check·size-number}
 use Rattle.block_check.proofs.size_number.Met as size-number-thm

@@ -35,7 +35,7 @@ use denote.Triple.Statement.{Contract, Triple}
 use Rattle.neon.specs.Refusal.{blockRefusal}
 use Rattle.block_map.specs.declared.RegisterMap.{RegisterMap}
 use Rattle.block_map.specs.Map.{firstMap}
-use Rattle.block_check.specs.declared.Refused.{Refused}
+use Rattle.block_check.specs.declared.Checked.{Checked}
 use Rattle.pool.specs.Node.{placesIn}
 use Rattle.block_check.specs.Records.{Refuses}
 use Rattle.block.specs.Block.{Started, Runs, Answered}
@@ -86,7 +86,7 @@ module _ {M : Type 1} (𝓤 : URA M) (H : Heap 𝓤) (A : Atoms 𝓤) (W : Given
   Running = Run 𝓤 H A at-mem ran
 
   -- what refuses the block is what `block_refusal` said
-  abbrev pub Told : Refused → Type 0
+  abbrev pub Told : Checked → Type 0
   Told r = Refuses r (blockRefusal (placesIn (m c)) ys)
 
   module _ (s : Locals) where
@@ -106,7 +106,7 @@ module _ {M : Type 1} (𝓤 : URA M) (H : Heap 𝓤) (A : Atoms 𝓤) (W : Given
     Params = holds map-ref l₃ (map-val c) (holds slice l₂ (list-val c) (holds words l₁ (pool-val c (m c)) (bare refused l₀ [])))
 
     -- the locals are freed, at each of the two returns
-    pub leaves : (r : Refused) (ps : List ℕ) (h : RegisterMap) → Answered ps₀ ys ps (answer r h) → length ps ≡ m c → Fits r
+    pub leaves : (r : Checked) (ps : List ℕ) (h : RegisterMap) → Answered ps₀ ys ps (answer r h) → length ps ≡ m c → Fits r
         → Sq W (Owned c ps h (Rest (bares ((refused, l₄) ∷ (map-ref, l₃) ∷ (slice, l₂) ∷ (words, l₁) ∷ (refused, l₀) ∷ []) []))) (frees En (prop (Done (mach r))))
     leaves r ps h e l fits =
         move ! (34 ∷ 35 ∷ []) $ free1 ! $ move ! (32 ∷ 33 ∷ []) $ free1 ! $ move ! (30 ∷ 31 ∷ []) $ free1 ! $ move ! (28 ∷ 29 ∷ []) $ free1 ! $ move ! (26 ∷ 27 ∷ []) $ free1 ! $
@@ -115,7 +115,7 @@ module _ {M : Type 1} (𝓤 : URA M) (H : Heap 𝓤) (A : Atoms 𝓤) (W : Given
         free0 ! $ by ! (exits 𝓤 H A W at-mem ran c bounds r ps h e l fits)
 
     module _ (𝓣 : Tables 𝓤 H) (fm : FmC 𝓤 H (W .laws) (𝓣 .C)) (start-known : Triple 𝓤 (𝓣 .C #block·start-pool) Starting)
-        (run-known : Triple 𝓤 (𝓣 .C #blocks·run-instructions) Running) (r : Refused) (e : Told r) (small : r .number ≤ 0) (fits : Fits r) where
+        (run-known : Triple 𝓤 (𝓣 .C #blocks·run-instructions) Running) (r : Checked) (e : Told r) (small : r .number ≤ 0) (fits : Fits r) where
       -- the pool is started at ps and the map is h: the records run
       runs-on : (ps : List ℕ) (h : RegisterMap) → length ps ≡ m c → Started ps₀ ps 32 → h ≡ firstMap
           → Sq W (Owned c ps h (Rest (holds refused l₄ (mach r) Params))) (runs (𝓣 .C) (𝓣 .Λ) En code.Mir.t-9 (atRet En Done))

@@ -33,14 +33,14 @@ use Rattle.neon.specs.Refusal.{reserve, AllLegal, blockRefusal}
 use Rattle.pool.specs.Growth.{Room as Places}
 use Rattle.block_map.specs.declared.RegisterMap.{RegisterMap}
 use Rattle.block_map.specs.Map.{firstMap, noMap}
-use Rattle.block_check.specs.declared.Refused.{Refused}
+use Rattle.block_check.specs.declared.Checked.{Checked}
 use Rattle.pool.specs.Node.{placesIn}
 use Rattle.block_check.specs.Records.{Refuses}
 use Rattle.block_record.specs.Step.{MapOk}
 use Rattle.block.specs.Block.{Started, Runs, Answered}
 use Rattle.block_map.proofs.RegisterMap.Laws as T′
-use Rattle.block_check.proofs.Refused as T₂
-use Rattle.block_check.proofs.Refused.Laws as T₂′
+use Rattle.block_check.proofs.Checked as T₂
+use Rattle.block_check.proofs.Checked.Laws as T₂′
 use Rattle.block_map.proofs.RegisterMap.refused as no-map
 use Rattle.block.proofs.start_pool as start-pool
 use Rattle.block_list.specs.Lent.{answer}
@@ -78,13 +78,13 @@ refused = T₂′.mir
 abbrev pub map-ty : Ty
 map-ty = T′.mir
 
-abbrev pub mach : Refused → Val
+abbrev pub mach : Checked → Val
 mach r = T₂′.lowered r
 
-abbrev pub Fits : Refused → Type 0
+abbrev pub Fits : Checked → Type 0
 Fits r = (r .number < 2 ^ 64) × (r .position < 2 ^ 64)
 
-pub fit : (r : Refused) (vs : List Val) → Is Q r vs → Fits r
+pub fit : (r : Checked) (vs : List Val) → Is Q r vs → Fits r
 fit r vs is =
     let f = LL.owed T₂.the-type T₂′.the-laws r vs is in
     (f .0 .1, f .1 .0 .1)
@@ -109,7 +109,7 @@ module _ {M : Type 1} (𝓤 : URA M) (H : Heap 𝓤) (A : Atoms 𝓤) (W : Given
   Post =
       walkOf 𝓤 H A lower-instructions.ended stayed (lower-instructions.clauses 𝓤 H A at-mem ran) .post (((κ, (κ₂, (κ₃, tt))), (q, (q₂, (q₃, tt))), bounds, x c, at c), tt)
 
-  pub exits : (r : Refused) (ps : List ℕ) (h : RegisterMap) → Answered ps₀ ys ps (answer r h) → length ps ≡ m c → Fits r
+  pub exits : (r : Checked) (ps : List ℕ) (h : RegisterMap) → Answered ps₀ ys ps (answer r h) → length ps ≡ m c → Fits r
       → ent 𝓤 (⋆ 𝓤 H A (Owned c ps h [])) (Post (mach r))
   exits r ps h e l fits =
       qed W (Owned c ps h []) ∵
@@ -131,10 +131,10 @@ module _ {M : Type 1} (𝓤 : URA M) (H : Heap 𝓤) (A : Atoms 𝓤) (W : Given
       nothing ! $ move ! (2 ∷ 0 ∷ []) $ join ! $ join ! $ frame ! $ done !
 
   -- what a callee ensures, and of it the clause alone
-  abbrev pub Refusal : Refused → SProp 𝓤
+  abbrev pub Refusal : Checked → SProp 𝓤
   Refusal r = ensured 𝓤 H A block-refusal.ended (block-refusal.clauses 𝓤 H A at-mem ran) (κ₂, tt) (m c, (records c, tt)) tt r
 
-  pub refusing-told : (r : Refused) → ent 𝓤 (Refusal r) (fact 𝓤 (Refuses r (blockRefusal (placesIn (m c)) ys)))
+  pub refusing-told : (r : Checked) → ent 𝓤 (Refusal r) (fact 𝓤 (Refuses r (blockRefusal (placesIn (m c)) ys)))
   refusing-told r =
       exE 𝓤 _ (λ ws. snd∗ 𝓤 (sem 𝓤 H A (lasts block-refusal.ended (κ₂, tt) (m c, (records c, tt)) ws)) (fact 𝓤 (Refuses r (blockRefusal (placesIn (m c)) ys))))
 

@@ -32,12 +32,12 @@ use denote.Triple.Walked.{says, Stays, stay-none, stay-none-slice, walkOf, ends-
 use denote.Exit.{yes}
 use Rattle.neon.specs.declared.Instruction.{Instruction}
 use Rattle.neon.specs.Refusal.{recordNumber, sizeNumber, blockRefusal}
-use Rattle.block_check.specs.declared.Refused.{Refused}
+use Rattle.block_check.specs.declared.Checked.{Checked}
 use Rattle.pool.specs.Node.{placesIn}
 use Rattle.block_check.specs.Records.{Refuses}
 use Rattle.neon.proofs.Instruction as T₁
-use Rattle.block_check.proofs.Refused as T
-use Rattle.block_check.proofs.Refused.Laws as T′
+use Rattle.block_check.proofs.Checked as T
+use Rattle.block_check.proofs.Checked.Laws as T′
 use Rattle.block_check.proofs.size_number as size-number
 use Rattle.block_record_check.proofs.record_number as record-number
 use Rattle.block_list_check.proofs.Six.{Fits, six}
@@ -91,7 +91,7 @@ module _ (c : Called) where
   Own = ShrSlice (named 0) κ R .own records (list ∷ [])
 
 -- the answer, and its machine value
-abbrev pub answer : ℕ → ℕ → Refused
+abbrev pub answer : ℕ → ℕ → Checked
 answer r k = record { number = r; position = k }
 
 abbrev pub mach : ℕ → ℕ → Val
