@@ -4,22 +4,22 @@ use mathlib.Core.Bool.{Bool, true, false, cond, _&&_, _||_}
 use Prim.Native.Nat.{ℕ, zero, suc, _+_, _*_, _%_, _^_, _≤_, _<_}
 use native.Mathlib.Omega.{arith}
 use native.Mathlib.Nat.{add-zero}
-use lib.Dec.{leb}
-use borrow.Author.Tests.{leb-true}
-use Rattle.facts.proofs.Tests.{and-both}
 use Rattle.neon.specs.Op.{Op, Arrangement, laneBits, full, bitsIf, B8, B16, H4, H8, S2, S4, D2}
-use Rattle.neon.specs.Form.{Lanes, Same, Narrow, Long, form, hasForm, least, most, byElement, isNarrow, sourceBits, madeBits, laneCount, firstLane, secondLane, firstFull, secondFull}
+use Rattle.neon.specs.Form.{Form, form, hasForm, least, most, byElement, isElement}
+use Rattle.neon.specs.Form.{Lanes, Same, Narrow, Long, isNarrow, sourceBits, madeBits, laneCount, firstLane, secondLane, firstFull, secondFull}
 use Rattle.neon.specs.Arm.{lanes, armAt, armResult}
 use Rattle.neon.specs.Run.{readBits}
 use Rattle.wide.specs.Number.{words}
 use Rattle.neon.proofs.Geometry.{sized, filled, by-half, inside, first-in, second-in, made-max, source-some}
 use Rattle.neon.proofs.Lanes.{lanes-eq, lanes-lt}
 use Rattle.trees.specs.Neon.{neonOp, shapeOf}
+use Rattle.trees.specs.declared.NeonOp.{NeonOp}
 use Rattle.trees.specs.declared.NeonShape.{NeonShape}
 use Rattle.run_block.specs.declared.Ran.{Ran}
 use Rattle.run_block.specs.Run.{Made, Placed, ResultOf}
 use Rattle.saturation.specs.Saturates.{saturatesAt, saturates, some}
 use Rattle.saturation.proofs.Family.{family-is, beyond-is}
+use Rattle.lower_shape.proofs.Table.{Family, family}
 use Rattle.run_lanes.specs.Rows.{RowIn, sourceOf}
 use Rattle.run_block.specs.declared.Layout.{Layout}
 use Rattle.run_block.proofs.Running.{lane-by-lt}
@@ -51,86 +51,36 @@ long-laid u e = record { narrow = refl; source = λ n. refl; first = λ k j. go 
     by true u k i j = refl
     by false u k i j = go u k j
 
-small : (v : Arrangement) → leb (laneBits v) 32 ≡ true → laneBits v ≤ 32
-small v h = leb-true _ _ h
+-- the lanes of a family p lie as the form f says
+pub record RowOf (v : Arrangement) (p : NeonOp) (f : Form) : Type 0 where
+  pub laid : Laid (layoutOf p) (f .lanes) (isElement (f .immediate))
+  pub source : sourceOf p (laneBits v) ≡ sourceBits (f .lanes) (laneBits v)
+  pub in-row : RowIn p (laneBits v)
+  pub source-le : sourceBits (f .lanes) (laneBits v) ≤ 64
 
-middle : (v : Arrangement) → (leb 16 (laneBits v) && leb (laneBits v) 32) ≡ true → laneBits v ≤ 32
-middle v h = leb-true _ _ (and-both (leb 16 (laneBits v)) (leb (laneBits v) 32) h .1)
+abbrev pub Row : (o : Op) (v : Arrangement) (i : ℕ) → Type 0
+Row o v i = RowOf v (neonOp o i (full v)) (form o)
 
-pub record Row (o : Op) (v : Arrangement) (i : ℕ) : Type 0 where
-  pub laid : Laid (layoutOf (neonOp o i (full v))) (form o .lanes) (byElement o)
-  pub source : sourceOf (neonOp o i (full v)) (laneBits v) ≡ sourceBits (form o .lanes) (laneBits v)
-  pub in-row : RowIn (neonOp o i (full v)) (laneBits v)
-  pub source-le : sourceBits (form o .lanes) (laneBits v) ≤ 64
+row-of : (v : Arrangement) (i : ℕ) {p : NeonOp} {f : Form} → Family v i p f → RowOf v p f
+row-of v i (Family.shift-left h) = record { laid = same-laid false; source = refl; in-row = h; source-le = sized v .most }
+row-of v i (Family.shift-right l m) = record { laid = same-laid false; source = refl; in-row = (l, m); source-le = sized v .most }
+row-of v i Family.shift-register = record { laid = same-laid false; source = refl; in-row = tt; source-le = sized v .most }
+row-of v i (Family.insert-left h) = record { laid = same-laid false; source = refl; in-row = h; source-le = sized v .most }
+row-of v i (Family.insert-right l m) = record { laid = same-laid false; source = refl; in-row = (l, m); source-le = sized v .most }
+row-of v i Family.add-sub = record { laid = same-laid false; source = refl; in-row = sized v .most; source-le = sized v .most }
+row-of v i Family.halving = record { laid = same-laid false; source = refl; in-row = sized v .most; source-le = sized v .most }
+row-of v i (Family.narrow h) = record { laid = narrow-laid false; source = refl; in-row = h; source-le = omega (arith, h) }
+row-of v i (Family.shift-narrow h l m) = record { laid = narrow-laid false; source = refl; in-row = (h, l, m); source-le = omega (arith, h) }
+row-of v i Family.unary = record { laid = same-laid false; source = refl; in-row = sized v .most; source-le = sized v .most }
+row-of v i (Family.multiply-high h) = record { laid = same-laid false; source = refl; in-row = h; source-le = sized v .most }
+row-of v i (Family.long x {u} {e} h m) = record { laid = long-laid u (isElement e); source = refl; in-row = omega (arith, sized v .eight); source-le = omega (arith, sized v .most) }
+row-of v i Family.mixed-sign = record { laid = same-laid false; source = refl; in-row = sized v .most; source-le = sized v .most }
+row-of v i (Family.difference x) = record { laid = same-laid false; source = refl; in-row = sized v .most; source-le = sized v .most }
+row-of v i Family.bitwise = record { laid = same-laid false; source = refl; in-row = sized v .most; source-le = sized v .most }
+row-of v i (Family.high-narrow h) = record { laid = narrow-laid false; source = refl; in-row = h; source-le = omega (arith, h) }
 
 pub row : (o : Op) (v : Arrangement) (i : ℕ) → hasForm o v ≡ true → least o ≤ i → i ≤ most o (laneBits v) → Row o v i
-row Op.SHL v i h l m = record { laid = same-laid false; source = refl; in-row = omega (arith, m, sized v .eight); source-le = sized v .most }
-row Op.SQSHLI v i h l m = record { laid = same-laid false; source = refl; in-row = omega (arith, m, sized v .eight); source-le = sized v .most }
-row Op.UQSHLI v i h l m = record { laid = same-laid false; source = refl; in-row = omega (arith, m, sized v .eight); source-le = sized v .most }
-row Op.SQSHLU v i h l m = record { laid = same-laid false; source = refl; in-row = omega (arith, m, sized v .eight); source-le = sized v .most }
-row Op.SSHR v i h l m = record { laid = same-laid false; source = refl; in-row = (l, m); source-le = sized v .most }
-row Op.USHR v i h l m = record { laid = same-laid false; source = refl; in-row = (l, m); source-le = sized v .most }
-row Op.SRSHR v i h l m = record { laid = same-laid false; source = refl; in-row = (l, m); source-le = sized v .most }
-row Op.URSHR v i h l m = record { laid = same-laid false; source = refl; in-row = (l, m); source-le = sized v .most }
-row Op.SSHL v i h l m = record { laid = same-laid false; source = refl; in-row = tt; source-le = sized v .most }
-row Op.USHL v i h l m = record { laid = same-laid false; source = refl; in-row = tt; source-le = sized v .most }
-row Op.SRSHL v i h l m = record { laid = same-laid false; source = refl; in-row = tt; source-le = sized v .most }
-row Op.URSHL v i h l m = record { laid = same-laid false; source = refl; in-row = tt; source-le = sized v .most }
-row Op.SQSHL v i h l m = record { laid = same-laid false; source = refl; in-row = tt; source-le = sized v .most }
-row Op.UQSHL v i h l m = record { laid = same-laid false; source = refl; in-row = tt; source-le = sized v .most }
-row Op.SQRSHL v i h l m = record { laid = same-laid false; source = refl; in-row = tt; source-le = sized v .most }
-row Op.UQRSHL v i h l m = record { laid = same-laid false; source = refl; in-row = tt; source-le = sized v .most }
-row Op.SLI v i h l m = record { laid = same-laid false; source = refl; in-row = omega (arith, m, sized v .eight); source-le = sized v .most }
-row Op.SRI v i h l m = record { laid = same-laid false; source = refl; in-row = (l, m); source-le = sized v .most }
-row Op.SQADD v i h l m = record { laid = same-laid false; source = refl; in-row = sized v .most; source-le = sized v .most }
-row Op.UQADD v i h l m = record { laid = same-laid false; source = refl; in-row = sized v .most; source-le = sized v .most }
-row Op.SQSUB v i h l m = record { laid = same-laid false; source = refl; in-row = sized v .most; source-le = sized v .most }
-row Op.UQSUB v i h l m = record { laid = same-laid false; source = refl; in-row = sized v .most; source-le = sized v .most }
-row Op.SHADD v i h l m = record { laid = same-laid false; source = refl; in-row = sized v .most; source-le = sized v .most }
-row Op.UHADD v i h l m = record { laid = same-laid false; source = refl; in-row = sized v .most; source-le = sized v .most }
-row Op.SRHADD v i h l m = record { laid = same-laid false; source = refl; in-row = sized v .most; source-le = sized v .most }
-row Op.URHADD v i h l m = record { laid = same-laid false; source = refl; in-row = sized v .most; source-le = sized v .most }
-row Op.SQXTN v i h l m = record { laid = narrow-laid false; source = refl; in-row = small v h; source-le = omega (arith, small v h) }
-row Op.UQXTN v i h l m = record { laid = narrow-laid false; source = refl; in-row = small v h; source-le = omega (arith, small v h) }
-row Op.SQXTUN v i h l m = record { laid = narrow-laid false; source = refl; in-row = small v h; source-le = omega (arith, small v h) }
-row Op.SHRN v i h l m = record { laid = narrow-laid false; source = refl; in-row = (small v h, l, m); source-le = omega (arith, small v h) }
-row Op.RSHRN v i h l m = record { laid = narrow-laid false; source = refl; in-row = (small v h, l, m); source-le = omega (arith, small v h) }
-row Op.SQSHRN v i h l m = record { laid = narrow-laid false; source = refl; in-row = (small v h, l, m); source-le = omega (arith, small v h) }
-row Op.SQRSHRN v i h l m = record { laid = narrow-laid false; source = refl; in-row = (small v h, l, m); source-le = omega (arith, small v h) }
-row Op.UQSHRN v i h l m = record { laid = narrow-laid false; source = refl; in-row = (small v h, l, m); source-le = omega (arith, small v h) }
-row Op.UQRSHRN v i h l m = record { laid = narrow-laid false; source = refl; in-row = (small v h, l, m); source-le = omega (arith, small v h) }
-row Op.SQSHRUN v i h l m = record { laid = narrow-laid false; source = refl; in-row = (small v h, l, m); source-le = omega (arith, small v h) }
-row Op.SQRSHRUN v i h l m = record { laid = narrow-laid false; source = refl; in-row = (small v h, l, m); source-le = omega (arith, small v h) }
-row Op.SQABS v i h l m = record { laid = same-laid false; source = refl; in-row = sized v .most; source-le = sized v .most }
-row Op.SQNEG v i h l m = record { laid = same-laid false; source = refl; in-row = sized v .most; source-le = sized v .most }
-row Op.SQDMULH v i h l m = record { laid = same-laid false; source = refl; in-row = middle v h; source-le = sized v .most }
-row Op.SQRDMULH v i h l m = record { laid = same-laid false; source = refl; in-row = middle v h; source-le = sized v .most }
-row Op.SQDMULL v i h l m = record { laid = long-laid false false; source = refl; in-row = omega (arith, sized v .eight); source-le = omega (arith, sized v .most) }
-row Op.SQDMLAL v i h l m = record { laid = long-laid false false; source = refl; in-row = omega (arith, sized v .eight); source-le = omega (arith, sized v .most) }
-row Op.SQDMLSL v i h l m = record { laid = long-laid false false; source = refl; in-row = omega (arith, sized v .eight); source-le = omega (arith, sized v .most) }
-row Op.SQDMULL2 v i h l m = record { laid = long-laid true false; source = refl; in-row = omega (arith, sized v .eight); source-le = omega (arith, sized v .most) }
-row Op.SQDMLAL2 v i h l m = record { laid = long-laid true false; source = refl; in-row = omega (arith, sized v .eight); source-le = omega (arith, sized v .most) }
-row Op.SQDMLSL2 v i h l m = record { laid = long-laid true false; source = refl; in-row = omega (arith, sized v .eight); source-le = omega (arith, sized v .most) }
-row Op.SQDMULLE v i h l m = record { laid = long-laid false true; source = refl; in-row = omega (arith, sized v .eight); source-le = omega (arith, sized v .most) }
-row Op.SQDMLALE v i h l m = record { laid = long-laid false true; source = refl; in-row = omega (arith, sized v .eight); source-le = omega (arith, sized v .most) }
-row Op.SQDMLSLE v i h l m = record { laid = long-laid false true; source = refl; in-row = omega (arith, sized v .eight); source-le = omega (arith, sized v .most) }
-row Op.SQDMULL2E v i h l m = record { laid = long-laid true true; source = refl; in-row = omega (arith, sized v .eight); source-le = omega (arith, sized v .most) }
-row Op.SQDMLAL2E v i h l m = record { laid = long-laid true true; source = refl; in-row = omega (arith, sized v .eight); source-le = omega (arith, sized v .most) }
-row Op.SQDMLSL2E v i h l m = record { laid = long-laid true true; source = refl; in-row = omega (arith, sized v .eight); source-le = omega (arith, sized v .most) }
-row Op.SUQADD v i h l m = record { laid = same-laid false; source = refl; in-row = sized v .most; source-le = sized v .most }
-row Op.USQADD v i h l m = record { laid = same-laid false; source = refl; in-row = sized v .most; source-le = sized v .most }
-row Op.SABD v i h l m = record { laid = same-laid false; source = refl; in-row = sized v .most; source-le = sized v .most }
-row Op.UABD v i h l m = record { laid = same-laid false; source = refl; in-row = sized v .most; source-le = sized v .most }
-row Op.SABA v i h l m = record { laid = same-laid false; source = refl; in-row = sized v .most; source-le = sized v .most }
-row Op.UABA v i h l m = record { laid = same-laid false; source = refl; in-row = sized v .most; source-le = sized v .most }
-row Op.CNT v i h l m = record { laid = same-laid false; source = refl; in-row = sized v .most; source-le = sized v .most }
-row Op.CLZ v i h l m = record { laid = same-laid false; source = refl; in-row = sized v .most; source-le = sized v .most }
-row Op.CLS v i h l m = record { laid = same-laid false; source = refl; in-row = sized v .most; source-le = sized v .most }
-row Op.RBIT v i h l m = record { laid = same-laid false; source = refl; in-row = sized v .most; source-le = sized v .most }
-row Op.ADDHN v i h l m = record { laid = narrow-laid false; source = refl; in-row = small v h; source-le = omega (arith, small v h) }
-row Op.RADDHN v i h l m = record { laid = narrow-laid false; source = refl; in-row = small v h; source-le = omega (arith, small v h) }
-row Op.SUBHN v i h l m = record { laid = narrow-laid false; source = refl; in-row = small v h; source-le = omega (arith, small v h) }
-row Op.RSUBHN v i h l m = record { laid = narrow-laid false; source = refl; in-row = small v h; source-le = omega (arith, small v h) }
+row o v i h l m = row-of v i (family o v i h l m)
 
 -- ---- source lanes in words
 source-word : (l : Lanes) (v : Arrangement) → sourceBits l (laneBits v) ≤ 64 → InWord (sourceBits l (laneBits v))
