@@ -4,6 +4,8 @@ use pool::Node;
 use pool::words::Kind;
 use pool::words::kind_of;
 use pool::words::width_of;
+use pool_fields::cut_hi;
+use pool_fields::cut_lo;
 use pool_fields::first;
 use pool_fields::high;
 use pool_fields::low;
@@ -58,7 +60,9 @@ fn range_length(p: &[u64], n: Node) -> usize
     requires { ⌜ Ready (now p) (n .0) × (kindNumber (now p) (n .0) ≡ 16) ⌝ }
     ensures { λ r. ⌜ (r ≡ length (openText (kindNumber (now (p .entry)) (n .0))) + length (endText (now (p .entry)) (n .0))) × (r ≤ 9) ⌝ }
 {
-    decimal_length(low(p, n)) + decimal_length(high(p, n)) + 3
+    let hi = cut_hi(p, n);
+    let lo = cut_lo(p, n);
+    decimal_length(hi.0) + decimal_length(lo.0) + 3
 }
 
 fn extension_length(p: &[u64], n: Node) -> usize

@@ -7,21 +7,23 @@ use borrow.Author.Needs.{needs}
 use Rattle.text_length.proofs.nodes.range_length.Statement.{statement}
 use Rattle.text_length.proofs.nodes.range_length.Tie as tie
 
-low-requires : tie.Need-low-requires
-low-requires c κs = search needs
+cut-hi-requires : tie.Need-cut-hi-requires
+cut-hi-requires c κs = search needs
+
+cut-lo-requires : tie.Need-cut-lo-requires
+cut-lo-requires c κs = search needs
 
 decimal-length-requires : tie.Need-decimal-length-requires
 decimal-length-requires c κs =
-    let s = c .before .before in
-    rw (c .low .ensures) (range-small (s .args .p .now) (s .args .n .0) (s .pre .0) _ refl (s .pre .1) .0)
-
-high-requires : tie.Need-high-requires
-high-requires c κs = search needs
+    let hi = c .before in
+    let s = hi .before .before in
+    rw (hi .cut-hi .ensures) (range-small (s .args .p .now) (s .args .n .0) (s .pre .0) _ refl (s .pre .1) .0)
 
 decimal-length-requires-2 : tie.Need-decimal-length-requires-2
 decimal-length-requires-2 c κs =
-    let s = c .before .before .before .before in
-    rw (c .high .ensures) (range-small (s .args .p .now) (s .args .n .0) (s .pre .0) _ refl (s .pre .1) .1)
+    let lo = c .before in
+    let s = lo .before .before .before in
+    rw (lo .cut-lo .ensures) (range-small (s .args .p .now) (s .args .n .0) (s .pre .0) _ refl (s .pre .1) .1)
 
 add-result : tie.Need-add-result
 add-result c = search needs
@@ -31,22 +33,22 @@ add-result-2 c = search needs
 
 returns : tie.Need-returns
 returns c =
-    let h = c .before in
-    let d = h .before in
-    let l = d .before in
-    let s = l .before .before in
+    let d = c .before in
+    let lo = d .before in
+    let hi = lo .before in
+    let s = hi .before .before in
     let e = about-extract (s .args .p .now) (s .args .n .0) (s .pre .0) _ refl (s .pre .1) in
-    let x = rw (l .low .ensures) at (d .decimal-length .ensures .0) in
-    let y = rw (h .high .ensures) at (c .decimal-length2 .ensures .0) in
+    let x = rw (hi .cut-hi .ensures) at (d .decimal-length .ensures .0) in
+    let y = rw (lo .cut-lo .ensures) at (c .decimal-length2 .ensures .0) in
     (omega (arith, e, x, y), omega (arith, d .decimal-length .ensures .1, c .decimal-length2 .ensures .1))
 
 pub range-length-spec : {M : Type 1} → statement M
 range-length-spec =
     tie.close
     (tie.spec
-    low-requires
+    cut-hi-requires
+    cut-lo-requires
     decimal-length-requires
-    high-requires
     decimal-length-requires-2
     add-result
     add-result-2
