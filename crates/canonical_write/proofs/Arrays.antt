@@ -1,20 +1,21 @@
 -- Arrays of one number, and what canonising answers. Assumes nothing.
 use mathlib.Core.Path.{_≡_, refl, sym, _∙_}
-use mathlib.Core.Bool.{true, false}
+use mathlib.Core.Bool.{true}
 use mathlib.Core.List.{List}
 use Prim.Native.Nat.{ℕ, zero, suc, _+_, _*_, _≤_, _<_}
 use native.Mathlib.Omega.{arith}
 use lib.Dec.{leb}
 use lib.ListN.{length, getD, replicate, length-replicate, getD-replicate}
-use borrow.Author.Tests.{lt-ltb, le-ltb, le-leb, lt-leb, leb-true}
+use borrow.Author.Tests.{lt-ltb, le-leb, lt-leb, leb-true}
 use Rattle.pool.specs.Node.{places}
 use Rattle.facts.proofs.Tests.{and-both}
-use Rattle.pool.specs.Rules.{poolOk, okPool, Valid}
+use Rattle.pool.specs.Rules.{poolOk, okPool, nodeNumber, Valid}
+use Rattle.pool_check.proofs.Number.{first-refusal}
 use Rattle.canonical_classes.proofs.Steps.{valid-le}
 use Rattle.canonical_classes.specs.Class.{Long, Empty}
 use Rattle.canonical_order.specs.Walk.{AllNone}
 use Rattle.canonical_write.specs.declared.Canonised.{Canonised}
-use Rattle.canonical_write.specs.Canonise.{treesAt, canoniseNumber, Written, RootAnswered, Answered}
+use Rattle.canonical_write.specs.Canonise.{treesAt, roomNumber, canoniseNumber, Written, RootAnswered, Answered}
 
 zero-at : (n i : ℕ) → _≡_ {A = ℕ} (getD (replicate n 0) i 0) 0
 zero-at zero i = refl
@@ -48,13 +49,11 @@ module _ (ws : List ℕ) (root : ℕ) (old : List ℕ) where
       record { number = rw (le-leb (treesAt ws root) (places old) (omega (arith, q))); refused = λ f. absurd (f refl); done = λ f. (q, w) }
 
 module _ (ws : List ℕ) (count root : ℕ) (old : List ℕ) where
-  pub bad-pool : poolOk ws count ≡ false → Answered ws count root old old (made 1 0)
+  pub bad-node : {k : ℕ} → k ≡ nodeNumber ws count root 0 → 0 < k → Answered ws count root old old (made k 0)
   unfolding canoniseNumber
-  bad-pool e = record { number = rw e; refused = λ f. (refl, refl); done = λ f. absurd (omega arith) }
-
-  pub bad-root : poolOk ws count ≡ true → count ≤ root → Answered ws count root old old (made 5 0)
-  unfolding canoniseNumber
-  bad-root e h = record { number = rw (e, le-ltb root count h); refused = λ f. (refl, refl); done = λ f. absurd (omega arith) }
+  bad-node {k} e h =
+      let r : 0 < nodeNumber ws count root 0 = rw e at h in
+      record { number = e ∙ first-refusal ws count root (roomNumber ws root old) r; refused = λ f. (refl, refl); done = λ f. absurd (omega (arith, f, h)) }
 
   pub root-answered : poolOk ws count ≡ true → root < count → {new : List ℕ} {a : Canonised} → RootAnswered ws root old new a → Answered ws count root old new a
   unfolding canoniseNumber

@@ -3,11 +3,11 @@ use mathlib.Core.Bool.{Bool, cond}
 use mathlib.Core.List.{List}
 use mathlib.Core.Path.{_≡_}
 use Prim.Native.Nat.{ℕ, _+_, _*_, _%_, _≤_, _<_}
-use lib.Dec.{ltb, leb}
+use lib.Dec.{leb}
 use lib.ListN.{length, getD}
 use Rattle.facts.specs.Refuse.{unless}
 use Rattle.pool.specs.Node.{aOf, bOf, cOf, wordAt, kindNumber, operandWord, places}
-use Rattle.pool.specs.Rules.{poolOk}
+use Rattle.pool.specs.Rules.{nodeNumber}
 use Rattle.pool.specs.Unfold.{unfoldAt}
 use Rattle.canonical.specs.Order.{postorder}
 use Rattle.canonical.specs.Words.{canonical}
@@ -23,7 +23,7 @@ abbrev pub roomNumber : (ws : List ℕ) (root : ℕ) (out : List ℕ) → ℕ
 roomNumber ws root out = unless (leb (treesAt ws root) (places out)) 6 0
 
 unfoldable pub canoniseNumber : (ws : List ℕ) (count root : ℕ) (out : List ℕ) → ℕ
-canoniseNumber ws count root out = unless (poolOk ws count) 1 (unless (ltb root count) 5 (roomNumber ws root out))
+canoniseNumber ws count root out = nodeNumber ws count root (roomNumber ws root out)
 
 -- the first k nodes are those of the canonical pool, and the words after them are as they were
 pub record Written (ws : List ℕ) (root k : ℕ) (old new : List ℕ) : Type 0 where

@@ -3,7 +3,7 @@ use canonical_classes::classes;
 use canonical_order::walk;
 use pool::Node;
 use pool::words::kind_of;
-use pool_check::pool_check;
+use pool_check::node_number;
 use pool_operands::has_a;
 use pool_operands::has_b;
 use pool_operands::has_c;
@@ -160,17 +160,9 @@ fn canonise_root(pool: &[u64], root: usize, out: &mut [u64]) -> Canonised
 pub fn canonise(pool: &[u64], count: usize, root: usize, out: &mut [u64]) -> Canonised
     ensures { λ r. ⌜ Answered (now (pool .entry)) count root (now (out .entry)) (now (out .exit)) r ⌝ }
 {
-    if !pool_check(pool, count) {
-        return Canonised {
-            number: 1,
-            count: 0,
-        };
-    }
-    if count <= root {
-        return Canonised {
-            number: 5,
-            count: 0,
-        };
+    let number = node_number(pool, count, root);
+    if 0 < number {
+        return Canonised { number, count: 0 };
     }
     canonise_root(pool, root, out)
 }
