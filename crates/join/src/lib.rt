@@ -8,6 +8,7 @@ use pool::words::kind_word;
 use pool::words::set_of;
 use pool::words::width_of;
 use pool_check::check_plain;
+use pool_fields::low;
 ghost use mathlib.Core.Bool.{cond, _&&_};
 ghost use mathlib.Core.Path.{_≡_};
 ghost use Prim.Native.Nat.{_+_, _-_, _*_, _≤_, _<_};
@@ -26,12 +27,11 @@ pub struct Joined {
 }
 
 // Whether node n, one of the first 32, is Var n.
-fn is_register(pool: &[u64], n: usize) -> bool
-    requires { ⌜ (4 * n + 3 < length (now pool)) × (n < 32) ⌝ }
-    ensures { λ r. ⌜ r ≡ varRule (now (pool .entry)) n ⌝ }
+fn is_register(pool: &[u64], n: Node) -> bool
+    requires { ⌜ (4 * n .0 + 3 < length (now pool)) × (n .0 < 32) ⌝ }
+    ensures { λ r. ⌜ r ≡ varRule (now (pool .entry)) (n .0) ⌝ }
 {
-    let x = pool[4 * n + 2];
-    (kind_of(pool, Node(n)) == 1) & (x == n as u64)
+    (kind_of(pool, n) == Kind::VAR) & (low(pool, n) == n.0 as u64)
 }
 
 // Whether the pool passes the check, begins with the registers and has no further Var.
@@ -46,7 +46,7 @@ fn starts(pool: &[u64], count: usize) -> bool
     }
     let mut n = 0;
     while n < 32 {
-        if !is_register(pool, n) {
+        if !is_register(pool, Node(n)) {
             return false;
         }
         n += 1;
@@ -55,12 +55,12 @@ fn starts(pool: &[u64], count: usize) -> bool
 }
 
 // Whether node n is there and has 128 bits.
-fn chosen_ok(pool: &[u64], count: usize, n: usize) -> bool
+fn chosen_ok(pool: &[u64], count: usize, n: Node) -> bool
     requires { ⌜ 4 * count ≤ length (now pool) ⌝ }
-    ensures { λ r. ⌜ r ≡ chosenOk (now (pool .entry)) count n ⌝ }
+    ensures { λ r. ⌜ r ≡ chosenOk (now (pool .entry)) count (n .0) ⌝ }
 {
-    if n < count {
-        return width_of(pool, Node(n)) == 128;
+    if n.0 < count {
+        return width_of(pool, n) == 128;
     }
     false
 }
@@ -101,17 +101,17 @@ fn copy_first(first: &[u64], c: usize, out: &mut [u64])
 }
 
 // Writes the copy of the second pool's node m.
-fn move_one(second: &[u64], c: usize, m: usize, out: &mut [u64])
-    requires { ⌜ (32 ≤ c) × (c ≤ 65535) × (32 ≤ m) × (m < 65535) ⌝ }
-    requires { ⌜ (4 * m + 3 < length (now second)) × (4 * (m + c) + 4 ≤ length (now out) + 128) × (m + c < 65567) ⌝ }
-    requires { ⌜ wordAt (now second) m 1 < 281474976710656 ⌝ }
-    ensures { λ r. ⌜ now (out .exit) ≡ writeMoved c (now (second .entry)) m (now (out .entry)) ⌝ }
+fn move_one(second: &[u64], c: usize, m: Node, out: &mut [u64])
+    requires { ⌜ (32 ≤ c) × (c ≤ 65535) × (32 ≤ m .0) × (m .0 < 65535) ⌝ }
+    requires { ⌜ (4 * m .0 + 3 < length (now second)) × (4 * (m .0 + c) + 4 ≤ length (now out) + 128) × (m .0 + c < 65567) ⌝ }
+    requires { ⌜ wordAt (now second) (m .0) 1 < 281474976710656 ⌝ }
+    ensures { λ r. ⌜ now (out .exit) ≡ writeMoved c (now (second .entry)) (m .0) (now (out .entry)) ⌝ }
 {
-    let at = 4 * m;
+    let at = 4 * m.0;
     let w1 = moved_word(c as u64, second[at + 1]);
     push(
         out,
-        m + c - 32,
+        m.0 + c - 32,
         second[at],
         w1,
         second[at + 2],
@@ -137,7 +137,7 @@ fn copy_second(
     copy_first(first, c, out);
     let mut m = 32;
     while m < d {
-        move_one(second, c, m, out);
+        move_one(second, c, Node(m), out);
         m += 1;
     }
 }
@@ -179,7 +179,7 @@ fn join_number(
     if !starts(second, d) {
         return 1;
     }
-    if !(chosen_ok(first, c, x) & chosen_ok(second, d, y)) {
+    if !(chosen_ok(first, c, Node(x)) & chosen_ok(second, d, Node(y))) {
         return 5;
     }
     if places(out) < c + d - 31 {

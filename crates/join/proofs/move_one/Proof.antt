@@ -61,12 +61,12 @@ same-length c = search needs
 
 returns : tie.Need-returns
 returns c =
-    let at-moved-word = c .before .before .before .before .before .before .before in
-    let a = at-moved-word .before .before .before .before .args in
+    let at-moved-word = c .before .before .before .before .before .before .before .before in
+    let a = at-moved-word .before .before .before .before .before .args in
     let w = a .second .now in
-    let n = a .m + a .c - 32 in
+    let n = a .m .0 + a .c - 32 in
     c .before .before .push .ensures .words
-    ∙ ap (λ (z : ℕ). writeNode (a .out .now) n (getD w (4 * a .m) 0) z (wordAt w (a .m) 2) (wordAt w (a .m) 3)) (at-moved-word .moved-word .ensures)
+    ∙ ap (λ (z : ℕ). writeNode (a .out .now) n (getD w (4 * a .m .0) 0) z (wordAt w (a .m .0) 2) (wordAt w (a .m .0) 3)) (at-moved-word .moved-word .ensures)
 
 pub move-one-spec : {M : Type 1} → statement M
 move-one-spec =
