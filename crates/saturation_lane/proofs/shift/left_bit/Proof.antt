@@ -19,8 +19,7 @@ returns : tie.Need-returns
 returns c =
     let l-exact-left-bit = c .before .before in
     let l-enum-told = l-exact-left-bit .before .before in
-    let l-match = l-enum-told .before in
-    let st = l-match .before .before in
+    let st = l-enum-told .before .before .before in
     left-exact (st .args .shift) (st .args .lane-bits) (st .args .signed) (l-enum-told .enum-told .given .1) (l-exact-left-bit .exact-left-bit .ensures)
 
 konst-requires : tie.Need-konst-requires

@@ -15,10 +15,8 @@ left-bit-requires c κs = search needs
 
 returns : tie.Need-returns
 returns c =
-    let l-enum-told = c in
-    let l-match = l-enum-told .before in
-    let st = l-match .before .before in
-    absurd (not-never (st .args .saturate) (l-enum-told .enum-told .given .1) (st .pre .1 .3))
+    let st = c .before .before .before in
+    absurd (not-never (st .args .saturate) (c .enum-told .given .1) (st .pre .1 .3))
 
 same-length : tie.Need-same-length
 same-length c = search needs

@@ -10,21 +10,29 @@ use borrow.Author.Needs.{needs}
 use Rattle.saturation_lane.proofs.shift.shift_bit.Statement.{statement}
 use Rattle.saturation_lane.proofs.shift.shift_bit.Tie as tie
 
+-- ---- a shift to the left: where its kind is known, and the entry from there
+
+abbrev left : tie.After-known-told → tie.After-kind
+left c = c .before
+
+abbrev left-entry : tie.After-known-told → tie.Start
+left-entry c = left c .before .before .before
+
+-- ---- needs
+
 enum-known-kind : tie.Need-enum-known-kind
 enum-known-kind c = search needs
 
 left-some-requires : tie.Need-left-some-requires
 left-some-requires c κs =
-    let l-known-told = c .before in
-    let l-kind = l-known-told .before in
-    let l-match = l-kind .before in
-    let st = l-match .before .before in (
+    let e = left (c .before) .kind .given .1 in
+    let st = left-entry (c .before) in (
       omega (arith, st .pre),
       (
         omega (arith, st .pre),
-        subst (λ (k : ShiftKind). AmountIn k (st .args .lane-bits)) (l-kind .kind .given .1) (st .pre .1 .4),
+        subst (λ (k : ShiftKind). AmountIn k (st .args .lane-bits)) e (st .pre .1 .4),
         omega (arith, st .pre),
-        subst (λ (k : ShiftKind). saturableShift k ≡ true) (l-kind .kind .given .1) (st .pre .1 .5),
+        subst (λ (k : ShiftKind). saturableShift k ≡ true) e (st .pre .1 .5),
       ),
     )
 
@@ -44,17 +52,12 @@ returns : tie.Need-returns
 returns c =
     let l-left-some = c .before .before in
     let l-known-told = l-left-some .before .before in
-    let l-kind = l-known-told .before in
-    let l-match = l-kind .before in
-    let st = l-match .before .before in
-    is-left (st .args .signed) (l-kind .kind .given .1) (l-left-some .left-some .ensures)
+    is-left (left-entry l-known-told .args .signed) (left l-known-told .kind .given .1) (l-left-some .left-some .ensures)
 
 returns-2 : tie.Need-returns-2
 returns-2 c =
-    let l-enum-told = c in
-    let l-match = l-enum-told .before in
-    let st = l-match .before .before in
-    absurd (not-right (st .args .kind) (l-enum-told .enum-told .given .1) (st .pre .1 .5))
+    let st = c .before .before .before in
+    absurd (not-right (st .args .kind) (c .enum-told .given .1) (st .pre .1 .5))
 
 same-length-2 : tie.Need-same-length-2
 same-length-2 c = search needs
@@ -62,10 +65,8 @@ same-length-2 c = search needs
 returns-3 : tie.Need-returns-3
 returns-3 c =
     let l-register-bit = c .before .before in
-    let l-known-told2 = l-register-bit .before .before in
-    let l-kind2 = l-known-told2 .before in
-    let l-match = l-kind2 .before in
-    let st = l-match .before .before in
+    let l-kind2 = l-register-bit .before .before .before in
+    let st = l-kind2 .before .before .before in
     is-register (st .args .signed) (l-kind2 .kind2 .given .1) (st .pre .1 .5) (l-register-bit .register-bit .ensures)
 
 pub shift-bit-spec : {M : Type 1} → statement M
