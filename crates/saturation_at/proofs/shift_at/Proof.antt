@@ -1,11 +1,31 @@
 -- shift_at: the lane, and the signed amount where the shift is by a register.
 use native.Mathlib.Omega.{arith}
-use mathlib.Core.Path.{refl}
-use mathlib.Core.Path.{sym, _∙_}
+use mathlib.Core.Bool.{true}
+use mathlib.Core.Path.{_≡_, sym, _∙_}
+use Rattle.lower_kinds.specs.Sources.{isRegister}
 use Rattle.saturation_at.proofs.At.{at-register, at-immediate}
 use borrow.Author.Needs.{needs}
 use Rattle.saturation_at.proofs.shift_at.Statement.{statement}
 use Rattle.saturation_at.proofs.shift_at.Tie as tie
+
+-- ---- the places, and that the shift is by a register
+
+abbrev lane : tie.After-is-register → tie.After-extract-lane
+lane c = c .before .before .before
+
+abbrev entry : tie.After-is-register → tie.Start
+entry c = lane c .before .before .before
+
+by-register : (c : tie.Then1) → isRegister (entry (c .before) .args .kind) ≡ true
+by-register c = sym (c .before .is-register .ensures) ∙ c .if1 .taken
+
+abbrev register : tie.After-signed-amount → tie.Then1
+register c = c .before .before
+
+abbrev asked : tie.After-signed-amount → tie.After-is-register
+asked c = register c .before
+
+-- ---- needs
 
 extract-lane-requires : tie.Need-extract-lane-requires
 extract-lane-requires c κs = search needs
@@ -15,29 +35,18 @@ is-register-requires c κs = search needs
 
 signed-amount-requires : tie.Need-signed-amount-requires
 signed-amount-requires c κs =
-    let l-if1 = c .before in
-    let l-is-register = l-if1 .before in
-    let l-extract-lane = l-is-register .before .before .before in
-    let st = l-extract-lane .before .before .before in
-    omega (arith, st .pre, l-extract-lane .extract-lane .ensures .sized, st .pre .1 .0 .1 (sym (l-is-register .is-register .ensures) ∙ l-if1 .if1 .taken))
+    let r = c .before in
+    let s = entry (r .before) in
+    omega (arith, s .pre, lane (r .before) .extract-lane .ensures .sized, s .pre .1 .0 .1 (by-register r))
 
 shift-bit-requires : tie.Need-shift-bit-requires
 shift-bit-requires c κs =
-    let l-signed-amount = c .before .before .before in
-    let l-if1 = l-signed-amount .before .before in
-    let l-is-register = l-if1 .before in
-    let l-extract-lane = l-is-register .before .before .before in
-    let st = l-extract-lane .before .before .before in (
-      omega (arith, st .pre, l-extract-lane .extract-lane .ensures .sized, l-signed-amount .signed-amount .ensures .sized),
-      (
-        omega (arith, l-extract-lane .extract-lane .ensures .sized, l-signed-amount .signed-amount .ensures .sized),
-        omega (arith, l-signed-amount .signed-amount .ensures .sized),
-        st .pre .1 .1 .0,
-        st .pre .1 .1 .1,
-        st .pre .1 .1 .2,
-        st .pre .1 .1 .3,
-      ),
-    )
+    let amount = c .before .before .before in
+    let r = asked amount in
+    let p = entry r .pre in
+    let a = lane r .extract-lane .ensures .sized in
+    let b = amount .signed-amount .ensures .sized in
+    (omega (arith, p, a, b), (omega (arith, a, b), omega (arith, b), p .1 .1 .0, p .1 .1 .1, p .1 .1 .2, p .1 .1 .3))
 
 same-length : tie.Need-same-length
 same-length c = search needs
@@ -45,13 +54,11 @@ same-length c = search needs
 returns : tie.Need-returns
 returns c =
     let l-shift-bit = c .before .before in
-    let l-signed-amount = l-shift-bit .before .before .before .before in
-    let l-if1 = l-signed-amount .before .before in
-    let l-is-register = l-if1 .before in
-    let l-extract-lane = l-is-register .before .before .before in
-    let st = l-extract-lane .before .before .before in
-    at-register (st .args .kind) (st .args .signed) (st .pre .1 .1 .4) (sym (l-is-register .is-register .ensures) ∙ l-if1 .if1 .taken) (l-extract-lane .extract-lane .ensures)
-    (l-signed-amount .signed-amount .ensures) (l-shift-bit .shift-bit .ensures)
+    let amount = l-shift-bit .before .before .before .before in
+    let r = asked amount in
+    let s = entry r in
+    at-register (s .args .kind) (s .args .signed) (s .pre .1 .1 .4) (by-register (register amount)) (lane r .extract-lane .ensures)
+    (amount .signed-amount .ensures) (l-shift-bit .shift-bit .ensures)
 
 shift-bit-requires-2 : tie.Need-shift-bit-requires-2
 shift-bit-requires-2 c κs = search needs
@@ -62,11 +69,10 @@ same-length-2 c = search needs
 returns-2 : tie.Need-returns-2
 returns-2 c =
     let l-shift-bit2 = c .before .before in
-    let l-if1 = l-shift-bit2 .before .before in
-    let l-is-register = l-if1 .before in
-    let l-extract-lane = l-is-register .before .before .before in
-    let st = l-extract-lane .before .before .before in
-    at-immediate (st .args .kind) (st .args .signed) (st .pre .1 .1 .4) (sym (l-is-register .is-register .ensures) ∙ l-if1 .if1 .left) (l-extract-lane .extract-lane .ensures)
+    let e = l-shift-bit2 .before .before in
+    let r = e .before in
+    let s = entry r in
+    at-immediate (s .args .kind) (s .args .signed) (s .pre .1 .1 .4) (sym (r .is-register .ensures) ∙ e .if1 .left) (lane r .extract-lane .ensures)
     (l-shift-bit2 .shift-bit2 .ensures)
 
 pub shift-at-spec : {M : Type 1} → statement M
