@@ -5,6 +5,16 @@ use borrow.Author.Needs.{needs}
 use Rattle.run_lanes.proofs.difference_lane.Statement.{statement}
 use Rattle.run_lanes.proofs.difference_lane.Tie as tie
 
+-- ---- from the magnitude back to the difference and its operands
+
+abbrev joined : tie.After-magnitude → tie.After-join
+joined c = c .before
+
+abbrev operands : tie.After-magnitude → tie.After-read2
+operands c = joined c .before
+
+-- ---- needs
+
 read-requires : tie.Need-read-requires
 read-requires c κs = search needs
 
@@ -31,11 +41,8 @@ returns c =
     let at-unsigned = c .before .before in
     let at-if = at-unsigned .before in
     let at-magnitude = at-if .before in
-    let at-join = at-magnitude .before in
-    let at-read = at-join .before in
-    let at-read2 = at-read .before in
     let magnitude = at-magnitude .magnitude .ensures 66 _ (omega arith) (omega arith)
-    (at-join .join .ensures 65 _ _ (omega arith) (at-read2 .read .ensures) (at-read .read2 .ensures)) in
+    (joined at-magnitude .join .ensures 65 _ _ (omega arith) (operands at-magnitude .before .read .ensures) (operands at-magnitude .read2 .ensures)) in
     rw (at-if .if1 .taken) (c .limit .ensures _ (fitting (omega arith)
     (c .before .join2 .ensures 67 _ _ (omega arith) (fitting (omega arith) (at-unsigned .unsigned .ensures)) magnitude)))
 
@@ -45,11 +52,8 @@ limit-requires-2 c κs = search needs
 returns-2 : tie.Need-returns-2
 returns-2 c =
     let at-magnitude = c .before .before in
-    let at-join = at-magnitude .before in
-    let at-read = at-join .before in
-    let at-read2 = at-read .before in
     let magnitude = at-magnitude .magnitude .ensures 66 _ (omega arith) (omega arith)
-    (at-join .join .ensures 65 _ _ (omega arith) (at-read2 .read .ensures) (at-read .read2 .ensures)) in
+    (joined at-magnitude .join .ensures 65 _ _ (omega arith) (operands at-magnitude .before .read .ensures) (operands at-magnitude .read2 .ensures)) in
     rw (c .before .if1 .left) (c .limit2 .ensures _ (fitting (omega arith) magnitude))
 
 pub difference-lane-spec : {M : Type 1} → statement M

@@ -1,59 +1,74 @@
 -- `insert_lane` gives `insertLaneZ` of SLI and SRI: the shifted bits and the bits of d that stay do not meet.
 use native.Mathlib.Omega.{arith}
-use mathlib.Core.Path.{_∙_, subst}
-use Rattle.run_lanes.proofs.Counts.{word, left-fits, right-fits, right-is}
-use mathlib.Core.Path.{ap₂}
+use mathlib.Core.Path.{_≡_, ap₂, subst, _∙_}
 use mathlib.Core.Bool.{Bool}
 use native.Mathlib.Nat.{mod-le}
-use Prim.Native.Nat.{ℕ, _+_, _-_, _^_}
+use Prim.Native.Nat.{ℕ, _+_, _-_, _^_, _≤_, _<_}
+use lib.IntN.{pos}
+use Rattle.neon.specs.Arm.{wrap, floor, scale}
 use Rattle.run_lanes.specs.Rows.{InsertIn}
+use Rattle.run_lanes.proofs.Counts.{word, left-fits, right-fits, right-is}
 use borrow.Author.Needs.{needs}
 use Rattle.run_lanes.proofs.insert_lane.Statement.{statement}
 use Rattle.run_lanes.proofs.insert_lane.Tie as tie
+
+-- ---- to the left: the amount, and the shifted bits
+
+left-amount : (c : tie.Then1) → let a = c .before .args in a .shift < a .n
+left-amount c = let a = c .before .args in subst (λ (t : Bool). InsertIn t (a .shift) (a .n)) (c .if1 .taken) (c .before .pre .4)
+
+abbrev scaled : tie.After-keep → tie.After-scaled
+scaled c = c .before
+
+abbrev left : tie.After-keep → tie.Then1
+left c = scaled c .before .before
+
+left-kept : (c : tie.After-keep) → let a = left c .before .args in c .keep .result ≡ wrap (a .n) (scale (pos (a .a)) (a .shift))
+left-kept c = c .keep .ensures _ _ (scaled c .scaled .ensures 65 _ (omega arith) (scaled c .before .unsigned .ensures))
+
+-- ---- to the right: the amount, the low bits of d, and the shifted bits
+
+right-amount : (c : tie.Else1) → let a = c .before .args in (0 < a .shift) × (a .shift ≤ a .n)
+right-amount c = let a = c .before .args in subst (λ (t : Bool). InsertIn t (a .shift) (a .n)) (c .if1 .left) (c .before .pre .4)
+
+abbrev low : tie.After-keep2 → tie.After-low-bits2
+low c = c .before .before .before
+
+abbrev right : tie.After-keep2 → tie.Else1
+right c = low c .before
+
+right-kept : (c : tie.After-keep2) → let a = right c .before .args in c .keep2 .result ≡ wrap (a .n) (floor (pos (a .a)) (a .shift))
+right-kept c =
+    let amount = right-amount (right c) in
+    c .keep2 .ensures _ _ (c .before .right .ensures 65 _ (omega arith) (c .before .before .unsigned2 .ensures))
+
+-- ---- needs
 
 unsigned-requires : tie.Need-unsigned-requires
 unsigned-requires c κs = search needs
 
 scaled-requires : tie.Need-scaled-requires
-scaled-requires c κs =
-    let s = c .before .before in
-    omega (arith, s .pre, subst (λ (t : Bool). InsertIn t (s .args .shift) (s .args .n)) (c .before .if1 .taken) (s .pre .4))
+scaled-requires c κs = omega (arith, c .before .before .pre, left-amount (c .before))
 
 keep-requires : tie.Need-keep-requires
 keep-requires c κs = search needs
 
 low-bits-requires : tie.Need-low-bits-requires
-low-bits-requires c κs =
-    let at-if = c .before .before .before in
-    let s = at-if .before in
-    omega (arith, s .pre, subst (λ (t : Bool). InsertIn t (s .args .shift) (s .args .n)) (at-if .if1 .taken) (s .pre .4))
+low-bits-requires c κs = omega (arith, left c .before .pre, left-amount (left c))
 
 add-result : tie.Need-add-result
 add-result c =
-    let at-scaled = c .before .before in
-    let at-unsigned = at-scaled .before in
-    let at-if = at-unsigned .before in
-    let s = at-if .before in
-    let amount = subst (λ (t : Bool). InsertIn t (s .args .shift) (s .args .n)) (at-if .if1 .taken) (s .pre .4) in
-    omega (
-      arith,
-      c .low-bits .ensures,
-      c .before .keep .ensures _ _ (at-scaled .scaled .ensures 65 _ (omega arith) (at-unsigned .unsigned .ensures)),
-      word (s .args .n) (s .args .shift) (s .args .a) (s .args .d) (omega arith),
-      left-fits (s .args .n) (s .args .shift) (s .args .a) (s .args .d)
-          (omega arith) (omega arith),
-    )
+    let l = left (c .before) in
+    let a = l .before .args in
+    let within : a .n ≤ 64 = l .before .pre .1 in
+    let amount = left-amount l in
+    omega (arith, c .low-bits .ensures, left-kept (c .before), word (a .n) (a .shift) (a .a) (a .d) within, left-fits (a .n) (a .shift) (a .a) (a .d) within (omega arith))
 
 returns : tie.Need-returns
-returns c =
-    let at-scaled = c .before .before in
-    let at-unsigned = at-scaled .before in
-    let at-if = at-unsigned .before in
-    rw (at-if .if1 .taken) (ap₂ (λ (x y : ℕ). x + y) (c .before .keep .ensures _ _
-    (at-scaled .scaled .ensures 65 _ (omega arith) (at-unsigned .unsigned .ensures))) (c .low-bits .ensures))
+returns c = rw (left (c .before) .if1 .taken) (ap₂ (λ (x y : ℕ). x + y) (left-kept (c .before)) (c .low-bits .ensures))
 
 sub-low-bits : tie.Need-sub-low-bits
-sub-low-bits c = omega (arith, c .before .pre, subst (λ (t : Bool). InsertIn t (c .before .args .shift) (c .before .args .n)) (c .if1 .left) (c .before .pre .4))
+sub-low-bits c = omega (arith, c .before .pre, right-amount c)
 
 low-bits-requires-2 : tie.Need-low-bits-requires-2
 low-bits-requires-2 c κs = search needs
@@ -68,40 +83,30 @@ unsigned-requires-2 c κs = search needs
 
 right-requires : tie.Need-right-requires
 right-requires c κs =
-    let at-if = c .before .before in
-    let s = at-if .before in
-    omega (arith, s .pre, subst (λ (t : Bool). InsertIn t (s .args .shift) (s .args .n)) (at-if .if1 .left) (s .pre .4))
+    let r = c .before .before in
+    omega (arith, r .before .pre, right-amount r)
 
 keep-requires-2 : tie.Need-keep-requires-2
 keep-requires-2 c κs = search needs
 
 add-result-2 : tie.Need-add-result-2
 add-result-2 c =
-    let at-unsigned = c .before .before in
-    let at-low-bits = at-unsigned .before in
-    let at-if = at-low-bits .before in
-    let s = at-if .before in
-    let amount = subst (λ (t : Bool). InsertIn t (s .args .shift) (s .args .n)) (at-if .if1 .left) (s .pre .4) in
+    let s = right c .before in
+    let a = s .args in
+    let within : a .n ≤ 64 = s .pre .1 in
     omega (
       arith,
-      at-low-bits .low-bits2 .ensures,
-      c .keep2 .ensures _ _
-          (c .before .right .ensures 65 _ (omega arith) (at-unsigned .unsigned2 .ensures)),
-      word (s .args .n) (s .args .shift) (s .args .a) (s .args .d)
-          (omega arith),
-      right-fits (s .args .n) (s .args .shift) (s .args .a) (s .args .d) (omega arith) (omega arith) (s .pre .2) (s .pre .3),
+      low c .low-bits2 .ensures,
+      right-kept c,
+      word (a .n) (a .shift) (a .a) (a .d) within,
+      right-fits (a .n) (a .shift) (a .a) (a .d) within (right-amount (right c) .1) (s .pre .2) (s .pre .3),
     )
 
 returns-2 : tie.Need-returns-2
 returns-2 c =
-    let at-unsigned = c .before .before in
-    let at-low-bits = at-unsigned .before in
-    let at-if = at-low-bits .before in
-    let s = at-if .before in
-    let amount = subst (λ (t : Bool). InsertIn t (s .args .shift) (s .args .n)) (at-if .if1 .left) (s .pre .4) in
-    rw (at-if .if1 .left) (ap₂ (λ (x y : ℕ). s .args .d - x + y) (at-low-bits .low-bits2 .ensures)
-    (c .keep2 .ensures _ _ (c .before .right .ensures 65 _ (omega arith) (at-unsigned .unsigned2 .ensures))) ∙ right-is (s .args .n) (s .args .shift)
-    (s .args .a) (s .args .d) (omega arith) _)
+    let s = right c .before in
+    let a = s .args in
+    rw (right c .if1 .left) (ap₂ (λ (x y : ℕ). a .d - x + y) (low c .low-bits2 .ensures) (right-kept c) ∙ right-is (a .n) (a .shift) (a .a) (a .d) (s .pre .1) _)
 
 pub insert-lane-spec : {M : Type 1} → statement M
 insert-lane-spec =

@@ -1,6 +1,6 @@
 -- `lane_at` answers `familyLane` and `familyBeyond`: each family's function by its own contract.
-use mathlib.Core.Path.{refl, subst}
-use Prim.Native.Nat.{_<_, _^_}
+use mathlib.Core.Path.{_≡_, refl, subst}
+use Prim.Native.Nat.{_^_, _≤_, _<_}
 use Rattle.trees.specs.declared.NeonOp.{NeonOp}
 use Rattle.saturation.specs.Family.{familyLane, familyBeyond}
 use Rattle.run_lanes.specs.Rows.{RowIn, sourceOf}
@@ -8,55 +8,54 @@ use borrow.Author.Needs.{needs}
 use Rattle.run_lanes.proofs.lane_at.Statement.{statement}
 use Rattle.run_lanes.proofs.lane_at.Tie as tie
 
+-- what is asked of the lane and its sources where the operation is o
+abbrev Asked : tie.Start → NeonOp → Type 0
+Asked s o =
+    let a = s .args in
+    (0 < a .n) × (a .n ≤ 64) × (a .d < 2 ^ a .n) × (a .a < 2 ^ sourceOf o (a .n)) × (a .b < 2 ^ sourceOf o (a .n)) × RowIn o (a .n)
+
+asked : (s : tie.Start) {o : NeonOp} → s .args .op ≡ o → Asked s o
+asked s e = subst (Asked s) e (s .pre)
+
 enum-known-op : tie.Need-enum-known-op
 enum-known-op c = search needs
 
 shift-lane-requires : tie.Need-shift-lane-requires
 shift-lane-requires c κs =
-    let s = c .before .before .before in
-    let p = subst (λ (o : NeonOp). (s .args .a < 2 ^ sourceOf o (s .args .n)) × (s .args .b < 2 ^ sourceOf o (s .args .n)) × RowIn o (s .args .n))
-    (c .before .op .given .1) (s .pre .3, s .pre .4, s .pre .5) in
-    (s .pre .0, s .pre .1, p .0, p .2)
+    let p = asked (c .before .before .before) (c .before .op .given .1) in
+    (p .0, p .1, p .3, p .5)
 
 enum-known-op-2 : tie.Need-enum-known-op-2
 enum-known-op-2 c = search needs
 
 insert-lane-requires : tie.Need-insert-lane-requires
 insert-lane-requires c κs =
-    let s = c .before .before .before in
-    let p = subst (λ (o : NeonOp). (s .args .a < 2 ^ sourceOf o (s .args .n)) × (s .args .b < 2 ^ sourceOf o (s .args .n)) × RowIn o (s .args .n))
-    (c .before .op2 .given .1) (s .pre .3, s .pre .4, s .pre .5) in
-    (s .pre .0, s .pre .1, p .0, s .pre .2, p .2)
+    let p = asked (c .before .before .before) (c .before .op2 .given .1) in
+    (p .0, p .1, p .3, p .2, p .5)
 
 enum-known-op-3 : tie.Need-enum-known-op-3
 enum-known-op-3 c = search needs
 
 mixed-lane-requires : tie.Need-mixed-lane-requires
 mixed-lane-requires c κs =
-    let s = c .before .before .before in
-    let p = subst (λ (o : NeonOp). (s .args .a < 2 ^ sourceOf o (s .args .n)) × (s .args .b < 2 ^ sourceOf o (s .args .n)) × RowIn o (s .args .n))
-    (c .before .op3 .given .1) (s .pre .3, s .pre .4, s .pre .5) in
-    (s .pre .0, s .pre .1, p .0, s .pre .2)
+    let p = asked (c .before .before .before) (c .before .op3 .given .1) in
+    (p .0, p .1, p .3, p .2)
 
 enum-known-op-4 : tie.Need-enum-known-op-4
 enum-known-op-4 c = search needs
 
 doubling-lane-requires : tie.Need-doubling-lane-requires
 doubling-lane-requires c κs =
-    let s = c .before .before .before in
-    let p = subst (λ (o : NeonOp). (s .args .a < 2 ^ sourceOf o (s .args .n)) × (s .args .b < 2 ^ sourceOf o (s .args .n)) × RowIn o (s .args .n))
-    (c .before .op4 .given .1) (s .pre .3, s .pre .4, s .pre .5) in
-    (p .2, s .pre .1, p .0, p .1, s .pre .2)
+    let p = asked (c .before .before .before) (c .before .op4 .given .1) in
+    (p .5, p .1, p .3, p .4, p .2)
 
 enum-known-op-5 : tie.Need-enum-known-op-5
 enum-known-op-5 c = search needs
 
 saturating-lane-requires : tie.Need-saturating-lane-requires
 saturating-lane-requires c κs =
-    let s = c .before .before .before in
-    let p = subst (λ (o : NeonOp). (s .args .a < 2 ^ sourceOf o (s .args .n)) × (s .args .b < 2 ^ sourceOf o (s .args .n)) × RowIn o (s .args .n))
-    (c .before .op5 .given .1) (s .pre .3, s .pre .4, s .pre .5) in
-    (s .pre .0, p .0, p .1, p .2)
+    let p = asked (c .before .before .before) (c .before .op5 .given .1) in
+    (p .0, p .3, p .4, p .5)
 
 enum-known-op-6 : tie.Need-enum-known-op-6
 enum-known-op-6 c = search needs
@@ -69,20 +68,16 @@ enum-known-op-7 c = search needs
 
 difference-lane-requires : tie.Need-difference-lane-requires
 difference-lane-requires c κs =
-    let s = c .before .before .before in
-    let p = subst (λ (o : NeonOp). (s .args .a < 2 ^ sourceOf o (s .args .n)) × (s .args .b < 2 ^ sourceOf o (s .args .n)) × RowIn o (s .args .n))
-    (c .before .op7 .given .1) (s .pre .3, s .pre .4, s .pre .5) in
-    (s .pre .0, s .pre .1, p .0, p .1)
+    let p = asked (c .before .before .before) (c .before .op7 .given .1) in
+    (p .0, p .1, p .3, p .4)
 
 enum-known-op-8 : tie.Need-enum-known-op-8
 enum-known-op-8 c = search needs
 
 high-lane-requires : tie.Need-high-lane-requires
 high-lane-requires c κs =
-    let s = c .before .before .before in
-    let p = subst (λ (o : NeonOp). (s .args .a < 2 ^ sourceOf o (s .args .n)) × (s .args .b < 2 ^ sourceOf o (s .args .n)) × RowIn o (s .args .n))
-    (c .before .op8 .given .1) (s .pre .3, s .pre .4, s .pre .5) in
-    (s .pre .0, p .2)
+    let p = asked (c .before .before .before) (c .before .op8 .given .1) in
+    (p .0, p .5)
 
 returns : tie.Need-returns
 unfolding familyLane familyBeyond
