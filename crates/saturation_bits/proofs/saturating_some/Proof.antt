@@ -5,6 +5,9 @@ use borrow.Author.Needs.{needs}
 use Rattle.saturation_bits.proofs.saturating_some.Statement.{statement}
 use Rattle.saturation_bits.proofs.saturating_some.Tie as tie
 
+abbrev entry : tie.After-kind-to → tie.Start
+entry c = c .before .before
+
 kind-to-requires : tie.Need-kind-to-requires
 kind-to-requires c κs = search needs
 
@@ -16,20 +19,16 @@ enum-known-range c = search needs
 
 saturating-at-requires : tie.Need-saturating-at-requires
 saturating-at-requires c κs =
-    let l-known-told = c .before in
-    let l-range = l-known-told .before in
-    let l-match = l-range .before in
-    let l-kind-to = l-match .before in
-    let st = l-kind-to .before .before in
+    let l-range = c .before .before in
+    let l-kind-to = l-range .before .before in
+    let st = entry l-kind-to in
     (st .pre .0, (st .pre .1 .0, (st .pre .1 .1 .0, st .pre .1 .1 .1, st .pre .1 .1 .2, sym (l-kind-to .kind-to .ensures) ∙ l-range .range .given .1, st .pre .1 .1 .4)))
 
 returns : tie.Need-returns
 returns c =
-    let l-enum-told = c in
-    let l-match = l-enum-told .before in
-    let l-kind-to = l-match .before in
-    let st = l-kind-to .before .before in
-    absurd (not-never (st .args .kind) (l-kind-to .kind-to .ensures) (l-enum-told .enum-told .given .1) (st .pre .1 .1 .3))
+    let to = c .before .before in
+    let st = entry to in
+    absurd (not-never (st .args .kind) (to .kind-to .ensures) (c .enum-told .given .1) (st .pre .1 .1 .3))
 
 same-length : tie.Need-same-length
 same-length c = search needs
