@@ -6,6 +6,19 @@ use borrow.Author.Needs.{needs}
 use Rattle.run_block.proofs.result_of.Statement.{statement}
 use Rattle.run_block.proofs.result_of.Tie as tie
 
+-- ---- from a layout back to its shape and to the entry, and from the place of a source back to the layout
+
+abbrev shaped : tie.After-layout-of → tie.After-shape
+shaped c = c .before
+
+abbrev entry : tie.After-layout-of → tie.Start
+entry c = shaped c .before
+
+abbrev laid : tie.After-source-by → tie.After-layout-of
+laid c = c .before .before .before .before .before .before .before
+
+-- ---- needs
+
 shape-requires : tie.Need-shape-requires
 shape-requires c κs = search needs
 
@@ -32,34 +45,32 @@ halve-requires-3 c κs = search needs
 
 source-by-requires : tie.Need-source-by-requires
 source-by-requires c κs =
-    let at-shape = c .before .before .before .before .before .before .before in
-    let s = at-shape .before in
+    let at-layout-of = c .before .before .before .before .before .before in
+    let s = entry at-layout-of in
     n-le (opAt (s .args .operation)) (arrangementAt (s .args .arrangement)) (s .args .i)
     (row (opAt (s .args .operation)) (arrangementAt (s .args .arrangement)) (s .args .i) (s .pre .row) (s .pre .low) (s .pre .high)) (s .pre .high) _
-    (at-shape .shape .ensures)
+    (shaped at-layout-of .shape .ensures)
 
 skip-by-requires : tie.Need-skip-by-requires
 skip-by-requires c κs = search needs
 
 run-lanes-requires : tie.Need-run-lanes-requires
 run-lanes-requires c κs =
-    let at-layout-of = c .before .before .before .before .before .before .before .before in
-    let at-shape = at-layout-of .before in
-    let s = at-shape .before in
+    let l = laid (c .before) in
+    let s = entry l in
     asked (opAt (s .args .operation)) (arrangementAt (s .args .arrangement)) (s .args .i)
     (row (opAt (s .args .operation)) (arrangementAt (s .args .arrangement)) (s .args .i) (s .pre .row) (s .pre .low) (s .pre .high)) (s .pre .high) _
-    (at-shape .shape .ensures) _ (at-layout-of .layout-of .ensures) _ _ (c .before .source-by .ensures) (c .skip-by .ensures)
+    (shaped l .shape .ensures) _ (l .layout-of .ensures) _ _ (c .before .source-by .ensures) (c .skip-by .ensures)
 
 place-requires : tie.Need-place-requires
 place-requires c κs =
     let at-skip-by = c .before .before in
-    let at-source-by = at-skip-by .before in
-    let at-layout-of = at-source-by .before .before .before .before .before .before .before in
-    let at-shape = at-layout-of .before in
-    let s = at-shape .before in
+    let source = at-skip-by .before in
+    let m = laid source in
+    let s = entry m in
     λ e. narrow-lt (opAt (s .args .operation)) (arrangementAt (s .args .arrangement)) (s .args .i)
     (row (opAt (s .args .operation)) (arrangementAt (s .args .arrangement)) (s .args .i) (s .pre .row) (s .pre .low) (s .pre .high)) (s .pre .high) _
-    (at-shape .shape .ensures) _ (at-layout-of .layout-of .ensures) _ _ (at-source-by .source-by .ensures) (at-skip-by .skip-by .ensures) _ _ _ _
+    (shaped m .shape .ensures) _ (m .layout-of .ensures) _ _ (source .source-by .ensures) (at-skip-by .skip-by .ensures) _ _ _ _
     (c .before .run-lanes .ensures) (and-both _ _ e .0)
 
 returns : tie.Need-returns
@@ -73,12 +84,10 @@ returns c =
     let at-first-by = at-halve2 .before in
     let at-halve3 = at-first-by .before in
     let at-is-full = at-halve3 .before in
-    let at-layout-of = at-is-full .before in
-    let at-shape = at-layout-of .before in
-    let s = at-shape .before in
+    let s = entry (at-is-full .before) in
     result-is (opAt (s .args .operation)) (arrangementAt (s .args .arrangement)) (s .args .i)
     (row (opAt (s .args .operation)) (arrangementAt (s .args .arrangement)) (s .args .i) (s .pre .row) (s .pre .low) (s .pre .high)) (s .pre .high) _
-    (at-shape .shape .ensures) _ (at-layout-of .layout-of .ensures) _ _ (at-source-by .source-by .ensures) (at-skip-by .skip-by .ensures) _
+    (shaped (at-is-full .before) .shape .ensures) _ (at-is-full .before .layout-of .ensures) _ _ (at-source-by .source-by .ensures) (at-skip-by .skip-by .ensures) _
     (at-is-full .is-full .ensures) _ _ (at-first-by .first-by .ensures) (at-second-by .second-by .ensures) _ _ _ _ _ _ (at-halve3 .halve .ensures)
     (at-halve2 .halve2 .ensures) (at-halve .halve3 .ensures) _ _ (at-run-lanes .run-lanes .ensures) (c .place .ensures)
 
