@@ -12,8 +12,9 @@ use Rattle.evaluate.proofs.visit.Reads as visit
 use Rattle.evaluate.proofs.+visit.Lts-visit as visit-lts
 use Rattle.evaluate.proofs.+visit.{statement}
 use Rattle.evaluate.proofs.+visit.Tie.{close}
-use Rattle.evaluate.proofs.+visit.Proof.Places.{μ-visit, visit-at, claims, pool, regs, node, start, read, some-left}
-use Rattle.evaluate.proofs.+visit.Proof.Places.{first-visited, from-three, first-of, first-other, one-is, two-is, second-visited}
+use Rattle.evaluate.proofs.+visit.Proof.Places.{μ-visit, visit-at, claims, pool, regs, node, start, some-left}
+use Rattle.evaluate.proofs.+visit.Proof.Places.{entry, kind-is, some-first, first-visited, from-three, first-of, choice-no, choice-yes}
+use Rattle.evaluate.proofs.+visit.Proof.Places.{first-other, first-one, one-is, two, two-is, first-before, second-visited}
 
 module _ (t : ℕ) where
   returns : visit-lts.Need-returns (claims t) (visit-at t) visit.Post
@@ -54,57 +55,52 @@ module _ (t : ℕ) where
   returns-3 : visit-lts.Need-returns-3 (claims t) (visit-at t) visit.Post
   returns-3 c =
       let f = c .before in
-      let r = read t f in
-      let s = start t r in
-      first-spent (pool t s) (regs t s) (node t s) (s .args .left) (s .pre .1 .0) _ (r .kind-of .ensures) (some-left t r) (from-three t f) (first-visited t f) (c .if3 .taken)
+      let s = entry t f in
+      first-spent (pool t s) (regs t s) (node t s) (s .args .left) (s .pre .1 .0) _ (kind-is t f) (some-first t f) (from-three t f) (first-visited t f) (c .if3 .taken)
 
   element-copy-out-if5 : visit-lts.Need-element-copy-out-if5 (claims t) (visit-at t) visit.Post
   element-copy-out-if5 c = search needs
 
   third-requires : visit-lts.Need-third-requires (claims t) (visit-at t) visit.Post
-  third-requires c κs = start t (read t (first-of t (c .before .before))) .pre .1 .0 .inside
+  third-requires c κs = entry t (first-of t (c .before .before)) .pre .1 .0 .inside
 
   sub-visit-2 : visit-lts.Need-sub-visit-2 (claims t) (visit-at t) visit.Post
   sub-visit-2 c = omega (arith, c .before .before .before .before .before .before .if3 .left)
 
   visit-requires-2 : visit-lts.Need-visit-requires-2 (claims t) (visit-at t) visit.Post
   visit-requires-2 c κs =
-      let q = c .before .before .before .before in
-      let r = read t (first-of t q) in
-      let s = start t r in
-      let d = ite-c (pool t s) (node t s) (s .pre .1 .0) _ (r .kind-of .ensures) (q .before .if4 .taken) in
+      let q = choice-no t (c .before) in
+      let s = entry t (first-of t q) in
+      let d = ite-c (pool t s) (node t s) (s .pre .1 .0) _ (kind-is t (first-of t q)) (q .before .if4 .taken) in
       rw (c .before .third .ensures) (omega (arith, s .pre .0, d .before), (d .ready, s .pre .1 .1))
 
   returns-4 : visit-lts.Need-returns-4 (claims t) (visit-at t) visit.Post
   returns-4 c =
-      let q = c .before .before .before .before .before in
+      let q = choice-no t (c .before .before) in
       let f = first-of t q in
-      let r = read t f in
-      let s = start t r in
-      no-arm (pool t s) (regs t s) (node t s) (s .args .left) (s .pre .1 .0) _ (r .kind-of .ensures) (some-left t r) (q .before .if4 .taken) (first-visited t f) (q .before .before .if3 .left)
+      let s = entry t f in
+      no-arm (pool t s) (regs t s) (node t s) (s .args .left) (s .pre .1 .0) _ (kind-is t f) (some-first t f) (q .before .if4 .taken) (first-visited t f) (q .before .before .if3 .left)
       (c .before .before .before .before .if5 .taken) (rw (c .before .before .third .ensures) at (c .visit2 .ensures))
 
   second-requires : visit-lts.Need-second-requires (claims t) (visit-at t) visit.Post
-  second-requires c κs = start t (read t (first-of t (c .before .before))) .pre .1 .0 .inside
+  second-requires c κs = entry t (first-of t (c .before .before)) .pre .1 .0 .inside
 
   sub-visit-3 : visit-lts.Need-sub-visit-3 (claims t) (visit-at t) visit.Post
   sub-visit-3 c = omega (arith, c .before .before .before .before .before .before .if3 .left)
 
   visit-requires-3 : visit-lts.Need-visit-requires-3 (claims t) (visit-at t) visit.Post
   visit-requires-3 c κs =
-      let q = c .before .before .before .before in
-      let r = read t (first-of t q) in
-      let s = start t r in
-      let d = ite-b (pool t s) (node t s) (s .pre .1 .0) _ (r .kind-of .ensures) (q .before .if4 .taken) in
+      let q = choice-yes t (c .before) in
+      let s = entry t (first-of t q) in
+      let d = ite-b (pool t s) (node t s) (s .pre .1 .0) _ (kind-is t (first-of t q)) (q .before .if4 .taken) in
       rw (c .before .second .ensures) (omega (arith, s .pre .0, d .before), (d .ready, s .pre .1 .1))
 
   returns-5 : visit-lts.Need-returns-5 (claims t) (visit-at t) visit.Post
   returns-5 c =
-      let q = c .before .before .before .before .before in
+      let q = choice-yes t (c .before .before) in
       let f = first-of t q in
-      let r = read t f in
-      let s = start t r in
-      yes-arm (pool t s) (regs t s) (node t s) (s .args .left) (s .pre .1 .0) _ (r .kind-of .ensures) (some-left t r) (q .before .if4 .taken) (first-visited t f) (q .before .before .if3 .left)
+      let s = entry t f in
+      yes-arm (pool t s) (regs t s) (node t s) (s .args .left) (s .pre .1 .0) _ (kind-is t f) (some-first t f) (q .before .if4 .taken) (first-visited t f) (q .before .before .if3 .left)
       (c .before .before .before .before .if5 .left) (rw (c .before .before .second .ensures) at (c .visit3 .ensures))
 
   is-single-requires : visit-lts.Need-is-single-requires (claims t) (visit-at t) visit.Post
@@ -113,24 +109,22 @@ module _ (t : ℕ) where
   combine-requires-2 : visit-lts.Need-combine-requires-2 (claims t) (visit-at t) visit.Post
   combine-requires-2 c κs =
       let o = c .before .before in
-      let f = first-other t (o .before) in
-      let r = read t f in
-      let s = start t r in
+      let f = first-one t o in
+      let s = entry t f in
       let e = o .before .before in (
-        (s .pre .1 .0, λ q. e .if4 .left (r .kind-of .ensures ∙ q), s .pre .1 .1),
-        (λ h. first-visited t f .value-is (omega (arith, e .before .if3 .left)), λ h q. absurd (false≢true (sym q ∙ rw (← r .kind-of .ensures) (one-is t o)))),
+        (s .pre .1 .0, λ q. e .if4 .left (kind-is t f ∙ q), s .pre .1 .1),
+        (λ h. first-visited t f .value-is (omega (arith, e .before .if3 .left)), λ h q. absurd (false≢true (sym q ∙ rw (← kind-is t f) (one-is t o)))),
       )
 
   returns-6 : visit-lts.Need-returns-6 (claims t) (visit-at t) visit.Post
   returns-6 c =
       let o = c .before .before .before in
-      let f = first-other t (o .before) in
-      let r = read t f in
-      let s = start t r in
-      after-one (pool t s) (regs t s) (node t s) (s .args .left) (s .pre .1 .0) _ (r .kind-of .ensures) (some-left t r) (is-single _ (one-is t o)) (first-visited t f) (c .combine2 .ensures)
+      let f = first-one t o in
+      let s = entry t f in
+      after-one (pool t s) (regs t s) (node t s) (s .args .left) (s .pre .1 .0) _ (kind-is t f) (some-first t f) (is-single _ (one-is t o)) (first-visited t f) (c .combine2 .ensures)
 
   second-requires-2 : visit-lts.Need-second-requires-2 (claims t) (visit-at t) visit.Post
-  second-requires-2 c κs = start t (read t (first-other t (c .before .before))) .pre .1 .0 .inside
+  second-requires-2 c κs = entry t (first-other t (c .before .before)) .pre .1 .0 .inside
 
   sub-visit-4 : visit-lts.Need-sub-visit-4 (claims t) (visit-at t) visit.Post
   sub-visit-4 c = omega (arith, c .before .before .before .before .before .before .if3 .left)
@@ -138,44 +132,37 @@ module _ (t : ℕ) where
   visit-requires-4 : visit-lts.Need-visit-requires-4 (claims t) (visit-at t) visit.Post
   visit-requires-4 c κs =
       let w = c .before .before .before in
-      let r = read t (first-other t (w .before)) in
-      let s = start t r in
-      let d = pair-b (pool t s) (node t s) (s .pre .1 .0) _ (r .kind-of .ensures) (two-is t w) in
+      let f = first-other t (w .before) in
+      let s = entry t f in
+      let d = pair-b (pool t s) (node t s) (s .pre .1 .0) _ (kind-is t f) (two-is t w) in
       rw (c .before .second2 .ensures) (omega (arith, s .pre .0, d .before), (d .ready, s .pre .1 .1))
 
   returns-7 : visit-lts.Need-returns-7 (claims t) (visit-at t) visit.Post
   returns-7 c =
       let v = c .before in
-      let w = v .before .before .before .before in
-      let f = first-other t (w .before) in
-      let r = read t f in
-      let s = start t r in
-      second-spent (pool t s) (regs t s) (node t s) (s .args .left) (s .pre .1 .0) _ (r .kind-of .ensures) (some-left t r) (two-is t w) (first-visited t f) (w .before .before .before .if3 .left)
-      (second-visited t v) (c .if7 .taken)
+      let f = first-before t v in
+      let s = entry t f in
+      second-spent (pool t s) (regs t s) (node t s) (s .args .left) (s .pre .1 .0) _ (kind-is t f) (some-first t f) (two-is t (two t v)) (first-visited t f)
+      (two t v .before .before .before .if3 .left) (second-visited t v) (c .if7 .taken)
 
   combine-requires-3 : visit-lts.Need-combine-requires-3 (claims t) (visit-at t) visit.Post
   combine-requires-3 c κs =
       let e = c .before .before in
       let v = e .before in
-      let w = v .before .before .before .before in
-      let f = first-other t (w .before) in
-      let r = read t f in
-      let s = start t r in
-      let i = w .before .before in (
-        (s .pre .1 .0, λ q. i .if4 .left (r .kind-of .ensures ∙ q), s .pre .1 .1),
+      let f = first-before t v in
+      let s = entry t f in
+      let i = two t v .before .before in (
+        (s .pre .1 .0, λ q. i .if4 .left (kind-is t f ∙ q), s .pre .1 .1),
         (λ h. first-visited t f .value-is (omega (arith, i .before .if3 .left)), λ h q. second-visited t v .value-is (omega (arith, e .if7 .left))),
       )
 
   returns-8 : visit-lts.Need-returns-8 (claims t) (visit-at t) visit.Post
   returns-8 c =
-      let e = c .before .before .before in
-      let v = e .before in
-      let w = v .before .before .before .before in
-      let f = first-other t (w .before) in
-      let r = read t f in
-      let s = start t r in
-      after-two (pool t s) (regs t s) (node t s) (s .args .left) (s .pre .1 .0) _ (r .kind-of .ensures) (some-left t r) (two-is t w) (first-visited t f) (w .before .before .before .if3 .left)
-      (second-visited t v) (c .combine3 .ensures)
+      let v = c .before .before .before .before in
+      let f = first-before t v in
+      let s = entry t f in
+      after-two (pool t s) (regs t s) (node t s) (s .args .left) (s .pre .1 .0) _ (kind-is t f) (some-first t f) (two-is t (two t v)) (first-visited t f)
+      (two t v .before .before .before .if3 .left) (second-visited t v) (c .combine3 .ensures)
 
 pub +visit-spec : {M : Type 1} → statement M
 +visit-spec =

@@ -4,6 +4,7 @@ use mathlib.Core.List.{List}
 use mathlib.Core.Path.{_≡_, sym, _∙_}
 use Prim.Native.Nat.{ℕ, _-_, _<_, _≤_}
 use native.Mathlib.Omega.{arith}
+use Rattle.pool.specs.Node.{kindNumber}
 use Rattle.text_parts.specs.Text.{single}
 use Rattle.text_parts.proofs.Operands.{Pair, is-single, is-pair}
 use Rattle.pool_fields.specs.Fields.{opA, opB}
@@ -77,11 +78,20 @@ module _ (t : ℕ) where
   abbrev pub read : First → Read
   read c = c .before .before .before .before .before
 
+  abbrev pub entry : First → Start
+  entry c = start (read c)
+
+  pub kind-is : (c : First) → kind (read c) ≡ kindNumber (pool (entry c)) (node (entry c))
+  kind-is c = read c .kind-of .ensures
+
   pub some-left : (c : Read) → 0 < start c .args .left
   some-left c = omega (arith, c .before .before .if1 .left)
 
+  pub some-first : (c : First) → 0 < entry c .args .left
+  some-first c = some-left (read c)
+
   pub first-visited : (c : First)
-      → let s = start (read c) in Visited (pool s) (regs s) (opA (pool s) (node s)) (s .args .left - 1) (c .visit .last .1 .1 .1 .0) (c .visit .result)
+      → let s = entry c in Visited (pool s) (regs s) (opA (pool s) (node s)) (s .args .left - 1) (c .visit .last .1 .1 .1 .0) (c .visit .result)
   first-visited c = rw (c .before .before .first .ensures) at (c .visit .ensures)
 
   pub from-three : (c : First) → 3 ≤ kind (read c)
@@ -94,6 +104,12 @@ module _ (t : ℕ) where
   abbrev pub first-of : Choice → First
   first-of c = c .before .before .before
 
+  abbrev pub choice-no : visit-lts.After-third (claims t) (visit-at t) visit.Post → Choice
+  choice-no c = c .before .before .before
+
+  abbrev pub choice-yes : visit-lts.After-second (claims t) (visit-at t) visit.Post → Choice
+  choice-yes c = c .before .before .before
+
   -- no Ite
   abbrev pub Other : Type 0
   Other = visit-lts.After-is-single (claims t) (visit-at t) visit.Post
@@ -104,24 +120,31 @@ module _ (t : ℕ) where
   abbrev pub One : Type 0
   One = visit-lts.Then6 (claims t) (visit-at t) visit.Post
 
-  pub one-is : (c : One) → single (kind (read (first-other (c .before)))) ≡ true
+  abbrev pub first-one : One → First
+  first-one c = first-other (c .before)
+
+  pub one-is : (c : One) → single (kind (read (first-one c))) ≡ true
   one-is c = sym (c .before .is-single .ensures) ∙ c .if6 .taken
 
   abbrev pub Two : Type 0
   Two = visit-lts.Else6 (claims t) (visit-at t) visit.Post
 
-  pub two-is : (c : Two) → Pair (kind (read (first-other (c .before))))
-  two-is c =
-      let f = first-other (c .before) in
-      is-pair _ (from-three f) (c .before .before .if4 .left) (sym (c .before .is-single .ensures) ∙ c .if6 .left)
+  abbrev pub first-two : Two → First
+  first-two c = first-other (c .before)
+
+  pub two-is : (c : Two) → Pair (kind (read (first-two c)))
+  two-is c = is-pair _ (from-three (first-two c)) (c .before .before .if4 .left) (sym (c .before .is-single .ensures) ∙ c .if6 .left)
 
   -- the second operand has its value
   abbrev pub Second : Type 0
   Second = visit-lts.After-visit4 (claims t) (visit-at t) visit.Post
 
+  abbrev pub two : Second → Two
+  two c = c .before .before .before .before
+
   abbrev pub first-before : Second → First
-  first-before c = first-other (c .before .before .before .before .before)
+  first-before c = first-two (two c)
 
   pub second-visited : (c : Second)
-      → let f = first-before c in let s = start (read f) in Visited (pool s) (regs s) (opB (pool s) (node s)) (f .visit .result - 1) (c .visit4 .last .1 .1 .1 .0) (c .visit4 .result)
+      → let f = first-before c in let s = entry f in Visited (pool s) (regs s) (opB (pool s) (node s)) (f .visit .result - 1) (c .visit4 .last .1 .1 .1 .0) (c .visit4 .result)
   second-visited c = rw (c .before .before .second2 .ensures) at (c .visit4 .ensures)
