@@ -47,46 +47,22 @@ add-result-5 : tie.Need-add-result-5
 add-result-5 c = search needs
 
 returns : tie.Need-returns
-returns c =
-    let l-enum-told = c in
-    let l-match = l-enum-told .before in
-    let st = l-match .before in
-    rw (l-enum-told .enum-told .given .1) refl
+returns c = rw (c .enum-told .given .1) refl
 
 returns-2 : tie.Need-returns-2
-returns-2 c =
-    let l-enum-told2 = c in
-    let l-match = l-enum-told2 .before in
-    let st = l-match .before in
-    rw (l-enum-told2 .enum-told2 .given .1) refl
+returns-2 c = rw (c .enum-told2 .given .1) refl
 
 returns-3 : tie.Need-returns-3
-returns-3 c =
-    let l-enum-told3 = c in
-    let l-match = l-enum-told3 .before in
-    let st = l-match .before in
-    rw (l-enum-told3 .enum-told3 .given .1) refl
+returns-3 c = rw (c .enum-told3 .given .1) refl
 
 returns-4 : tie.Need-returns-4
-returns-4 c =
-    let l-enum-told4 = c in
-    let l-match = l-enum-told4 .before in
-    let st = l-match .before in
-    rw (l-enum-told4 .enum-told4 .given .1) refl
+returns-4 c = rw (c .enum-told4 .given .1) refl
 
 returns-5 : tie.Need-returns-5
-returns-5 c =
-    let l-enum-told5 = c in
-    let l-match = l-enum-told5 .before in
-    let st = l-match .before in
-    rw (l-enum-told5 .enum-told5 .given .1) refl
+returns-5 c = rw (c .enum-told5 .given .1) refl
 
 returns-6 : tie.Need-returns-6
-returns-6 c =
-    let l-enum-told6 = c in
-    let l-match = l-enum-told6 .before in
-    let st = l-match .before in
-    rw (l-enum-told6 .enum-told6 .given .1) refl
+returns-6 c = rw (c .enum-told6 .given .1) refl
 
 pub exact-bits-spec : {M : Type 1} → statement M
 exact-bits-spec =

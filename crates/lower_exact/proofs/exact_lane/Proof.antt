@@ -1,7 +1,6 @@
 -- exact_lane: each kind's arm builds its exact value.
 use native.Mathlib.Omega.{arith}
-use mathlib.Core.Path.{refl}
-use mathlib.Core.Path.{subst}
+use mathlib.Core.Path.{_≡_, refl, subst}
 use Rattle.trees.specs.declared.SaturatingKind.{SaturatingKind}
 use Rattle.lower_kinds.specs.Sources.{KindIn}
 use Rattle.lower_exact.proofs.Exactly.{is-add-sub, is-halving, is-narrow, is-shift-narrow, is-multiply-high, is-unary}
@@ -9,35 +8,64 @@ use borrow.Author.Needs.{needs}
 use Rattle.lower_exact.proofs.exact_lane.Statement.{statement}
 use Rattle.lower_exact.proofs.exact_lane.Tie as tie
 
+-- ---- places: the entry from where an arm's kind is known, and that place from the arm's answer
+
+abbrev add-sub : tie.After-kind → tie.Start
+add-sub k = k .before .before .before
+
+abbrev add-sub-kind : tie.After-join → tie.After-kind
+add-sub-kind l = l .before .before .before
+
+abbrev halving : tie.After-kind2 → tie.Start
+halving k = k .before .before .before
+
+abbrev halving-kind : tie.After-exact-half → tie.After-kind2
+halving-kind l = l .before .before .before
+
+abbrev shift-narrow : tie.After-kind3 → tie.Start
+shift-narrow k = k .before .before .before
+
+abbrev shift-narrow-kind : tie.After-exact-narrow → tie.After-kind3
+shift-narrow-kind l = l .before .before .before
+
+abbrev unary : tie.After-kind4 → tie.Start
+unary k = k .before .before .before
+
+abbrev unary-kind : tie.After-exact-unary → tie.After-kind4
+unary-kind l = l .before .before .before
+
+abbrev multiply-high : tie.After-kind5 → tie.Start
+multiply-high k = k .before .before .before
+
+abbrev multiply-high-kind : tie.After-exact-high → tie.After-kind5
+multiply-high-kind l = l .before .before .before
+
+-- what the kind asks of the lane, once it is known to be kind
+in-kind : (s : tie.Start) {kind : SaturatingKind} → s .args .kind ≡ kind → KindIn kind (s .args .lane-bits)
+in-kind s e = subst (λ (k : SaturatingKind). KindIn k (s .args .lane-bits)) e (s .pre .1 .3)
+
+-- ---- needs
+
 enum-known-kind : tie.Need-enum-known-kind
 enum-known-kind c = search needs
 
 add-join : tie.Need-add-join
 add-join c =
-    let l-known-told = c .before in
-    let l-kind = l-known-told .before in
-    let l-match = l-kind .before in
-    let st = l-match .before .before in
-    omega (arith, st .pre, subst (λ (k : SaturatingKind). KindIn k (st .args .lane-bits)) (l-kind .kind .given .1) (st .pre .1 .3))
+    let s = add-sub (c .before .before) in
+    omega (arith, s .pre, in-kind s (c .before .before .kind .given .1))
 
 join-requires : tie.Need-join-requires
 join-requires c κs =
-    let l-known-told = c .before in
-    let l-kind = l-known-told .before in
-    let l-match = l-kind .before in
-    let st = l-match .before .before in
-    omega (arith, st .pre, subst (λ (k : SaturatingKind). KindIn k (st .args .lane-bits)) (l-kind .kind .given .1) (st .pre .1 .3))
+    let s = add-sub (c .before .before) in
+    omega (arith, s .pre, in-kind s (c .before .before .kind .given .1))
 
 enum-known-kind-2 : tie.Need-enum-known-kind-2
 enum-known-kind-2 c = search needs
 
 exact-half-requires : tie.Need-exact-half-requires
 exact-half-requires c κs =
-    let l-known-told2 = c .before in
-    let l-kind2 = l-known-told2 .before in
-    let l-match = l-kind2 .before in
-    let st = l-match .before .before in
-    omega (arith, st .pre, subst (λ (k : SaturatingKind). KindIn k (st .args .lane-bits)) (l-kind2 .kind2 .given .1) (st .pre .1 .3))
+    let s = halving (c .before .before) in
+    omega (arith, s .pre, in-kind s (c .before .before .kind2 .given .1))
 
 enum-told : tie.Need-enum-told
 enum-told c = search needs
@@ -47,100 +75,74 @@ enum-known-kind-3 c = search needs
 
 exact-narrow-requires : tie.Need-exact-narrow-requires
 exact-narrow-requires c κs =
-    let l-known-told3 = c .before in
-    let l-kind3 = l-known-told3 .before in
-    let l-match = l-kind3 .before in
-    let st = l-match .before .before in
-    omega (arith, st .pre, subst (λ (k : SaturatingKind). KindIn k (st .args .lane-bits)) (l-kind3 .kind3 .given .1) (st .pre .1 .3))
+    let s = shift-narrow (c .before .before) in
+    omega (arith, s .pre, in-kind s (c .before .before .kind3 .given .1))
 
 enum-known-kind-4 : tie.Need-enum-known-kind-4
 enum-known-kind-4 c = search needs
 
 exact-unary-requires : tie.Need-exact-unary-requires
 exact-unary-requires c κs =
-    let l-known-told4 = c .before in
-    let l-kind4 = l-known-told4 .before in
-    let l-match = l-kind4 .before in
-    let st = l-match .before .before in
-    omega (arith, st .pre, subst (λ (k : SaturatingKind). KindIn k (st .args .lane-bits)) (l-kind4 .kind4 .given .1) (st .pre .1 .3))
+    let s = unary (c .before .before) in
+    omega (arith, s .pre, in-kind s (c .before .before .kind4 .given .1))
 
 enum-known-kind-5 : tie.Need-enum-known-kind-5
 enum-known-kind-5 c = search needs
 
 exact-high-requires : tie.Need-exact-high-requires
 exact-high-requires c κs =
-    let l-known-told5 = c .before in
-    let l-kind5 = l-known-told5 .before in
-    let l-match = l-kind5 .before in
-    let st = l-match .before .before in
-    omega (arith, st .pre, subst (λ (k : SaturatingKind). KindIn k (st .args .lane-bits)) (l-kind5 .kind5 .given .1) (st .pre .1 .3))
+    let s = multiply-high (c .before .before) in
+    omega (arith, s .pre, in-kind s (c .before .before .kind5 .given .1))
 
 same-length : tie.Need-same-length
 same-length c = search needs
 
 returns : tie.Need-returns
 returns c =
-    let l-join = c .before .before in
-    let l-known-told = l-join .before .before in
-    let l-kind = l-known-told .before in
-    let l-match = l-kind .before in
-    let st = l-match .before .before in
-    is-add-sub (st .args .lane-bits) (st .args .signed-sources) (l-kind .kind .given .1) (l-join .join .ensures)
+    let k = add-sub-kind (c .before .before) in
+    let s = add-sub k .args in
+    is-add-sub (s .lane-bits) (s .signed-sources) (k .kind .given .1) (c .before .before .join .ensures)
 
 same-length-2 : tie.Need-same-length-2
 same-length-2 c = search needs
 
 returns-2 : tie.Need-returns-2
 returns-2 c =
-    let l-exact-half = c .before .before in
-    let l-known-told2 = l-exact-half .before .before in
-    let l-kind2 = l-known-told2 .before in
-    let l-match = l-kind2 .before in
-    let st = l-match .before .before in
-    is-halving (st .args .lane-bits) (st .args .signed-sources) (l-kind2 .kind2 .given .1) (l-exact-half .exact-half .ensures)
+    let k = halving-kind (c .before .before) in
+    let s = halving k .args in
+    is-halving (s .lane-bits) (s .signed-sources) (k .kind2 .given .1) (c .before .before .exact-half .ensures)
 
 returns-3 : tie.Need-returns-3
 returns-3 c =
-    let l-enum-told = c in
-    let l-match = l-enum-told .before in
-    let st = l-match .before .before in
-    is-narrow (st .args .lane-bits) (st .args .signed-sources) (l-enum-told .enum-told .given .1) (st .pre .1 .0) refl refl
+    let s = c .before .before .before in
+    is-narrow (s .args .lane-bits) (s .args .signed-sources) (c .enum-told .given .1) (s .pre .1 .0) refl refl
 
 same-length-3 : tie.Need-same-length-3
 same-length-3 c = search needs
 
 returns-4 : tie.Need-returns-4
 returns-4 c =
-    let l-exact-narrow = c .before .before in
-    let l-known-told3 = l-exact-narrow .before .before in
-    let l-kind3 = l-known-told3 .before in
-    let l-match = l-kind3 .before in
-    let st = l-match .before .before in
-    is-shift-narrow (st .args .lane-bits) (st .args .signed-sources) (l-kind3 .kind3 .given .1) (l-exact-narrow .exact-narrow .ensures)
+    let k = shift-narrow-kind (c .before .before) in
+    let s = shift-narrow k .args in
+    is-shift-narrow (s .lane-bits) (s .signed-sources) (k .kind3 .given .1) (c .before .before .exact-narrow .ensures)
 
 same-length-4 : tie.Need-same-length-4
 same-length-4 c = search needs
 
 returns-5 : tie.Need-returns-5
 returns-5 c =
-    let l-exact-unary = c .before .before in
-    let l-known-told4 = l-exact-unary .before .before in
-    let l-kind4 = l-known-told4 .before in
-    let l-match = l-kind4 .before in
-    let st = l-match .before .before in
-    is-unary (st .args .lane-bits) (st .args .signed-sources) (l-kind4 .kind4 .given .1) (l-exact-unary .exact-unary .ensures)
+    let k = unary-kind (c .before .before) in
+    let s = unary k .args in
+    is-unary (s .lane-bits) (s .signed-sources) (k .kind4 .given .1) (c .before .before .exact-unary .ensures)
 
 same-length-5 : tie.Need-same-length-5
 same-length-5 c = search needs
 
 returns-6 : tie.Need-returns-6
 returns-6 c =
-    let l-exact-high = c .before .before in
-    let l-known-told5 = l-exact-high .before .before in
-    let l-kind5 = l-known-told5 .before in
-    let l-match = l-kind5 .before in
-    let st = l-match .before .before in
-    is-multiply-high (st .args .lane-bits) (st .args .signed-sources) (l-kind5 .kind5 .given .1) (l-exact-high .exact-high .ensures)
+    let k = multiply-high-kind (c .before .before) in
+    let s = multiply-high k .args in
+    is-multiply-high (s .lane-bits) (s .signed-sources) (k .kind5 .given .1) (c .before .before .exact-high .ensures)
 
 pub exact-lane-spec : {M : Type 1} → statement M
 exact-lane-spec =
