@@ -25,6 +25,16 @@ positive (suc k) h f = f k refl
 abbrev operation-at-done : tie.After-arrangement-of → tie.After-operation-at
 operation-at-done c = c .before .before .before .before
 
+abbrev to-arrangement : tie.After-second-at → tie.After-arrangement-of
+to-arrangement c = c .before .before .before .before .before
+
+-- the word, from the operation and from the last field
+abbrev word : tie.After-operation-at → ℕ
+word p = p .before .args .w
+
+abbrev word-read : tie.After-second-at → ℕ
+word-read c = word (operation-at-done (to-arrangement c))
+
 operation-some : (c : tie.Else1) → 1 ≤ c .before .operation-at .result
 operation-some c = omega (arith, c .if1 .left)
 
@@ -34,36 +44,33 @@ record Arranged (w k a : ℕ) : Type 0 where
   operation-is : k ≡ operationAt w
   arrangement-is : a ≡ arrangementOf (form (opAt k) .lanes) (bits 30 30 w) (sizeAt (encoding (opAt k) .class) w)
 
-arranged : (c : tie.After-arrangement-of) → let p = c .before .before .before .before in Arranged (p .before .args .w) (p .operation-at .result) (c .arrangement-of .result)
+arranged : (c : tie.After-arrangement-of) → let p = operation-at-done c in Arranged (word p) (p .operation-at .result) (c .arrangement-of .result)
 arranged c =
     let z = c .before in
     let e = z .before .before in
     let p = e .before in
-    let w = p .before .args .w in
     let o = opAt (p .operation-at .result) in
     record {
       some = operation-some e;
       most = p .operation-at .ensures .1;
       operation-is = p .operation-at .ensures .0;
-      arrangement-is = c .arrangement-of .ensures .0 ∙ ap (λ (s : ℕ). arrangementOf (form o .lanes) (bits 30 30 w) s) (z .size-at .ensures .0);
+      arrangement-is = c .arrangement-of .ensures .0 ∙ ap (λ (s : ℕ). arrangementOf (form o .lanes) (bits 30 30 (word p)) s) (z .size-at .ensures .0);
     }
 
 abbrev read : tie.After-second-at → Instruction
 read c =
-    let r = c .before .before .before .before .before in
-    let p = r .before .before .before .before in
-    let w = p .before .args .w in
-    instruction (p .operation-at .result) (r .arrangement-of .result) (c .before .immediate-at .result) (w % 32) (bits 9 5 w) (c .second-at .result)
+    let r = to-arrangement c in
+    let w = word-read c in
+    instruction (operation-at-done r .operation-at .result) (r .arrangement-of .result) (c .before .immediate-at .result) (w % 32) (bits 9 5 w) (c .second-at .result)
 
-fields : (c : tie.After-second-at) → fieldsOf (c .before .before .before .before .before .before .before .before .before .before .args .w) ≡ read c
+fields : (c : tie.After-second-at) → fieldsOf (word-read c) ≡ read c
 fields c =
     let b = c .before .before in
     let e = b .before in
     let q = e .before in
-    let r = q .before in
-    let p = operation-at-done r in
-    let w = p .before .args .w in
-    let k = p .operation-at .result in
+    let r = to-arrangement c in
+    let w = word-read c in
+    let k = operation-at-done r .operation-at .result in
     let a = r .arrangement-of .result in
     let g = arranged r in
     let o = opAt k in
@@ -89,7 +96,7 @@ size-at-requires : tie.Need-size-at-requires
 size-at-requires c κs =
     let e = c .before in
     let p = e .before in
-    (operation-some e, p .operation-at .ensures .1, c .class-at .ensures .0 ∙ class-is (p .before .args .w) (p .operation-at .result) (operation-some e) (p .operation-at .ensures .0))
+    (operation-some e, p .operation-at .ensures .1, c .class-at .ensures .0 ∙ class-is (word p) (p .operation-at .result) (operation-some e) (p .operation-at .ensures .0))
 
 arrangement-of-requires : tie.Need-arrangement-of-requires
 arrangement-of-requires c κs = search needs
@@ -99,11 +106,10 @@ form-code-requires c κs = search needs
 
 returns-2 : tie.Need-returns-2
 returns-2 c =
-    let q = c .before in
-    let r = q .before in
+    let r = c .before .before in
     let p = operation-at-done r in
     let g = arranged r in
-    no-form (p .before .args .w) (p .operation-at .result) (r .arrangement-of .result) (g .operation-is) (g .arrangement-is) (g .some) (g .most) (sym (q .form-code .ensures) ∙ c .if2 .taken)
+    no-form (word p) (p .operation-at .result) (r .arrangement-of .result) (g .operation-is) (g .arrangement-is) (g .some) (g .most) (sym (c .before .form-code .ensures) ∙ c .if2 .taken)
 
 lane-bits-requires : tie.Need-lane-bits-requires
 lane-bits-requires c κs = search needs
@@ -127,20 +133,20 @@ returns-3 c =
 encode-word-requires : tie.Need-encode-word-requires
 encode-word-requires c κs = search needs
 
+abbrev to-number : tie.After-encode-word → tie.After-record-number
+to-number c = c .before .before
+
 returns-4 : tie.Need-returns-4
 returns-4 c =
     let e = c .before .encode-word in
-    let n = c .before .before .before .record-number in
-    let s = c .before .before .before .before in
-    let w = s .before .before .before .before .before .before .before .before .before .before .args .w in
-    let again : e .result ≡ w = omega (arith, c .if4 .taken) in
-    read-as _ (read s) (fields s) (sym (n .ensures) ∙ omega (arith, c .before .before .if3 .left)) (sym (e .ensures) ∙ again)
+    let n = to-number (c .before) in
+    let again : e .result ≡ word-read (n .before) = omega (arith, c .if4 .taken) in
+    read-as _ (read (n .before)) (fields (n .before)) (sym (n .record-number .ensures) ∙ omega (arith, c .before .before .if3 .left)) (sym (e .ensures) ∙ again)
 
 returns-5 : tie.Need-returns-5
 returns-5 c =
-    let e = c .before .encode-word in
-    let s = c .before .before .before .before in
-    other-word _ (read s) (fields s) (λ z. c .if4 .left (e .ensures ∙ z))
+    let s = to-number (c .before) .before in
+    other-word _ (read s) (fields s) (λ z. c .if4 .left (c .before .encode-word .ensures ∙ z))
 
 pub decode-word-spec : {M : Type 1} → statement M
 decode-word-spec =
