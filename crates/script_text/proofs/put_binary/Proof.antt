@@ -21,6 +21,16 @@ Inv-loop low high width buf₀ at k₀ i₀ buf k i =
 abbrev μ-loop : tie.MeasureT-loop
 μ-loop low high width buf₀ at k₀ i₀ buf k i = k
 
+abbrev entry : tie.At-loop Inv-loop μ-loop → tie.Start Inv-loop μ-loop
+entry l = l .before .before
+
+-- the next digit has a place
+inside : (c : tie.In-loop Inv-loop μ-loop) → let l = c .before .loop in let b = entry (c .before) .args .buf .now in (l .i < length b) × (length (l .buf) ≡ length b)
+inside c =
+    let l = c .before .loop in
+    let s = entry (c .before) in
+    (omega (arith, l .inv .1, c .loop-test .taken, s .pre .1 .room, binary-length (s .args .width) (wide (s .args .low) (s .args .high))), l .inv .3)
+
 loop-holds : tie.Need-loop-holds Inv-loop μ-loop
 loop-holds c =
     (refl, refl, omega arith, refl)
@@ -32,24 +42,13 @@ sub-k c =
 bit-requires : tie.Need-bit-requires Inv-loop μ-loop
 bit-requires c κs =
     let l = c .before in
-    let st = l .before .before in
-    (omega (arith, l .loop .inv .2, st .pre .0, c .loop-test .taken), omega arith, omega arith)
+    (omega (arith, l .loop .inv .2, entry l .pre .0, c .loop-test .taken), omega arith, omega arith)
 
 slice-write-buf : tie.Need-slice-write-buf Inv-loop μ-loop
-slice-write-buf c =
-    let at-loop-test = c .before in
-    let at2 = at-loop-test .before in
-    let l = at2 in
-    let st = l .before .before in
-    omega (arith, l .loop .inv .1, l .loop .inv .3, at-loop-test .loop-test .taken, st .pre .1 .room, binary-length (st .args .width) (wide (st .args .low) (st .args .high)))
+slice-write-buf c = omega (arith, inside (c .before))
 
 add-i : tie.Need-add-i Inv-loop μ-loop
-add-i c =
-    let at-loop-test = c .before in
-    let at2 = at-loop-test .before in
-    let l = at2 in
-    let st = l .before .before in
-    omega (arith, l .loop .inv .1, l .loop .inv .3, at-loop-test .loop-test .taken, st .pre .1 .room, binary-length (st .args .width) (wide (st .args .low) (st .args .high)))
+add-i c = omega (arith, inside (c .before))
 
 loop-less : tie.Need-loop-less Inv-loop μ-loop
 loop-less c =
@@ -57,15 +56,13 @@ loop-less c =
 
 loop-again : tie.Need-loop-again Inv-loop μ-loop
 loop-again c =
-    let at-loop-test = c .before in
-    let at2 = at-loop-test .before in
-    let l = at2 in
-    let st = l .before .before in
-    let t = at-loop-test .loop-test .taken in (
-      next-bit (l .loop .buf) (l .loop .i) (l .loop .k) (wide (st .args .low) (st .args .high)) (c .bit .result) t (c .bit .ensures) ∙ l .loop .inv .0,
-      omega (arith, l .loop .inv .1, t),
-      omega (arith, l .loop .inv .2, t),
-      simp length-set (l .loop .inv .3),
+    let t = c .before .loop-test .taken in
+    let l = c .before .before .loop in
+    let a = entry (c .before .before) .args in (
+      next-bit (l .buf) (l .i) (l .k) (wide (a .low) (a .high)) (c .bit .result) t (c .bit .ensures) ∙ l .inv .0,
+      omega (arith, l .inv .1, t),
+      omega (arith, l .inv .2, t),
+      simp length-set (l .inv .3),
     )
 
 same-length : tie.Need-same-length Inv-loop μ-loop
@@ -75,10 +72,8 @@ same-length c =
 returns : tie.Need-returns Inv-loop μ-loop
 unfolding binary
 returns c =
-    let at-loop = c .before in
-    let at-args = at-loop .before .before in
-    let l = at-loop .loop in
-    let a = at-args .args in
+    let l = c .before .loop in
+    let a = entry (c .before) .args in
     let z : l .k ≡ 0 = omega (arith, c .loop-test .left) in
     record {
       next-is = omega (arith, l .inv .1, z, binary-length (a .width) (wide (a .low) (a .high)));

@@ -17,37 +17,35 @@ Inv-loop buf₀ at r₀ end₀ buf r end = Wrote buf₀ at (upTo r declarationLi
 abbrev μ-loop : tie.MeasureT-loop
 μ-loop buf₀ at r₀ end₀ buf r end = 32 - r
 
+abbrev entry : tie.At-loop Inv-loop μ-loop → tie.Start Inv-loop μ-loop
+entry c = c .before .before
+
+abbrev turn : tie.After-put-declaration Inv-loop μ-loop → tie.In-loop Inv-loop μ-loop
+turn p = p .before .before
+
 loop-holds : tie.Need-loop-holds Inv-loop μ-loop
 loop-holds c =
     let st = c .before in (wrote-first declarationLine (st .args .buf .now) (st .args .at), omega arith, refl)
 
 put-declaration-requires : tie.Need-put-declaration-requires Inv-loop μ-loop
 put-declaration-requires c κs =
-    let at-loop-test = c .before in
-    let at-loop = at-loop-test .before in
-    let st = at-loop .before .before in
-    let l = at-loop .loop in
-    let t = at-loop-test .loop-test .taken in
-    room-next declarationLine 32 (l .r) t (st .pre) (l .inv .0)
+    let t = c .before in
+    let l = t .before .loop in
+    room-next declarationLine 32 (l .r) (t .loop-test .taken) (entry (t .before) .pre) (l .inv .0)
 
 add-r : tie.Need-add-r Inv-loop μ-loop
-add-r c =
-    let at-loop-test = c .before .before .before .before in
-    omega (arith, at-loop-test .loop-test .taken)
+add-r c = omega (arith, turn (c .before .before) .loop-test .taken)
 
 loop-less : tie.Need-loop-less Inv-loop μ-loop
-loop-less c =
-    let at-loop-test = c .before .before .before .before in
-    omega (arith, at-loop-test .loop-test .taken)
+loop-less c = omega (arith, turn (c .before .before) .loop-test .taken)
 
 loop-again : tie.Need-loop-again Inv-loop μ-loop
 loop-again c =
-    let at-put-declaration = c .before .before in
-    let at-loop-test = at-put-declaration .before .before in
-    let at-loop = at-loop-test .before in
-    let l = at-loop .loop in
-    let w = at-put-declaration .put-declaration .ensures in
-    (wrote-next declarationLine (l .r) (l .inv .0) w, omega (arith, at-loop-test .loop-test .taken), wrote-length w ∙ l .inv .2)
+    let p = c .before .before in
+    let t = turn p in
+    let o = t .before .loop in
+    let w = p .put-declaration .ensures in
+    (wrote-next declarationLine (o .r) (o .inv .0) w, omega (arith, t .loop-test .taken), wrote-length w ∙ o .inv .2)
 
 same-length : tie.Need-same-length Inv-loop μ-loop
 same-length c =
@@ -55,11 +53,10 @@ same-length c =
 
 returns : tie.Need-returns Inv-loop μ-loop
 returns c =
-    let at-loop = c .before in
-    let st = at-loop .before .before in
-    let l = at-loop .loop in
+    let a = entry (c .before) .args in
+    let l = c .before .loop in
     let e : l .r ≡ 32 = omega (arith, l .inv .1, c .loop-test .left) in
-    subst (λ (j : ℕ). Wrote (st .args .buf .now) (st .args .at) (upTo j declarationLine) (l .end) (l .buf)) e (l .inv .0)
+    subst (λ (j : ℕ). Wrote (a .buf .now) (a .at) (upTo j declarationLine) (l .end) (l .buf)) e (l .inv .0)
 
 pub put-declarations-spec : {M : Type 1} → statement M
 put-declarations-spec =
