@@ -47,15 +47,20 @@ pub keys-differ : (k l : Key) → sameKey k l ≡ false → k ≡ l → ⊥
 keys-differ k l h e = false≢true (sym h ∙ ap (sameKey k) (sym e) ∙ same-self k)
 
 -- a key from its parts
-pub key-made : (ws class : List ℕ) (n kind a b c : ℕ) (p q r : Bool) → kind ≡ kindNumber ws n → p ≡ hasA kind → q ≡ hasB kind → r ≡ hasC kind
-    → a ≡ classIf p class (aOf (wordAt ws n 1)) → b ≡ classIf q class (bOf (wordAt ws n 1)) → c ≡ classIf r class (cOf (wordAt ws n 1) % 65536)
-    → _≡_ {A = Key} (record { word = getD ws (4 * n) 0; a = a; b = b; c = c; x = wordAt ws n 2; y = wordAt ws n 3 }) (keyOf ws class n)
+pub key-made : (ws class : List ℕ) (n kind a b c ca cb cc x y : ℕ) (p q r : Bool) → kind ≡ kindNumber ws n → p ≡ hasA kind → q ≡ hasB kind → r ≡ hasC kind
+    → a ≡ aOf (wordAt ws n 1) → b ≡ bOf (wordAt ws n 1) → c ≡ cOf (wordAt ws n 1)
+    → ca ≡ classIf p class a → cb ≡ classIf q class b → cc ≡ classIf r class (c % 65536)
+    → x ≡ wordAt ws n 2 → y ≡ wordAt ws n 3
+    → _≡_ {A = Key} (record { word = getD ws (4 * n) 0; a = ca; b = cb; c = cc; x = x; y = y }) (keyOf ws class n)
 unfolding keyOf
-key-made ws class n kind a b c p q r ek ep eq er ea eb ec =
-    let fa = ea ∙ ap (λ (t : Bool). classIf t class (aOf (wordAt ws n 1))) (ep ∙ ap hasA ek) in
-    let fb = eb ∙ ap (λ (t : Bool). classIf t class (bOf (wordAt ws n 1))) (eq ∙ ap hasB ek) in
-    let fc = ec ∙ ap (λ (t : Bool). classIf t class (cOf (wordAt ws n 1) % 65536)) (er ∙ ap hasC ek) in
-    λ i. record { word = getD ws (4 * n) 0; a = fa i; b = fb i; c = fc i; x = wordAt ws n 2; y = wordAt ws n 3 }
+key-made ws class n kind a b c ca cb cc x y p q r ek ep eq er ea eb ec fa fb fc ex ey =
+    let hp : p ≡ hasA (kindNumber ws n) = ep ∙ ap hasA ek in
+    let hq : q ≡ hasB (kindNumber ws n) = eq ∙ ap hasB ek in
+    let hr : r ≡ hasC (kindNumber ws n) = er ∙ ap hasC ek in
+    let ga = fa ∙ (λ i. classIf (hp i) class (ea i)) in
+    let gb = fb ∙ (λ i. classIf (hq i) class (eb i)) in
+    let gc = fc ∙ (λ i. classIf (hr i) class (ec i % 65536)) in
+    λ i. record { word = getD ws (4 * n) 0; a = ga i; b = gb i; c = gc i; x = ex i; y = ey i }
 
 -- ---- the slots of a key
 

@@ -1,6 +1,11 @@
 // Which nodes of a pool unfold to the same tree (document 02, S-13). The Rust has no counterpart.
 use pool::Node;
 use pool::words::kind_of;
+use pool_fields::first;
+use pool_fields::high;
+use pool_fields::low;
+use pool_fields::second;
+use pool_fields::third;
 use pool_operands::has_a;
 use pool_operands::has_b;
 use pool_operands::has_c;
@@ -27,31 +32,41 @@ fn wide(x: u16) -> u64
     x as u64
 }
 
+fn class_of(class: &[u16; 65536], m: Node) -> u64
+    requires { ⌜ m .0 < 65536 ⌝ }
+    ensures { λ r. ⌜ (r ≡ getD (now (class .entry)) (m .0) 0) × (r < 65536) ⌝ }
+{
+    let at = m.0;
+    wide(class[at])
+}
+
 // The class of the node m, 0 where there is no such operand.
-fn class_if(there: bool, class: &[u16; 65536], m: u64) -> u64
-    requires { ⌜ m < 65536 ⌝ }
-    ensures { λ r. ⌜ (r ≡ classIf there (now (class .entry)) m) × (r < 65536) ⌝ }
+fn class_if(there: bool, class: &[u16; 65536], m: Node) -> u64
+    requires { ⌜ m .0 < 65536 ⌝ }
+    ensures { λ r. ⌜ (r ≡ classIf there (now (class .entry)) (m .0)) × (r < 65536) ⌝ }
 {
     if there {
-        return wide(class[m as usize]);
+        return class_of(class, m);
     }
     0
 }
 
-fn key_of(pool: &[u64], class: &[u16; 65536], n: usize) -> Key
-    requires { ⌜ 4 * n + 3 < length (now pool) ⌝ }
-    ensures { λ r. ⌜ (r ≡ keyOf (now (pool .entry)) (now (class .entry)) n) × (r .a < 65536) × (r .b < 65536) × (r .c < 65536) ⌝ }
+fn key_of(pool: &[u64], class: &[u16; 65536], n: Node) -> Key
+    requires { ⌜ 4 * n .0 + 3 < length (now pool) ⌝ }
+    ensures { λ r. ⌜ (r ≡ keyOf (now (pool .entry)) (now (class .entry)) (n .0)) × (r .a < 65536) × (r .b < 65536) × (r .c < 65536) ⌝ }
 {
-    let at = 4 * n;
-    let w1 = pool[at + 1];
-    let kind = kind_of(pool, Node(n));
+    let at = 4 * n.0;
+    let word = pool[at];
+    let kind = kind_of(pool, n);
+    // the third operand of a valid pool's node is below 65,536
+    let m = Node(third(pool, n).0 % 65536);
     Key {
-        word: pool[at],
-        a: class_if(has_a(kind), class, w1 % 65536),
-        b: class_if(has_b(kind), class, w1 / 65536 % 65536),
-        c: class_if(has_c(kind), class, w1 / 4294967296 % 65536),
-        x: pool[at + 2],
-        y: pool[at + 3],
+        word,
+        a: class_if(has_a(kind), class, first(pool, n)),
+        b: class_if(has_b(kind), class, second(pool, n)),
+        c: class_if(has_c(kind), class, m),
+        x: low(pool, n),
+        y: high(pool, n),
     }
 }
 
@@ -189,16 +204,17 @@ fn find(
     requires { ⌜ Low (slotsOf (now first) (now second) (now ways)) n × Rises (slotsOf (now first) (now second) (now ways)) ⌝ }
     ensures { λ r. ⌜ Found (now (pool .entry)) (now (class .entry)) (slotsOf (now (first .entry)) (now (second .entry)) (now (ways .entry))) n r ⌝ }
 {
-    let k = key_of(pool, class, n);
+    let k = key_of(pool, class, Node(n));
     let spread = spread(k);
     let mut slot = bucket(k);
     let mut level = 0;
     let mut link = link_at(first, second, ways, slot);
     while 0 < link {
-        if same(key_of(pool, class, link - 1), k) {
+        let m = link - 1;
+        if same(key_of(pool, class, Node(m)), k) {
             return Place { link, slot };
         }
-        slot = next(k, spread, link - 1, level);
+        slot = next(k, spread, m, level);
         level += 1;
         link = link_at(first, second, ways, slot);
     }

@@ -1,6 +1,9 @@
 // The nodes beneath a root in the order in which a left-first walk finishes them, each tree once (document 02, S-13).
 use pool::Node;
 use pool::words::kind_of;
+use pool_fields::first;
+use pool_fields::second;
+use pool_fields::third;
 use pool_operands::has_a;
 use pool_operands::has_b;
 use pool_operands::has_c;
@@ -17,11 +20,12 @@ fn wide(x: u16) -> usize
     x as usize
 }
 
-fn class_of(class: &[u16; 65536], m: u64) -> usize
-    requires { ⌜ m < 65536 ⌝ }
-    ensures { λ r. ⌜ (r ≡ getD (now (class .entry)) m 0) × (r < 65536) ⌝ }
+fn class_of(class: &[u16; 65536], m: Node) -> usize
+    requires { ⌜ m .0 < 65536 ⌝ }
+    ensures { λ r. ⌜ (r ≡ getD (now (class .entry)) (m .0) 0) × (r < 65536) ⌝ }
 {
-    wide(class[m as usize])
+    let at = m.0;
+    wide(class[at])
 }
 
 // m where it is an operand that has no number yet, else what was found before.
@@ -36,20 +40,16 @@ fn pick(there: bool, m: usize, number: &[u16; 65536], rest: usize) -> usize
 }
 
 // The first operand's class of node n that has no number yet; 65,535 where each has one.
-fn next_open(pool: &[u64], class: &[u16; 65536], number: &[u16; 65536], n: usize) -> usize
-    requires { ⌜ 4 * n + 3 < length (now pool) ⌝ }
-    ensures { λ r. ⌜ r ≡ nextOpen (now (pool .entry)) (now (class .entry)) (now (number .entry)) n ⌝ }
+fn next_open(pool: &[u64], class: &[u16; 65536], number: &[u16; 65536], n: Node) -> usize
+    requires { ⌜ 4 * n .0 + 3 < length (now pool) ⌝ }
+    ensures { λ r. ⌜ r ≡ nextOpen (now (pool .entry)) (now (class .entry)) (now (number .entry)) (n .0) ⌝ }
 {
-    let w1 = pool[4 * n + 1];
-    let kind = kind_of(pool, Node(n));
-    let c = pick(
-        has_c(kind),
-        class_of(class, w1 / 4294967296 % 65536),
-        number,
-        65535,
-    );
-    let b = pick(has_b(kind), class_of(class, w1 / 65536 % 65536), number, c);
-    pick(has_a(kind), class_of(class, w1 % 65536), number, b)
+    let kind = kind_of(pool, n);
+    // the third operand of a valid pool's node is below 65,536
+    let m = Node(third(pool, n).0 % 65536);
+    let c = pick(has_c(kind), class_of(class, m), number, 65535);
+    let b = pick(has_b(kind), class_of(class, second(pool, n)), number, c);
+    pick(has_a(kind), class_of(class, first(pool, n)), number, b)
 }
 
 // Where the walk stands: nodes with a number, nodes that wait for an operand.
@@ -77,7 +77,7 @@ fn turn(
 {
     let top = s.depth - 1;
     let n = wide(stack[top]);
-    let m = next_open(pool, class, number, n);
+    let m = next_open(pool, class, number, Node(n));
     if m == 65535 {
         let k = s.count;
         number[n] = k as u16;

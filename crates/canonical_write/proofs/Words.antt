@@ -210,14 +210,20 @@ written-more ws root j old mid new W O =
         rw q (O .word r g)
 
 -- word 1 from its parts
-pub operands-made : (ws class number : List ℕ) (n kind : ℕ) (a b c : Bool) (x y z : ℕ) → kind ≡ kindNumber ws n → a ≡ hasA kind → b ≡ hasB kind → c ≡ hasC kind
-    → x ≡ numberIf a class number (aOf (wordAt ws n 1))
-    → y ≡ numberIf b class number (bOf (wordAt ws n 1))
-    → z ≡ numberIf c class number (cOf (wordAt ws n 1) % 65536)
+pub operands-made : (ws class number : List ℕ) (n kind : ℕ) (p q r : Bool) (a b c x y z : ℕ) → kind ≡ kindNumber ws n → p ≡ hasA kind → q ≡ hasB kind → r ≡ hasC kind
+    → a ≡ aOf (wordAt ws n 1)
+    → b ≡ bOf (wordAt ws n 1)
+    → c ≡ cOf (wordAt ws n 1)
+    → x ≡ numberIf p class number a
+    → y ≡ numberIf q class number b
+    → z ≡ numberIf r class number (c % 65536)
     → x + 65536 * y + 4294967296 * z ≡ newOperands ws class number n
 unfolding newOperands
-operands-made ws class number n kind a b c x y z ek ea eb ec fx fy fz =
-    let gx = fx ∙ ap (λ (t : Bool). numberIf t class number (aOf (wordAt ws n 1))) (ea ∙ ap hasA ek) in
-    let gy = fy ∙ ap (λ (t : Bool). numberIf t class number (bOf (wordAt ws n 1))) (eb ∙ ap hasB ek) in
-    let gz = fz ∙ ap (λ (t : Bool). numberIf t class number (cOf (wordAt ws n 1) % 65536)) (ec ∙ ap hasC ek) in
+operands-made ws class number n kind p q r a b c x y z ek ep eq er ea eb ec fx fy fz =
+    let hp : p ≡ hasA (kindNumber ws n) = ep ∙ ap hasA ek in
+    let hq : q ≡ hasB (kindNumber ws n) = eq ∙ ap hasB ek in
+    let hr : r ≡ hasC (kindNumber ws n) = er ∙ ap hasC ek in
+    let gx = fx ∙ (λ i. numberIf (hp i) class number (ea i)) in
+    let gy = fy ∙ (λ i. numberIf (hq i) class number (eb i)) in
+    let gz = fz ∙ (λ i. numberIf (hr i) class number (ec i % 65536)) in
     λ i. operandWord (gx i) (gy i) (gz i)

@@ -4,6 +4,9 @@ use canonical_order::walk;
 use pool::Node;
 use pool::words::kind_of;
 use pool_check::node_number;
+use pool_fields::first;
+use pool_fields::second;
+use pool_fields::third;
 use pool_operands::has_a;
 use pool_operands::has_b;
 use pool_operands::has_c;
@@ -35,26 +38,27 @@ fn entry(a: &[u16; 65536], m: u64) -> u64
 }
 
 // The new number of an operand, 0 where there is none.
-fn number_if(there: bool, class: &[u16; 65536], number: &[u16; 65536], m: u64) -> u64
-    requires { ⌜ m < 65536 ⌝ }
-    ensures { λ r. ⌜ (r ≡ numberIf there (now (class .entry)) (now (number .entry)) m) × (r < 65536) ⌝ }
+fn number_if(there: bool, class: &[u16; 65536], number: &[u16; 65536], m: Node) -> u64
+    requires { ⌜ m .0 < 65536 ⌝ }
+    ensures { λ r. ⌜ (r ≡ numberIf there (now (class .entry)) (now (number .entry)) (m .0)) × (r < 65536) ⌝ }
 {
     if there {
-        return entry(number, entry(class, m));
+        return entry(number, entry(class, m.0 as u64));
     }
     0
 }
 
 // Word 1 of a node, with the new numbers of its operands.
-fn new_operands(pool: &[u64], class: &[u16; 65536], number: &[u16; 65536], n: usize) -> u64
-    requires { ⌜ 4 * n + 3 < length (now pool) ⌝ }
-    ensures { λ r. ⌜ r ≡ newOperands (now (pool .entry)) (now (class .entry)) (now (number .entry)) n ⌝ }
+fn new_operands(pool: &[u64], class: &[u16; 65536], number: &[u16; 65536], n: Node) -> u64
+    requires { ⌜ 4 * n .0 + 3 < length (now pool) ⌝ }
+    ensures { λ r. ⌜ r ≡ newOperands (now (pool .entry)) (now (class .entry)) (now (number .entry)) (n .0) ⌝ }
 {
-    let w1 = pool[4 * n + 1];
-    let kind = kind_of(pool, Node(n));
-    let a = number_if(has_a(kind), class, number, w1 % 65536);
-    let b = number_if(has_b(kind), class, number, w1 / 65536 % 65536);
-    let c = number_if(has_c(kind), class, number, w1 / 4294967296 % 65536);
+    let kind = kind_of(pool, n);
+    // the third operand of a valid pool's node is below 65,536
+    let m = Node(third(pool, n).0 % 65536);
+    let a = number_if(has_a(kind), class, number, first(pool, n));
+    let b = number_if(has_b(kind), class, number, second(pool, n));
+    let c = number_if(has_c(kind), class, number, m);
     a + 65536 * b + 4294967296 * c
 }
 
@@ -77,7 +81,7 @@ fn write_one(
 {
     let n = entry(order, j as u64) as usize;
     let at = 4 * n;
-    let w1 = new_operands(pool, class, number, n);
+    let w1 = new_operands(pool, class, number, Node(n));
     pool::push(out, j, pool[at], w1, pool[at + 2], pool[at + 3]);
 }
 

@@ -3,20 +3,14 @@ use borrow.Author.Needs.{needs}
 use Rattle.canonical_classes.proofs.class_if.Statement.{statement}
 use Rattle.canonical_classes.proofs.class_if.Tie as tie
 
-mul-wide : tie.Need-mul-wide
-mul-wide c = search needs
-
-element-copy-out-wide : tie.Need-element-copy-out-wide
-element-copy-out-wide c = search needs
-
-wide-requires : tie.Need-wide-requires
-wide-requires c κs = search needs
+class-of-requires : tie.Need-class-of-requires
+class-of-requires c κs = search needs
 
 returns : tie.Need-returns
-returns c = (rw (c .before .before .if1 .taken) (c .wide .ensures .0), c .wide .ensures .1)
+returns c = (rw (c .before .if1 .taken) (c .class-of .ensures .0), c .class-of .ensures .1)
 
 returns-2 : tie.Need-returns-2
 returns-2 c = search needs
 
 pub class-if-spec : {M : Type 1} → statement M
-class-if-spec = tie.close (tie.spec mul-wide element-copy-out-wide wide-requires returns returns-2)
+class-if-spec = tie.close (tie.spec class-of-requires returns returns-2)

@@ -64,8 +64,8 @@ loop-holds c =
     let e = at-bucket .bucket .ensures in
     (c .link-at .ensures .0, rw (e .0) (search-first (a .pool .now) (a .class .now) (slotsIn s) (a .n) (at-key .key-of .result) (rw (e .0) at (e .1))))
 
-sub-key-of : tie.Need-sub-key-of Inv-loop μ-loop
-sub-key-of c = search needs
+sub-m : tie.Need-sub-m Inv-loop μ-loop
+sub-m c = search needs
 
 key-of-requires-2 : tie.Need-key-of-requires-2 Inv-loop μ-loop
 key-of-requires-2 c κs = omega (arith, link-low (c .before), c .loop-test .taken, entry (c .before) .pre .0)
@@ -90,9 +90,6 @@ returns c =
       comes = λ z. absurd (no z);
       leads = λ z. absurd (no z);
     }
-
-sub-next : tie.Need-sub-next Inv-loop μ-loop
-sub-next c = search needs
 
 next-requires : tie.Need-next-requires Inv-loop μ-loop
 next-requires c κs =
@@ -171,11 +168,10 @@ find-spec =
     bucket-requires
     link-at-requires
     loop-holds
-    sub-key-of
+    sub-m
     key-of-requires-2
     same-requires
     returns
-    sub-next
     next-requires
     add-level
     link-at-requires-2

@@ -1,4 +1,5 @@
 -- `key_of` gives `keyOf`, and the three classes in it are below 65,536.
+use native.Mathlib.Omega.{arith}
 use Rattle.canonical_classes.proofs.Search.{key-made}
 use borrow.Author.Needs.{needs}
 use Rattle.canonical_classes.proofs.key_of.Statement.{statement}
@@ -7,35 +8,35 @@ use Rattle.canonical_classes.proofs.key_of.Tie as tie
 mul-at : tie.Need-mul-at
 mul-at c = search needs
 
-add-w1 : tie.Need-add-w1
-add-w1 c = search needs
+mul-word : tie.Need-mul-word
+mul-word c = search needs
 
-mul-w1 : tie.Need-mul-w1
-mul-w1 c = search needs
-
-shared-slice-read-w1 : tie.Need-shared-slice-read-w1
-shared-slice-read-w1 c = search needs
+shared-slice-read-word : tie.Need-shared-slice-read-word
+shared-slice-read-word c = search needs
 
 kind-of-requires : tie.Need-kind-of-requires
 kind-of-requires c κs = search needs
 
-mul-t7 : tie.Need-mul-t7
-mul-t7 c = search needs
-
-shared-slice-read-t10 : tie.Need-shared-slice-read-t10
-shared-slice-read-t10 c = search needs
+third-requires : tie.Need-third-requires
+third-requires c κs = search needs
 
 has-a-requires : tie.Need-has-a-requires
 has-a-requires c κs = search needs
 
+first-requires : tie.Need-first-requires
+first-requires c κs = search needs
+
 class-if-requires : tie.Need-class-if-requires
-class-if-requires c κs = search needs
+class-if-requires c κs = omega (arith, c .first .ensures)
 
 has-b-requires : tie.Need-has-b-requires
 has-b-requires c κs = search needs
 
+second-requires : tie.Need-second-requires
+second-requires c κs = search needs
+
 class-if-requires-2 : tie.Need-class-if-requires-2
-class-if-requires-2 c κs = search needs
+class-if-requires-2 c κs = omega (arith, c .second .ensures)
 
 has-c-requires : tie.Need-has-c-requires
 has-c-requires c κs = search needs
@@ -43,35 +44,28 @@ has-c-requires c κs = search needs
 class-if-requires-3 : tie.Need-class-if-requires-3
 class-if-requires-3 c κs = search needs
 
-add-t8 : tie.Need-add-t8
-add-t8 c = search needs
+low-requires : tie.Need-low-requires
+low-requires c κs = search needs
 
-mul-t24 : tie.Need-mul-t24
-mul-t24 c = search needs
-
-shared-slice-read-t26 : tie.Need-shared-slice-read-t26
-shared-slice-read-t26 c = search needs
-
-add-t27 : tie.Need-add-t27
-add-t27 c = search needs
-
-mul-t28 : tie.Need-mul-t28
-mul-t28 c = search needs
-
-shared-slice-read-t30 : tie.Need-shared-slice-read-t30
-shared-slice-read-t30 c = search needs
+high-requires : tie.Need-high-requires
+high-requires c κs = search needs
 
 returns : tie.Need-returns
 returns c =
-    let at-class-if3 = c .before .before in
+    let at-low = c .before in
+    let at-class-if3 = at-low .before in
     let at-has-c = at-class-if3 .before in
     let at-class-if2 = at-has-c .before in
-    let at-has-b = at-class-if2 .before in
+    let at-second = at-class-if2 .before in
+    let at-has-b = at-second .before in
     let at-class-if = at-has-b .before in
-    let at-has-a = at-class-if .before in
-    let at-kind-of = at-has-a .before .before in (
-      key-made _ _ _ (at-kind-of .kind-of .result) _ _ _ _ _ _ (at-kind-of .kind-of .ensures) (at-has-a .has-a .ensures) (at-has-b .has-b .ensures) (at-has-c .has-c .ensures)
-          (at-class-if .class-if .ensures .0) (at-class-if2 .class-if2 .ensures .0) (at-class-if3 .class-if3 .ensures .0),
+    let at-first = at-class-if .before in
+    let at-has-a = at-first .before in
+    let at-third = at-has-a .before .before in
+    let at-kind-of = at-third .before in (
+      key-made _ _ _ (at-kind-of .kind-of .result) _ _ _ _ _ _ _ _ _ _ _ (at-kind-of .kind-of .ensures) (at-has-a .has-a .ensures) (at-has-b .has-b .ensures) (at-has-c .has-c .ensures)
+          (at-first .first .ensures) (at-second .second .ensures) (at-third .third .ensures) (at-class-if .class-if .ensures .0) (at-class-if2 .class-if2 .ensures .0)
+          (at-class-if3 .class-if3 .ensures .0) (at-low .low .ensures) (c .high .ensures),
       at-class-if .class-if .ensures .1,
       at-class-if2 .class-if2 .ensures .1,
       at-class-if3 .class-if3 .ensures .1,
@@ -82,22 +76,18 @@ key-of-spec =
     tie.close
     (tie.spec
     mul-at
-    add-w1
-    mul-w1
-    shared-slice-read-w1
+    mul-word
+    shared-slice-read-word
     kind-of-requires
-    mul-t7
-    shared-slice-read-t10
+    third-requires
     has-a-requires
+    first-requires
     class-if-requires
     has-b-requires
+    second-requires
     class-if-requires-2
     has-c-requires
     class-if-requires-3
-    add-t8
-    mul-t24
-    shared-slice-read-t26
-    add-t27
-    mul-t28
-    shared-slice-read-t30
+    low-requires
+    high-requires
     returns)

@@ -60,8 +60,8 @@ mul-order c = search needs
 element-write-order : tie.Need-element-write-order
 element-write-order c = search needs
 
-add-t19 : tie.Need-add-t19
-add-t19 c = search needs
+add-t20 : tie.Need-add-t20
+add-t20 c = search needs
 
 returns : tie.Need-returns
 returns c =
@@ -120,7 +120,7 @@ turn-spec =
     cast-order
     mul-order
     element-write-order
-    add-t19
+    add-t20
     returns
     cast-stack
     add-stack

@@ -1,35 +1,33 @@
 -- `new_operands` gives `newOperands`: word 1 with the new number of each operand that the kind has.
+use native.Mathlib.Omega.{arith}
 use Rattle.canonical_write.proofs.Words.{operands-made}
 use borrow.Author.Needs.{needs}
 use Rattle.canonical_write.proofs.new_operands.Statement.{statement}
 use Rattle.canonical_write.proofs.new_operands.Tie as tie
 
-mul-w1 : tie.Need-mul-w1
-mul-w1 c = search needs
-
-add-w1 : tie.Need-add-w1
-add-w1 c = search needs
-
-mul-w1-2 : tie.Need-mul-w1-2
-mul-w1-2 c = search needs
-
-shared-slice-read-w1 : tie.Need-shared-slice-read-w1
-shared-slice-read-w1 c = search needs
-
 kind-of-requires : tie.Need-kind-of-requires
 kind-of-requires c κs = search needs
+
+third-requires : tie.Need-third-requires
+third-requires c κs = search needs
 
 has-a-requires : tie.Need-has-a-requires
 has-a-requires c κs = search needs
 
+first-requires : tie.Need-first-requires
+first-requires c κs = search needs
+
 number-if-requires : tie.Need-number-if-requires
-number-if-requires c κs = search needs
+number-if-requires c κs = omega (arith, c .first .ensures)
 
 has-b-requires : tie.Need-has-b-requires
 has-b-requires c κs = search needs
 
+second-requires : tie.Need-second-requires
+second-requires c κs = search needs
+
 number-if-requires-2 : tie.Need-number-if-requires-2
-number-if-requires-2 c κs = search needs
+number-if-requires-2 c κs = omega (arith, c .second .ensures)
 
 has-c-requires : tie.Need-has-c-requires
 has-c-requires c κs = search needs
@@ -51,25 +49,30 @@ add-result-2 c = search needs
 
 returns : tie.Need-returns
 returns c =
-    let at-has-b = c .before .before .before in
+    let at-has-c = c .before in
+    let at-number-if2 = at-has-c .before in
+    let at-second = at-number-if2 .before in
+    let at-has-b = at-second .before in
     let at-number-if = at-has-b .before in
-    let at-has-a = at-number-if .before in
-    let at-kind-of = at-has-a .before in
-    operands-made _ _ _ _ (at-kind-of .kind-of .result) _ _ _ _ _ _ (at-kind-of .kind-of .ensures) (at-has-a .has-a .ensures) (at-has-b .has-b .ensures) (c .before .has-c .ensures)
-    (at-number-if .number-if .ensures .0) (c .before .before .number-if2 .ensures .0) (c .number-if3 .ensures .0)
+    let at-first = at-number-if .before in
+    let at-has-a = at-first .before in
+    let at-third = at-has-a .before .before in
+    let at-kind-of = at-third .before in
+    operands-made _ _ _ _ (at-kind-of .kind-of .result) _ _ _ _ _ _ _ _ _ (at-kind-of .kind-of .ensures) (at-has-a .has-a .ensures) (at-has-b .has-b .ensures) (at-has-c .has-c .ensures)
+    (at-first .first .ensures) (at-second .second .ensures) (at-third .third .ensures) (at-number-if .number-if .ensures .0) (at-number-if2 .number-if2 .ensures .0)
+    (c .number-if3 .ensures .0)
 
 pub new-operands-spec : {M : Type 1} → statement M
 new-operands-spec =
     tie.close
     (tie.spec
-    mul-w1
-    add-w1
-    mul-w1-2
-    shared-slice-read-w1
     kind-of-requires
+    third-requires
     has-a-requires
+    first-requires
     number-if-requires
     has-b-requires
+    second-requires
     number-if-requires-2
     has-c-requires
     number-if-requires-3
