@@ -4,6 +4,8 @@
 use pool::Node;
 use pool::words::set_of;
 use pool::words::width_of;
+use pool_fields::cut_hi;
+use pool_fields::cut_lo;
 use pool_fields::first;
 use pool_fields::high;
 use pool_fields::low;
@@ -132,21 +134,21 @@ pub fn extract_ok(p: &[u64], n: Node) -> bool
     requires { ⌜ (4 * n .0 + 3 < length (now p)) × (n .0 < none) ⌝ }
     ensures { λ r. ⌜ r ≡ okAs Kind.extract (now (p .entry)) (n .0) ⌝ }
 {
-    let hi = low(p, n);
-    let lo = high(p, n);
+    let hi = cut_hi(p, n);
+    let lo = cut_lo(p, n);
     // A and, above it, B and C, which have to be 0
     let rest = operand_word(p, n);
     if n.0 as u64 <= rest {
         return false;
     }
-    if hi < lo {
+    if hi.0 < lo.0 {
         return false;
     }
     let a = Node(rest as usize);
-    if width_of(p, a) <= hi {
+    if width_of(p, a) <= hi.0 {
         return false;
     }
-    (width_of(p, n) == hi - lo + 1) & (set_of(p, n) == set_of(p, a))
+    (width_of(p, n) == hi.0 - lo.0 + 1) & (set_of(p, n) == set_of(p, a))
 }
 
 // A ZeroExtend or a SignExtend.
