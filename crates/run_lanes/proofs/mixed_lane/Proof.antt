@@ -5,6 +5,16 @@ use borrow.Author.Needs.{needs}
 use Rattle.run_lanes.proofs.mixed_lane.Statement.{statement}
 use Rattle.run_lanes.proofs.mixed_lane.Tie as tie
 
+-- ---- from the answer back to the operands, of a signed d and of an unsigned one
+
+abbrev signed-operands : tie.After-limit → tie.After-read2
+signed-operands c = c .before .before
+
+abbrev unsigned-operands : tie.After-limit2 → tie.After-read4
+unsigned-operands c = c .before .before
+
+-- ---- needs
+
 read-requires : tie.Need-read-requires
 read-requires c κs = search needs
 
@@ -19,11 +29,9 @@ limit-requires c κs = search needs
 
 returns : tie.Need-returns
 returns c =
-    let at-read = c .before .before in
-    let at-read2 = at-read .before in
-    let at-if = at-read2 .before in
-    rw (at-if .if1 .taken) (c .limit .ensures _ (fitting (omega arith)
-    (c .before .join .ensures 65 _ _ (omega arith) (at-read2 .read .ensures) (at-read .read2 .ensures))))
+    let second = signed-operands c in
+    rw (second .before .before .if1 .taken) (c .limit .ensures _ (fitting (omega arith)
+    (c .before .join .ensures 65 _ _ (omega arith) (second .before .read .ensures) (second .read2 .ensures))))
 
 read-requires-3 : tie.Need-read-requires-3
 read-requires-3 c κs = search needs
@@ -39,11 +47,9 @@ limit-requires-2 c κs = search needs
 
 returns-2 : tie.Need-returns-2
 returns-2 c =
-    let at-read = c .before .before in
-    let at-read2 = at-read .before in
-    let at-if = at-read2 .before in
-    rw (at-if .if1 .left) (c .limit2 .ensures _ (fitting (omega arith)
-    (c .before .join2 .ensures 65 _ _ (omega arith) (at-read2 .read3 .ensures) (at-read .read4 .ensures))))
+    let second = unsigned-operands c in
+    rw (second .before .before .if1 .left) (c .limit2 .ensures _ (fitting (omega arith)
+    (c .before .join2 .ensures 65 _ _ (omega arith) (second .before .read3 .ensures) (second .read4 .ensures))))
 
 pub mixed-lane-spec : {M : Type 1} → statement M
 mixed-lane-spec =

@@ -3,7 +3,7 @@ use native.Mathlib.Omega.{arith}
 use mathlib.Core.Path.{_≡_, refl, ap, _∙_}
 use Rattle.run_lanes.proofs.Counts.{reversed-more, times-bit, next-power}
 use lib.Pow.{pow-mono}
-use Prim.Native.Nat.{ℕ, _+_, _-_, _^_, _<_, _≤_}
+use Prim.Native.Nat.{ℕ, _+_, _-_, _*_, _^_, _<_, _≤_}
 use Rattle.neon.specs.Arm.{bitAt, lanes}
 use Rattle.run_lanes.proofs.bits.reversed.Statement.{statement}
 use Rattle.run_lanes.proofs.bits.reversed.Tie as tie
@@ -13,6 +13,17 @@ Inv-loop n a r₀ j₀ r j = (j ≤ n) × (r ≡ lanes 1 j (λ i. bitAt (n - 1 -
 
 abbrev μ-loop : tie.MeasureT-loop
 μ-loop n a r₀ j₀ r j = n - j
+
+abbrev turn : tie.After-power Inv-loop μ-loop → tie.At-loop Inv-loop μ-loop
+turn c = c .before .before .before
+
+-- with one bit more, the bits so far are below the next power, which is within a word
+grown : (c : tie.After-power Inv-loop μ-loop) → let l = turn c .loop in
+    (l .r + c .before .bit .result * c .power .result < 2 ^ (l .j + 1)) × (2 ^ (l .j + 1) ≤ 2 ^ 64)
+grown c =
+    let b = c .before .bit in
+    let l = turn c .loop in
+    (omega (arith, l .inv .2, times-bit (b .result) (c .power .result) (b .ensures .1), c .power .ensures, next-power (l .j)), pow-mono {i = l .j + 1} {j = 64} (omega arith))
 
 loop-holds : tie.Need-loop-holds Inv-loop μ-loop
 loop-holds c = (omega arith, unfold lanes in refl, omega arith)
@@ -30,30 +41,10 @@ power-requires : tie.Need-power-requires Inv-loop μ-loop
 power-requires c κs = omega arith
 
 mul-r : tie.Need-mul-r Inv-loop μ-loop
-mul-r c =
-    let at-bit = c .before in
-    let at-loop = at-bit .before .before in
-    omega (
-      arith,
-      times-bit (at-bit .bit .result) (c .power .result) (at-bit .bit .ensures .1),
-      c .power .ensures,
-      next-power (at-loop .loop .j),
-      pow-mono {i = at-loop .loop .j + 1} {j = 64} (omega arith),
-    )
+mul-r c = omega (arith, grown c)
 
 add-r : tie.Need-add-r Inv-loop μ-loop
-add-r c =
-    let at-bit = c .before in
-    let at-loop = at-bit .before .before in
-    omega (
-      arith,
-      at-loop .loop .inv .2,
-      times-bit (at-bit .bit .result) (c .power .result) (at-bit .bit .ensures .1),
-      c .power .ensures,
-      next-power
-          (at-loop .loop .j),
-      pow-mono {i = at-loop .loop .j + 1} {j = 64} (omega arith),
-    )
+add-r c = omega (arith, grown c)
 
 add-j : tie.Need-add-j Inv-loop μ-loop
 add-j c = omega arith
@@ -63,21 +54,10 @@ loop-less c = omega arith
 
 loop-again : tie.Need-loop-again Inv-loop μ-loop
 loop-again c =
-    let at-bit = c .before in
-    let at-loop = at-bit .before .before in
-    let s = at-loop .before in (
-      omega arith,
-      reversed-more (λ i. bitAt (s .args .n - 1 - i) (s .args .a)) (at-loop .loop .j) (at-loop .loop .inv .1) (at-bit .bit .ensures .0)
-          (c .power .ensures),
-      omega (
-        arith,
-        at-loop .loop .inv .2,
-        times-bit (at-bit .bit .result) (c .power .result) (at-bit .bit .ensures .1),
-        c .power .ensures,
-        next-power (at-loop .loop .j),
-        pow-mono {i = at-loop .loop .j + 1} {j = 64} (omega arith),
-      ),
-    )
+    let b = c .before .bit in
+    let l = turn c .loop in
+    let a = turn c .before .args in
+    (omega arith, reversed-more (λ i. bitAt (a .n - 1 - i) (a .a)) (l .j) (l .inv .1) (b .ensures .0) (c .power .ensures), grown c .0)
 
 returns : tie.Need-returns Inv-loop μ-loop
 returns c =
