@@ -28,19 +28,44 @@ start c = c .before .before .before
 abbrev kind : tie.After-kind-of → ℕ
 kind c = c .kind-of .result
 
--- an earlier node has a place, and its length is known
-held : (s : tie.Start) {m : ℕ} → m < node s → Kept (s .args .lengths .now) m
-held s l = kept (s .pre .1 .1) (s .pre .1 .0) l
+-- ---- places: the entry from a node that is no leaf, and where it is found to be none
 
-known : (s : tie.Start) {m : ℕ} → m < node s → getD (s .args .lengths .now) m 0 ≡ min (length (text (pool s) m)) (s .args .b)
-known s {m} l = s .pre .1 .1 .at m l
+abbrev entry : tie.Else1 → tie.Start
+entry e = start (e .before)
+
+abbrev operator : tie.After-two-lengths → tie.Else1
+operator t = t .before .before
+
+abbrev range : tie.After-length-at → tie.Then3
+range l = l .before .before
+
+abbrev range-inner : tie.After-length-at → tie.Else1
+range-inner l = range l .before .before
+
+abbrev extension : tie.After-length-at2 → tie.Then4
+extension l = l .before .before
+
+abbrev extension-inner : tie.After-length-at2 → tie.Else1
+extension-inner l = extension l .before .before .before
+
+abbrev joined : tie.After-two-lengths2 → tie.Else1
+joined t = t .before .before .before .before
+
+-- ---- what is known there
+
+-- an earlier node has a place, and its length is known
+held : (e : tie.Else1) {m : ℕ} → m < node (entry e) → Kept (entry e .args .lengths .now) m
+held e l = let s = entry e in kept (s .pre .1 .1) (s .pre .1 .0) l
+
+known : (e : tie.Else1) {m : ℕ} → m < node (entry e) → let s = entry e in getD (s .args .lengths .now) m 0 ≡ min (length (text (pool s) m)) (s .args .b)
+known e {m} l = entry e .pre .1 .1 .at m l
 
 -- a kind from 3 on has a first operand, and one that is not single a second
-one : (c : tie.Else1) → let s = start (c .before) in opA (pool s) (node s) < node s
-one c = let r = c .before in let s = start r in first-less (pool s) (node s) (s .pre .0) _ (r .kind-of .ensures) (c .if1 .left)
+one : (e : tie.Else1) → let s = entry e in opA (pool s) (node s) < node s
+one e = let s = entry e in first-less (pool s) (node s) (s .pre .0) _ (e .before .kind-of .ensures) (e .if1 .left)
 
-two : (c : tie.Else1) → single (kind (c .before)) ≡ false → let s = start (c .before) in opB (pool s) (node s) < node s
-two c f = let r = c .before in let s = start r in second-less (pool s) (node s) (s .pre .0) _ (r .kind-of .ensures) (c .if1 .left) f
+two : (e : tie.Else1) → single (kind (e .before)) ≡ false → let s = entry e in opB (pool s) (node s) < node s
+two e f = let s = entry e in second-less (pool s) (node s) (s .pre .0) _ (e .before .kind-of .ensures) (e .if1 .left) f
 
 -- an operator
 operator-is : (c : tie.Then2) → single (kind (c .before .before)) ≡ false
@@ -49,6 +74,15 @@ operator-is c = not-single {k = kind (c .before .before)} (λ e. omega (arith, e
 -- an Ite or a Concat
 joins-is : (c : tie.Else4) → single (kind (c .before .before .before .before)) ≡ false
 joins-is c = not-single (c .before .if3 .left) (c .if4 .left)
+
+-- an Ite's third operand
+three : (c : tie.Then5) → let s = entry (joined (c .before)) in opC (pool s) (node s) < node s
+three c =
+    let e = joined (c .before) in
+    let s = entry e in
+    ite-c (pool s) (node s) (s .pre .0) _ (e .before .kind-of .ensures) (c .if5 .taken) .before
+
+-- ---- needs
 
 kind-of-requires : tie.Need-kind-of-requires
 kind-of-requires c κs = search needs
@@ -63,7 +97,7 @@ returns : tie.Need-returns
 returns c = search needs
 
 two-lengths-requires : tie.Need-two-lengths-requires
-two-lengths-requires c κs = let e = c .before in let s = start (e .before) in (s .pre .0 .inside, (held s (one e), held s (two e (operator-is c))))
+two-lengths-requires c κs = let e = c .before in (entry e .pre .0 .inside, (held e (one e), held e (two e (operator-is c))))
 
 operator-characters-requires : tie.Need-operator-characters-requires
 operator-characters-requires c κs = search needs
@@ -71,118 +105,98 @@ operator-characters-requires c κs = search needs
 add-least : tie.Need-add-least
 add-least c =
     let t = c .before in
-    let o = t .before in
-    let e = o .before in
-    let s = start (e .before) in
-    omega (arith, t .two-lengths .ensures, c .operator-characters .ensures .1, held s (one e) .small, held s (two e (operator-is o)) .small)
+    let e = operator t in
+    omega (arith, t .two-lengths .ensures, c .operator-characters .ensures .1, held e (one e) .small, held e (two e (operator-is (t .before))) .small)
 
 least-requires-2 : tie.Need-least-requires-2
 least-requires-2 c κs = search needs
 
 returns-2 : tie.Need-returns-2
 returns-2 c =
-    let a = c .before in
-    let t = a .before in
-    let o = t .before in
-    let e = o .before in
-    let r = e .before in
-    let s = start r in
-    let z = pair-size (pool s) (node s) (s .pre .0) _ (r .kind-of .ensures) (an-operator (e .if1 .left) (o .if2 .taken)) in
-    omega (arith, c .least2 .ensures, t .two-lengths .ensures, a .operator-characters .ensures .0, known s (one e), known s (two e (operator-is o)), z)
+    let t = c .before .before in
+    let e = operator t in
+    let s = entry e in
+    let z = pair-size (pool s) (node s) (s .pre .0) _ (e .before .kind-of .ensures) (an-operator (e .if1 .left) (t .before .if2 .taken)) in
+    omega
+    (arith, c .least2 .ensures, t .two-lengths .ensures, c .before .operator-characters .ensures .0, known e (one e), known e (two e (operator-is (t .before))), z)
 
 first-requires : tie.Need-first-requires
 first-requires c κs = search needs
 
 length-at-requires : tie.Need-length-at-requires
-length-at-requires c κs = let e = c .before .before .before in rw (c .first .ensures) (held (start (e .before)) (one e) .below)
+length-at-requires c κs = let e = c .before .before .before in rw (c .first .ensures) (held e (one e) .below)
 
 range-length-requires : tie.Need-range-length-requires
 range-length-requires c κs =
-    let i = c .before .before in
-    let r = i .before .before .before in
-    (start r .pre .0, sym (r .kind-of .ensures) ∙ i .if3 .taken)
+    let e = range-inner c in
+    (entry e .pre .0, sym (e .before .kind-of .ensures) ∙ range c .if3 .taken)
 
 add-least-2 : tie.Need-add-least-2
 add-least-2 c =
     let l = c .before in
-    let e = l .before .before .before .before in
-    omega (arith, held (start (e .before)) (one e) .small, rw (l .before .first .ensures) at (l .length-at .ensures), c .range-length .ensures .1)
+    let e = range-inner l in
+    omega (arith, held e (one e) .small, rw (l .before .first .ensures) at (l .length-at .ensures), c .range-length .ensures .1)
 
 least-requires-3 : tie.Need-least-requires-3
 least-requires-3 c κs = search needs
 
 returns-3 : tie.Need-returns-3
 returns-3 c =
-    let a = c .before in
-    let l = a .before in
-    let i = l .before .before in
-    let e = i .before .before in
-    let r = e .before in
-    let s = start r in
-    let x = rw (← r .kind-of .ensures) at (a .range-length .ensures .0) in
-    let z = single-size (pool s) (node s) (s .pre .0) _ (r .kind-of .ensures) (a-range (i .if3 .taken)) in
-    omega (arith, c .least3 .ensures, known s (one e), rw (l .before .first .ensures) at (l .length-at .ensures), x, z)
+    let l = c .before .before in
+    let e = range-inner l in
+    let s = entry e in
+    let x = rw (← e .before .kind-of .ensures) at (c .before .range-length .ensures .0) in
+    let z = single-size (pool s) (node s) (s .pre .0) _ (e .before .kind-of .ensures) (a-range (range l .if3 .taken)) in
+    omega (arith, c .least3 .ensures, known e (one e), rw (l .before .first .ensures) at (l .length-at .ensures), x, z)
 
 first-requires-2 : tie.Need-first-requires-2
 first-requires-2 c κs = search needs
 
 length-at-requires-2 : tie.Need-length-at-requires-2
-length-at-requires-2 c κs = let e = c .before .before .before .before in rw (c .first2 .ensures) (held (start (e .before)) (one e) .below)
+length-at-requires-2 c κs = let e = c .before .before .before .before in rw (c .first2 .ensures) (held e (one e) .below)
 
 extension-length-requires : tie.Need-extension-length-requires
 extension-length-requires c κs =
-    let i = c .before .before in
-    let r = i .before .before .before .before in
-    (start r .pre .0, rw (← r .kind-of .ensures) (i .if4 .taken))
+    let e = extension-inner c in
+    (entry e .pre .0, rw (← e .before .kind-of .ensures) (extension c .if4 .taken))
 
 add-least-3 : tie.Need-add-least-3
 add-least-3 c =
     let l = c .before in
-    let e = l .before .before .before .before .before in
-    omega (arith, held (start (e .before)) (one e) .small, rw (l .before .first2 .ensures) at (l .length-at2 .ensures), c .extension-length .ensures .1)
+    let e = extension-inner l in
+    omega (arith, held e (one e) .small, rw (l .before .first2 .ensures) at (l .length-at2 .ensures), c .extension-length .ensures .1)
 
 least-requires-4 : tie.Need-least-requires-4
 least-requires-4 c κs = search needs
 
 returns-4 : tie.Need-returns-4
 returns-4 c =
-    let a = c .before in
-    let l = a .before in
-    let i = l .before .before in
-    let e = i .before .before .before in
-    let r = e .before in
-    let s = start r in
-    let x = rw (← r .kind-of .ensures) at (a .extension-length .ensures .0) in
-    let z = single-size (pool s) (node s) (s .pre .0) _ (r .kind-of .ensures) (an-extension (i .if4 .taken)) in
-    omega (arith, c .least4 .ensures, known s (one e), rw (l .before .first2 .ensures) at (l .length-at2 .ensures), x, z)
+    let l = c .before .before in
+    let e = extension-inner l in
+    let s = entry e in
+    let x = rw (← e .before .kind-of .ensures) at (c .before .extension-length .ensures .0) in
+    let z = single-size (pool s) (node s) (s .pre .0) _ (e .before .kind-of .ensures) (an-extension (extension l .if4 .taken)) in
+    omega (arith, c .least4 .ensures, known e (one e), rw (l .before .first2 .ensures) at (l .length-at2 .ensures), x, z)
 
 two-lengths-requires-2 : tie.Need-two-lengths-requires-2
-two-lengths-requires-2 c κs =
-    let e = c .before .before .before in
-    let s = start (e .before) in
-    (s .pre .0 .inside, (held s (one e), held s (two e (joins-is c))))
+two-lengths-requires-2 c κs = let e = c .before .before .before in (entry e .pre .0 .inside, (held e (one e), held e (two e (joins-is c))))
 
 third-requires : tie.Need-third-requires
 third-requires c κs = search needs
 
--- an Ite's third operand
-three : (c : tie.Then5) → let s = start (c .before .before .before .before .before .before) in opC (pool s) (node s) < node s
-three c = let r = c .before .before .before .before .before .before in let s = start r in ite-c (pool s) (node s) (s .pre .0) _ (r .kind-of .ensures) (c .if5 .taken) .before
-
 length-at-requires-3 : tie.Need-length-at-requires-3
 length-at-requires-3 c κs =
     let i = c .before in
-    rw (c .third .ensures) (held (start (i .before .before .before .before .before .before)) (three i) .below)
+    rw (c .third .ensures) (held (joined (i .before)) (three i) .below)
 
 -- the three lengths have a sum
 sum : (c : tie.After-length-at3) → c .before .before .before .two-lengths2 .result + c .length-at3 .result ≤ 12884901888
 sum c =
     let i = c .before .before in
     let t = i .before in
-    let e = t .before .before .before .before in
-    let s = start (e .before) in
+    let e = joined t in
     let z = rw (c .before .third .ensures) at (c .length-at3 .ensures) in
-    omega (arith, t .two-lengths2 .ensures, z, held s (one e) .small, held s (two e (joins-is (t .before))) .small, held s (three i) .small)
+    omega (arith, t .two-lengths2 .ensures, z, held e (one e) .small, held e (two e (joins-is (t .before))) .small, held e (three i) .small)
 
 add-least-4 : tie.Need-add-least-4
 add-least-4 c = omega (arith, sum c)
@@ -198,19 +212,17 @@ returns-5 c =
     let l = c .before in
     let i = l .before .before in
     let t = i .before in
-    let e = t .before .before .before .before in
-    let r = e .before in
-    let s = start r in
+    let e = joined t in
+    let s = entry e in
     let x = rw (l .before .third .ensures) at (l .length-at3 .ensures) in
-    let z = ite-size (pool s) (node s) (s .pre .0) _ (r .kind-of .ensures) (i .if5 .taken) in
-    omega (arith, c .least5 .ensures, t .two-lengths2 .ensures, x, known s (one e), known s (two e (joins-is (t .before))), known s (three i), z)
+    let z = ite-size (pool s) (node s) (s .pre .0) _ (e .before .kind-of .ensures) (i .if5 .taken) in
+    omega (arith, c .least5 .ensures, t .two-lengths2 .ensures, x, known e (one e), known e (two e (joins-is (t .before))), known e (three i), z)
 
 add-least-6 : tie.Need-add-least-6
 add-least-6 c =
     let t = c .before in
-    let e = t .before .before .before .before in
-    let s = start (e .before) in
-    omega (arith, t .two-lengths2 .ensures, held s (one e) .small, held s (two e (joins-is (t .before))) .small)
+    let e = joined t in
+    omega (arith, t .two-lengths2 .ensures, held e (one e) .small, held e (two e (joins-is (t .before))) .small)
 
 least-requires-6 : tie.Need-least-requires-6
 least-requires-6 c κs = search needs
@@ -220,12 +232,11 @@ returns-6 c =
     let i = c .before in
     let t = i .before in
     let j = t .before in
-    let e = j .before .before .before in
-    let r = e .before in
-    let s = start r in
-    let k : kind r ≡ 17 = omega (arith, j .before .before .if2 .left, j .before .if3 .left, j .if4 .left, i .if5 .left) in
-    let z = pair-size (pool s) (node s) (s .pre .0) _ (r .kind-of .ensures) (a-concat k) in
-    omega (arith, c .least6 .ensures, t .two-lengths2 .ensures, known s (one e), known s (two e (joins-is j)), concat-own k, z)
+    let e = joined t in
+    let s = entry e in
+    let k : kind (e .before) ≡ 17 = omega (arith, j .before .before .if2 .left, j .before .if3 .left, j .if4 .left, i .if5 .left) in
+    let z = pair-size (pool s) (node s) (s .pre .0) _ (e .before .kind-of .ensures) (a-concat k) in
+    omega (arith, c .least6 .ensures, t .two-lengths2 .ensures, known e (one e), known e (two e (joins-is j)), concat-own k, z)
 
 pub known-length-spec : {M : Type 1} → statement M
 known-length-spec =
