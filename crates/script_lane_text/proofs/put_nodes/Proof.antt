@@ -17,38 +17,36 @@ Inv-loop p count buf₀ at n₀ end₀ buf n end = Wrote buf₀ at (upTo n (line
 abbrev μ-loop : tie.MeasureT-loop
 μ-loop p count buf₀ at n₀ end₀ buf n end = count - n
 
+abbrev entry : tie.At-loop Inv-loop μ-loop → tie.Start Inv-loop μ-loop
+entry c = c .before .before .before
+
+abbrev turn : tie.After-put-node Inv-loop μ-loop → tie.In-loop Inv-loop μ-loop
+turn p = p .before .before
+
 loop-holds : tie.Need-loop-holds Inv-loop μ-loop
 loop-holds c =
     let st = c .before .before in (wrote-first (linesAt (st .args .p .now)) (st .args .buf .now) (st .args .at), omega arith, refl)
 
 put-node-requires : tie.Need-put-node-requires Inv-loop μ-loop
 put-node-requires c κs =
-    let at-loop-test = c .before in
-    let at-loop = at-loop-test .before in
-    let st = at-loop .before .before .before in
-    let l = at-loop .loop in
-    let t = at-loop-test .loop-test .taken in
-    (st .pre .0 (l .n) t, room-next (linesAt (st .args .p .now)) (st .args .count) (l .n) t (st .pre .1) (l .inv .0))
+    let t = c .before in
+    let s = entry (t .before) in
+    let l = t .before .loop in
+    (s .pre .0 (l .n) (t .loop-test .taken), room-next (linesAt (s .args .p .now)) (s .args .count) (l .n) (t .loop-test .taken) (s .pre .1) (l .inv .0))
 
 add-n : tie.Need-add-n Inv-loop μ-loop
-add-n c =
-    let at-loop-test = c .before .before .before .before in
-    omega (arith, at-loop-test .loop-test .taken)
+add-n c = omega (arith, turn (c .before .before) .loop-test .taken)
 
 loop-less : tie.Need-loop-less Inv-loop μ-loop
-loop-less c =
-    let at-loop-test = c .before .before .before .before in
-    omega (arith, at-loop-test .loop-test .taken)
+loop-less c = omega (arith, turn (c .before .before) .loop-test .taken)
 
 loop-again : tie.Need-loop-again Inv-loop μ-loop
 loop-again c =
-    let at-put-node = c .before .before in
-    let at-loop-test = at-put-node .before .before in
-    let at-loop = at-loop-test .before in
-    let st = at-loop .before .before .before in
-    let l = at-loop .loop in
-    let w = at-put-node .put-node .ensures in
-    (wrote-next (linesAt (st .args .p .now)) (l .n) (l .inv .0) w, omega (arith, at-loop-test .loop-test .taken), wrote-length w ∙ l .inv .2)
+    let p = c .before .before in
+    let t = turn p in
+    let o = t .before .loop in
+    let w = p .put-node .ensures in
+    (wrote-next (linesAt (entry (t .before) .args .p .now)) (o .n) (o .inv .0) w, omega (arith, t .loop-test .taken), wrote-length w ∙ o .inv .2)
 
 same-length : tie.Need-same-length Inv-loop μ-loop
 same-length c =
@@ -56,11 +54,10 @@ same-length c =
 
 returns : tie.Need-returns Inv-loop μ-loop
 returns c =
-    let at-loop = c .before in
-    let st = at-loop .before .before .before in
-    let l = at-loop .loop in
-    let e : l .n ≡ (st .args .count) = omega (arith, l .inv .1, c .loop-test .left) in
-    subst (λ (j : ℕ). Wrote (st .args .buf .now) (st .args .at) (upTo j (linesAt (st .args .p .now))) (l .end) (l .buf)) e (l .inv .0)
+    let a = entry (c .before) .args in
+    let l = c .before .loop in
+    let e : l .n ≡ (a .count) = omega (arith, l .inv .1, c .loop-test .left) in
+    subst (λ (j : ℕ). Wrote (a .buf .now) (a .at) (upTo j (linesAt (a .p .now))) (l .end) (l .buf)) e (l .inv .0)
 
 pub put-nodes-spec : {M : Type 1} → statement M
 put-nodes-spec =
