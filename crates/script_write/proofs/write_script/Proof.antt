@@ -5,75 +5,74 @@ use native.Mathlib.Omega.{arith}
 use lib.ListN.{length}
 use Rattle.script_meaning.specs.Script.{scriptOf}
 use Rattle.script_write.proofs.Answers.{short, fits, first-number, refused, written}
-use Rattle.script_length.proofs.Answers.{good, few, all-named, below}
+use Rattle.script_length.proofs.Answers.{Good, good, few, all-named, below}
 use borrow.Author.Needs.{needs}
 use Rattle.script_write.proofs.write_script.Statement.{statement}
 use Rattle.script_write.proofs.write_script.Tie as tie
+
+-- ---- places, and what is known there
+
+abbrev entry : tie.After-script-number → tie.Start
+entry c = c .before .before .before
+
+abbrev start : tie.After-measure → tie.Start
+start c = entry (c .before .before)
+
+-- no refusal applies but the buffer's
+none : (c : tie.Else1) → let a = entry (c .before) .args in Good (a .pool .now) (a .count) (a .a) (a .b)
+none c =
+    let a = entry (c .before) .args in
+    good (a .pool .now) (a .count) (a .a) (a .b) 0 (omega (arith, c .before .script-number .ensures, c .if1 .left))
+
+-- the whole script fits the buffer
+room : (c : tie.Else2) → let a = start (c .before) .args in length (scriptOf (a .pool .now) (a .count) (a .a) (a .b)) ≤ length (a .buffer .now)
+room c = omega (arith, c .before .measure .ensures, c .if2 .left)
+
+-- ---- needs
 
 script-number-requires : tie.Need-script-number-requires
 script-number-requires c κs = search needs
 
 returns : tie.Need-returns
 returns c =
-    let at-script-number = c .before in
-    let st = at-script-number .before .before .before in
-    refused (st .args .pool .now) (st .args .count) (st .args .a) (st .args .b) (st .args .buffer .now) (first-number (st .args .pool .now) (st .args .count)
-    (st .args .a) (st .args .b) _ (at-script-number .script-number .ensures) (c .if1 .taken)) (c .if1 .taken)
+    let l = c .before in
+    let a = entry l .args in
+    refused (a .pool .now) (a .count) (a .a) (a .b) (a .buffer .now) (first-number (a .pool .now) (a .count) (a .a) (a .b) _ (l .script-number .ensures) (c .if1 .taken)) (c .if1 .taken)
 
 measure-requires : tie.Need-measure-requires
 measure-requires c κs =
-    let at-script-number = c .before in
-    let st = at-script-number .before .before .before in
-    let g = good (st .args .pool .now) (st .args .count) (st .args .a) (st .args .b) 0
-    (omega (arith, at-script-number .script-number .ensures, c .if1 .left)) in
-    let ws = st .args .pool .now in
-    let n = st .args .count in
-    (all-named ws n (g .pool), few ws n (g .pool), below ws n (st .args .a) (g .first), below ws n (st .args .b) (g .second))
+    let x = entry (c .before) .args in
+    let ws = x .pool .now in
+    let g = none c in
+    (all-named ws (x .count) (g .pool), few ws (x .count) (g .pool), below ws (x .count) (x .a) (g .first), below ws (x .count) (x .b) (g .second))
 
 returns-2 : tie.Need-returns-2
 returns-2 c =
-    let at-measure = c .before in
-    let at-if1 = at-measure .before in
-    let at-script-number = at-if1 .before in
-    let st = at-script-number .before .before .before in
-    let g = good (st .args .pool .now) (st .args .count) (st .args .a) (st .args .b) 0
-    (omega (arith, at-script-number .script-number .ensures, at-if1 .if1 .left)) in
-    refused (st .args .pool .now) (st .args .count) (st .args .a) (st .args .b) (st .args .buffer .now) (sym (short (st .args .pool .now) (st .args .count) (st .args .a) (st .args .b) _ g
-    (omega (arith, at-measure .measure .ensures, c .if2 .taken)))) (omega arith)
+    let m = c .before in
+    let a = start m .args in
+    refused (a .pool .now) (a .count) (a .a) (a .b) (a .buffer .now)
+    (sym (short (a .pool .now) (a .count) (a .a) (a .b) _ (none (m .before)) (omega (arith, m .measure .ensures, c .if2 .taken)))) (omega arith)
 
 put-script-requires : tie.Need-put-script-requires
 put-script-requires c κs =
-    let at-if2 = c .before in
-    let at-measure = at-if2 .before in
-    let at-if1 = at-measure .before in
-    let at-script-number = at-if1 .before in
-    let st = at-script-number .before .before .before in
-    let g = good (st .args .pool .now) (st .args .count) (st .args .a) (st .args .b) 0
-    (omega (arith, at-script-number .script-number .ensures, at-if1 .if1 .left)) in
-    let ws = st .args .pool .now in
-    let n = st .args .count in
-    let named = all-named ws n (g .pool) in
-    let x = named (st .args .a) (below ws n (st .args .a) (g .first)) in
-    let y = named (st .args .b) (below ws n (st .args .b) (g .second)) in
-    (((λ m l. named m l .ready), x .ready .inside, y .ready .inside), record { room = omega (arith, at-measure .measure .ensures, at-if2 .if2 .left) })
+    let e = c .before in
+    let a = start (e .before) .args in
+    let g = none (e .before .before) in
+    let named = all-named (a .pool .now) (a .count) (g .pool) in
+    let x = named (a .a) (below (a .pool .now) (a .count) (a .a) (g .first)) in
+    let y = named (a .b) (below (a .pool .now) (a .count) (a .b) (g .second)) in
+    (((λ m l. named m l .ready), x .ready .inside, y .ready .inside), record { room = omega (arith, room e) })
 
 same-length : tie.Need-same-length
 same-length c = search needs
 
 returns-3 : tie.Need-returns-3
 returns-3 c =
-    let at-put-script = c .before .before in
-    let at-if2 = at-put-script .before .before in
-    let at-measure = at-if2 .before in
-    let at-if1 = at-measure .before in
-    let at-script-number = at-if1 .before in
-    let st = at-script-number .before .before .before in
-    let g = good (st .args .pool .now) (st .args .count) (st .args .a) (st .args .b) 0
-    (omega (arith, at-script-number .script-number .ensures, at-if1 .if1 .left)) in
-    let h : length (scriptOf (st .args .pool .now) (st .args .count) (st .args .a) (st .args .b)) ≤ length (st .args .buffer .now) = omega
-    (arith, at-measure .measure .ensures, at-if2 .if2 .left) in
-    written (st .args .pool .now) (st .args .count) (st .args .a) (st .args .b) (fits (st .args .pool .now) (st .args .count) (st .args .a) (st .args .b) _ g h) h
-    (at-measure .measure .ensures) (at-put-script .put-script .ensures)
+    let p = c .before .before in
+    let e = p .before .before in
+    let m = e .before in
+    let a = start m .args in
+    written (a .pool .now) (a .count) (a .a) (a .b) (fits (a .pool .now) (a .count) (a .a) (a .b) _ (none (m .before)) (room e)) (room e) (m .measure .ensures) (p .put-script .ensures)
 
 pub write-script-spec : {M : Type 1} → statement M
 write-script-spec =
