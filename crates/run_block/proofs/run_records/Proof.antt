@@ -16,7 +16,10 @@ Inv-loop records count regs₀ saturated₀ j₀ regs saturated j = (count ≡ l
 abbrev μ-loop : tie.MeasureT-loop
 μ-loop records count regs₀ saturated₀ j₀ regs saturated j = count - j
 
-in-records : (c : tie.In-loop Inv-loop μ-loop) → c .before .loop .j < length (c .before .before .before .args .records .now) / 6
+abbrev entry : tie.At-loop Inv-loop μ-loop → tie.Start Inv-loop μ-loop
+entry c = c .before .before
+
+in-records : (c : tie.In-loop Inv-loop μ-loop) → c .before .loop .j < length (entry (c .before) .args .records .now) / 6
 in-records c = omega (arith, c .before .loop .inv .0, c .loop-test .taken)
 
 loop-holds : tie.Need-loop-holds Inv-loop μ-loop
@@ -28,7 +31,7 @@ record-at-requires c κs = omega (arith, in-records c)
 step-requires : tie.Need-step-requires Inv-loop μ-loop
 step-requires c κs =
     let at-loop = c .before .before in
-    let s = at-loop .before .before in
+    let s = entry at-loop in
     rw (c .record-at .ensures) (legal-here (s .args .records .now) (at-loop .loop .j) (s .pre) (in-records (c .before)))
 
 add-j : tie.Need-add-j Inv-loop μ-loop
@@ -43,7 +46,7 @@ loop-again c =
     let at-record-at = at-step .before in
     let at-loop-test = at-record-at .before in
     let at-loop = at-loop-test .before in
-    let s = at-loop .before .before in (
+    let s = entry at-loop in (
       at-loop .loop .inv .0,
       omega (arith, at-loop-test .loop-test .taken),
       ran-next (s .args .records .now) (at-loop .loop .j)
@@ -54,7 +57,7 @@ loop-again c =
 returns : tie.Need-returns Inv-loop μ-loop
 returns c =
     let at-loop = c .before in
-    let s = at-loop .before .before in
+    let s = entry at-loop in
     ran-all (s .args .records .now) (at-loop .loop .j) (omega (arith, at-loop .loop .inv .0, at-loop .loop .inv .1, c .loop-test .left))
     (at-loop .loop .inv .2)
 
