@@ -4,7 +4,7 @@ pub mod ByKind
 pub mod Renamed
 pub mod Registers
 pub mod Refusals
-pub mod Unused
+pub mod Moved
 pub mod Copies
 pub mod Trees
 pub mod Meaning

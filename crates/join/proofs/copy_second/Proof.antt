@@ -1,6 +1,6 @@
 -- `copy_second` meets its contract: before node m the words are those of `joinWord`.
 use Rattle.join.proofs.Copies.{start-at, second-at, from-half}
-use Rattle.join.proofs.Unused.{moved-parts, word-small}
+use Rattle.join.proofs.Moved.{moved-parts, word-small}
 use Rattle.join.specs.Join.{SecondAt}
 use lib.ListN.{length}
 use Prim.Native.Nat.{_+_, _-_, _≤_}

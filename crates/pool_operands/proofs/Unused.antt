@@ -1,5 +1,5 @@
--- The operands that a kind has not are 0 in a node that keeps the rules, so that moving every part of word 1 moves those that it has. Assumes nothing.
-use mathlib.Core.Path.{_≡_, refl, sym, ap, _∙_}
+-- The operands that a kind has not are 0 in a node that keeps the rules, so that each operand is below 65,536. Assumes nothing.
+use mathlib.Core.Path.{_≡_, refl}
 use mathlib.Core.Bool.{Bool, true, false, _&&_, false≢true}
 use mathlib.Core.List.{List}
 use Prim.Native.Nat.{ℕ, _+_, _-_, _^_, _<_}
@@ -7,18 +7,16 @@ use lib.Dec.{ltb, leb, eqb}
 use native.Mathlib.Omega.{arith}
 use borrow.Author.Tests.{eqb-true}
 use Rattle.facts.proofs.Tests.{and-both}
-use Rattle.pool.specs.Node.{Kind, bad, var, const, bv, compare, ite, extract, concat, zext, sext, codeOf, Cell, cellAt, kindAt, kindNumber, wordAt, aOf, bOf, cOf, operandWord, wide}
+use Rattle.pool.specs.Node.{Kind, bad, var, const, bv, compare, ite, extract, concat, zext, sext, codeOf, Cell, cellAt, kindAt, kindNumber, wide}
 use Rattle.pool.specs.Rules.{wideOk, okKind, widthBefore, Valid}
 use Rattle.pool.proofs.Facts.{valid-node}
 use Rattle.pool_operands.specs.Operands.{hasA, hasB, hasC}
 use Rattle.pool_operands.proofs.ByKind.{bv-a, bv-b, cmp-a, cmp-b, no, earlier-by}
-use Rattle.join.specs.Join.{moved, movedIf, movedWord, movedParts}
-use Rattle.join.proofs.Registers.{code-at}
 
-record Unused (κ : Kind) (k : Cell) : Type 0 where
-  a-none : hasA (codeOf κ) ≡ false → k .a ≡ 0
-  b-none : hasB (codeOf κ) ≡ false → k .b ≡ 0
-  c-none : hasC (codeOf κ) ≡ false → k .c ≡ 0
+pub record Unused (κ : Kind) (k : Cell) : Type 0 where
+  pub a-none : hasA (codeOf κ) ≡ false → k .a ≡ 0
+  pub b-none : hasB (codeOf κ) ≡ false → k .b ≡ 0
+  pub c-none : hasC (codeOf κ) ≡ false → k .c ≡ 0
 
 -- the second of six tests, and what stands before the last four
 second : (p q x y g i : Bool) → (p && q && x && y && g && i) ≡ true → (p ≡ true) × (q ≡ true)
@@ -77,37 +75,25 @@ module _ (n : ℕ) (k : Cell) (A B C : ℕ) where
   unused-by zext h = extended h
   unused-by sext h = let z = extended h in record { a-none = λ e. no e refl; b-none = λ e. z .b-none refl; c-none = λ e. z .c-none refl }
 
-part : (t : Bool) (c m : ℕ) → (t ≡ false → m ≡ 0) → moved c m ≡ movedIf t c m
-part true c m f = refl
-part false c m f = rw (f refl)
-
 module _ (ws : List ℕ) (count n : ℕ) (v : Valid ws count) (h : n < count) where
-  abbrev Word : ℕ
-  Word = wordAt ws n 1
+  abbrev cell : Cell
+  cell = cellAt ws n
 
-  abbrev Number : ℕ
-  Number = codeOf (kindAt (kindNumber ws n))
+  abbrev operand-width : ℕ → ℕ
+  operand-width = widthBefore ws n
 
-  unused : Unused (kindAt (kindNumber ws n)) (cellAt ws n)
-  unused =
-      let k = cellAt ws n in
-      unused-by n k (widthBefore ws n (k .a)) (widthBefore ws n (k .b)) (widthBefore ws n (k .c)) (k .kind) (valid-node ws count n v h)
+  kept : okKind (cell .kind) n cell (operand-width (cell .a)) (operand-width (cell .b)) (operand-width (cell .c)) ≡ true
+  kept = valid-node ws count n v h
 
-  pub moved-parts : (c : ℕ) → movedParts c Word ≡ movedWord c (kindNumber ws n) Word
-  moved-parts c =
-      let a = part (hasA Number) c (aOf Word) (unused .a-none) in
-      let b = part (hasB Number) c (bOf Word) (unused .b-none) in
-      let d = part (hasC Number) c (cOf Word) (unused .c-none) in
-      (λ i. operandWord (a i) (b i) (d i)) ∙ ap (λ (kind : ℕ). movedWord c kind Word) (sym (code-at ws count n v h))
+  pub unused : Unused (cell .kind) cell
+  unused = unused-by n cell _ _ _ (cell .kind) kept
 
-  -- word 1 has no bit above the third operand
-  pub word-small : n < 65536 → Word < 281474976710656
-  word-small l =
-      let k = cellAt ws n in
-      let less = earlier-by n k (widthBefore ws n (k .a)) (widthBefore ws n (k .b)) (widthBefore ws n (k .c)) (k .kind) (valid-node ws count n v h) in
-      let s : cOf Word < 65536 = go (hasC Number) (λ e. omega (arith, less .c-less e)) (λ e. omega (arith, unused .c-none e)) in
-      omega (arith, s)
+  -- only word 1's highest part could be larger
+  pub third-small : n < 65536 → cell .c < 65536
+  third-small l =
+      let less = earlier-by n cell _ _ _ (cell .kind) kept in
+      go (hasC (codeOf (cell .kind))) (λ e. omega (arith, less .c-less e)) (λ e. omega (arith, unused .c-none e))
     where
-      go : (t : Bool) → (t ≡ true → cOf Word < 65536) → (t ≡ false → cOf Word < 65536) → cOf Word < 65536
+      go : (t : Bool) → (t ≡ true → cell .c < 65536) → (t ≡ false → cell .c < 65536) → cell .c < 65536
       go true f g = f refl
       go false f g = g refl
