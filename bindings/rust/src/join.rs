@@ -20,7 +20,7 @@ impl Pool {
     /// # Ok::<(), neon_terms::Refusal>(())
     /// ```
     pub fn join(a: &Pool, ra: Node, b: &Pool, rb: Node) -> Result<(Pool, Node), Refusal> {
-        let places = (a.len() + b.len()).saturating_sub(31).min(65535);
+        let places = (a.len() + b.len()).saturating_sub(31).min(raw::NO_NODE);
         let mut words = vec![0; 4 * places];
         let (number, node, count) = raw::join((a.words(), a.len(), ra.0), (b.words(), b.len(), rb.0), &mut words);
         answer(number)?;

@@ -29,6 +29,7 @@ mod words;
 pub use canonical::Term;
 pub use encoding::Block;
 pub use operation::{Arrangement, Operation};
+pub use raw::MOST_RECORDS;
 pub use registers::Registers;
 pub use value::Value;
 pub use words::{Kind, Node, Nodes, RegisterSet, View};
@@ -299,7 +300,7 @@ impl Pool {
     /// # Ok::<(), neon_terms::Refusal>(())
     /// ```
     pub fn lower(&mut self, operation: u64, arrangement: u64, i: u64, d: Option<Node>, n: Option<Node>, m: Option<Node>) -> Result<Node, Refusal> {
-        let wanted = (self.count + raw::RESERVE).min(65535);
+        let wanted = (self.count + raw::RESERVE).min(raw::NO_NODE);
         if self.words.len() < 4 * wanted {
             self.words.resize(4 * wanted, 0);
         }

@@ -5,11 +5,13 @@
 use std::thread;
 
 pub const RESERVE: usize = 768;
+/// A block has no more records.
 pub const MOST_RECORDS: usize = 85;
 pub const RESULTS: usize = 34;
 pub const SATURATION_RESERVE: usize = 2048;
 pub const SATURATION_RECORDS: usize = 31;
 pub const SATURATION_RESULTS: usize = 35;
+/// The number that stands for no node. A pool has no more places than this.
 pub const NO_NODE: usize = 65535;
 
 /// So many levels of a term, of 80 bytes of stack each at most, take 1.1 MB, which every thread has.

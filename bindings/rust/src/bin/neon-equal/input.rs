@@ -3,11 +3,10 @@ use std::fs::File;
 use std::io::Read;
 use std::path::Path;
 
-use neon_terms::{Block, Number, Record, Refusal};
+use neon_terms::{Block, MOST_RECORDS, Number, Record, Refusal};
 
 use crate::pair::Routine;
 
-const MOST_RECORDS: usize = 85;
 const WORD: usize = 4;
 /// Six fields of four columns and the newline.
 const LINE: usize = 25;
