@@ -164,7 +164,7 @@ fn canonise_root(pool: &[u64], root: usize, out: &mut [u64]) -> Canonised
 pub fn canonise(pool: &[u64], count: usize, root: usize, out: &mut [u64]) -> Canonised
     ensures { λ r. ⌜ Answered (now (pool .entry)) count root (now (out .entry)) (now (out .exit)) r ⌝ }
 {
-    let number = node_number(pool, count, root);
+    let number = node_number(pool, count, Node(root));
     if 0 < number {
         return Canonised { number, count: 0 };
     }

@@ -226,7 +226,7 @@ pub fn evaluate(
 ) -> Evaluated
     ensures { λ r. ⌜ Answered (now (pool .entry)) (now (start .entry)) count node allowance r ⌝ }
 {
-    let number = node_number(pool, count, node);
+    let number = node_number(pool, count, Node(node));
     if 0 < number {
         return refused(number);
     }

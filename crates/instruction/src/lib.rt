@@ -35,7 +35,16 @@ pub fn lower_instruction(
 ) -> Lowering
     ensures { λ r. ⌜ Answers (now (pool .entry)) count (now (pool .exit)) r operation arrangement i d n m ⌝ }
 {
-    let number = instruction_number(pool, count, operation, arrangement, i, d, n, m);
+    let number = instruction_number(
+        pool,
+        count,
+        operation,
+        arrangement,
+        i,
+        Node(d),
+        Node(n),
+        Node(m),
+    );
     if number != 0 {
         return refused(number, count);
     }

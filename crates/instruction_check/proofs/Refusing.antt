@@ -1,28 +1,21 @@
 -- The tests of an instruction's refusals, in order. Assumes nothing.
-use Prim.Native.Nat.{ℕ, _+_, _-_, _*_, _≤_, _<_}
+use Prim.Native.Nat.{ℕ, _+_, _-_, _≤_, _<_}
 use mathlib.Core.Path.{_≡_, refl, subst, _∙_}
 use mathlib.Core.Bool.{Bool, true, false, not, _&&_}
 use mathlib.Core.List.{List}
 use native.Mathlib.Omega.{arith}
-use lib.Dec.{leb, ltb, eqb}
-use lib.ListN.{length}
-use borrow.Author.Tests.{leb-true, ltb-true, eqb-true, le-leb, lt-leb, lt-ltb, le-ltb, not-true, not-false}
+use lib.Dec.{leb, eqb}
+use borrow.Author.Tests.{leb-true, le-leb, lt-leb, not-true, not-false}
 use Rattle.facts.specs.Refuse.{unless}
-use Rattle.facts.proofs.Tests.{and-both, passed}
+use Rattle.facts.proofs.Tests.{passed}
 use Rattle.neon.specs.Op.{Op, opAt, Arrangement, arrangementAt, full, bitsIf}
 use Rattle.neon.specs.Form.{form, hasSecond, readsD, firstFull, secondFull, byElement}
 use Rattle.neon.specs.Refusal.{formNumber, reserve}
 use Rattle.neon.proofs.Legal.{formed, form-rest, form-first}
 use Rattle.pool.specs.Node.{none, widthAt, places}
-use Rattle.pool.specs.Rules.{okPool, poolOk}
+use Rattle.pool.specs.Rules.{poolOk, ofWidth}
+use Rattle.pool_check.proofs.Passed.{within-places, below, has-width}
 use Rattle.instruction_check.specs.Number.{sourceOk, sourcesOk, instructionNumber}
-
--- a pool that passes the check has places for its nodes
-pub within-places : (ws : List ℕ) (count : ℕ) → poolOk ws count ≡ true → count ≤ places ws
-within-places ws count h = leb-true count (places ws) (and-both (leb count (places ws)) (okPool ws count) h .0)
-
-pub words-for : (ws : List ℕ) (count : ℕ) → poolOk ws count ≡ true → 4 * count ≤ length ws
-words-for ws count h = omega (arith, within-places ws count h)
 
 -- ---- one source
 
@@ -30,20 +23,17 @@ module _ (ws : List ℕ) (count : ℕ) (wanted full : Bool) (node : ℕ) where
   pub source-none : not wanted ≡ true → eqb node none ≡ sourceOk ws count wanted (bitsIf full) node
   source-none e = rw (not-true wanted e) refl
 
-  pub source-above : not wanted ≡ false → count ≤ node → false ≡ sourceOk ws count wanted (bitsIf full) node
-  source-above e h = rw (not-false wanted e, le-ltb node count h) refl
+  pub source-full : not wanted ≡ false → full ≡ true → ofWidth ws count node 128 ≡ sourceOk ws count wanted (bitsIf full) node
+  source-full e f = rw (not-false wanted e, f) refl
 
-  pub source-full : not wanted ≡ false → node < count → full ≡ true → eqb (widthAt ws node) 128 ≡ sourceOk ws count wanted (bitsIf full) node
-  source-full e h f = rw (not-false wanted e, lt-ltb node count h, f) refl
-
-  pub source-half : not wanted ≡ false → node < count → full ≡ false → eqb (widthAt ws node) 64 ≡ sourceOk ws count wanted (bitsIf full) node
-  source-half e h f = rw (not-false wanted e, lt-ltb node count h, f) refl
+  pub source-half : not wanted ≡ false → full ≡ false → ofWidth ws count node 64 ≡ sourceOk ws count wanted (bitsIf full) node
+  source-half e f = rw (not-false wanted e, f) refl
 
 pub source-is : (ws : List ℕ) (count : ℕ) (wanted : Bool) (w node : ℕ) → sourceOk ws count wanted w node ≡ true → wanted ≡ true
     → (node < count) × (widthAt ws node ≡ w)
 source-is ws count wanted w node h e =
-    let p = and-both (ltb node count) (eqb (widthAt ws node) w) (subst (λ (b : Bool). sourceOk ws count b w node ≡ true) e h) in
-    (ltb-true node count (p .0), eqb-true (widthAt ws node) w (p .1))
+    let f = subst (λ (b : Bool). sourceOk ws count b w node ≡ true) e h in
+    (below ws count node w f, has-width ws count node w f)
 
 -- ---- the three of them
 

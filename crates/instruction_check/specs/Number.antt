@@ -2,17 +2,17 @@
 use mathlib.Core.Bool.{Bool, true, cond, _&&_}
 use mathlib.Core.List.{List}
 use Prim.Native.Nat.{ℕ, _+_}
-use lib.Dec.{leb, ltb, eqb}
+use lib.Dec.{leb, eqb}
 use Rattle.facts.specs.Refuse.{unless}
 use Rattle.neon.specs.Op.{Op, opAt, Arrangement, arrangementAt, view}
 use Rattle.neon.specs.Form.{hasSecond, readsD, firstBits, secondBits}
 use Rattle.neon.specs.Refusal.{formNumber, reserve}
-use Rattle.pool.specs.Node.{widthAt, none, places}
-use Rattle.pool.specs.Rules.{poolOk}
+use Rattle.pool.specs.Node.{none, places}
+use Rattle.pool.specs.Rules.{poolOk, ofWidth}
 
 -- a source that is wanted is below the count and has its width; one that is not is no node
 abbrev pub sourceOk : List ℕ → (count : ℕ) (wanted : Bool) (width node : ℕ) → Bool
-sourceOk ws count wanted w n = cond wanted (ltb n count && eqb (widthAt ws n) w) (eqb n none)
+sourceOk ws count wanted w n = cond wanted (ofWidth ws count n w) (eqb n none)
 
 abbrev pub sourcesOk : List ℕ → (count : ℕ) → Op → Arrangement → (d n m : ℕ) → Bool
 sourcesOk ws count o v d n m =

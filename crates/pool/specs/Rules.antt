@@ -77,3 +77,7 @@ poolOk ws count = leb count (places ws) && okPool ws count
 -- what is asked of a node: 1 for a bad pool, 5 for a node not below the count; else what follows
 abbrev pub nodeNumber : List ℕ → (count n rest : ℕ) → ℕ
 nodeNumber ws count n rest = unless (poolOk ws count) 1 (unless (ltb n count) 5 rest)
+
+-- whether there is a node n, and it has so many bits
+abbrev pub ofWidth : List ℕ → (count n bits : ℕ) → Bool
+ofWidth ws count n bits = ltb n count && eqb (widthAt ws n) bits

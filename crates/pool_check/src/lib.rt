@@ -2,6 +2,7 @@
 use pool::Node;
 use pool::words::Kind;
 use pool::words::kind_of;
+use pool::words::width_of;
 use pool_rules::const_ok;
 use pool_rules::extend_ok;
 use pool_rules::extract_ok;
@@ -14,7 +15,7 @@ ghost use Prim.Native.Nat.{_+_, _*_, _≤_, _<_};
 ghost use lib.Dec.{eqb};
 ghost use lib.ListN.{length};
 ghost use Rattle.pool.specs.Node.{none};
-ghost use Rattle.pool.specs.Rules.{okNode, okPool, poolOk, nodeNumber};
+ghost use Rattle.pool.specs.Rules.{okNode, okPool, poolOk, nodeNumber, ofWidth};
 ghost use Rattle.pool_check.specs.Plain.{plainAt, plainFrom};
 
 // Whether node n obeys the rules, and is no Var from node `plain` on. Kinds that are rarer than those of two operands are asked for first, one
@@ -85,14 +86,25 @@ pub fn pool_check(pool: &[u64], count: usize) -> bool
 }
 
 // 1 for a bad pool, 5 for a node that it has not, else 0.
-pub fn node_number(pool: &[u64], count: usize, node: usize) -> u64
-    ensures { λ r. ⌜ r ≡ nodeNumber (now (pool .entry)) count node 0 ⌝ }
+pub fn node_number(pool: &[u64], count: usize, n: Node) -> u64
+    ensures { λ r. ⌜ r ≡ nodeNumber (now (pool .entry)) count (n .0) 0 ⌝ }
 {
     if !pool_check(pool, count) {
         return 1;
     }
-    if count <= node {
+    if count <= n.0 {
         return 5;
     }
     0
+}
+
+// Whether there is a node n, and it has so many bits.
+pub fn of_width(pool: &[u64], count: usize, n: Node, bits: u64) -> bool
+    requires { ⌜ 4 * count ≤ length (now pool) ⌝ }
+    ensures { λ r. ⌜ r ≡ ofWidth (now (pool .entry)) count (n .0) bits ⌝ }
+{
+    if count <= n.0 {
+        return false;
+    }
+    width_of(pool, n) == bits
 }

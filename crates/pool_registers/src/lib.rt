@@ -14,7 +14,7 @@ pub struct RegisterSet {
 pub fn registers_of(pool: &[u64], count: usize, node: usize) -> RegisterSet
     ensures { λ r. ⌜ Named (now (pool .entry)) count node (r .number) (r .set) ⌝ }
 {
-    let number = node_number(pool, count, node);
+    let number = node_number(pool, count, Node(node));
     if 0 < number {
         return RegisterSet { number, set: 0 };
     }

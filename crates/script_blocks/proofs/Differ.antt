@@ -8,18 +8,18 @@ use borrow.Author.Tests.{lt-ltb, eq-eqb, ne-eqb}
 use Rattle.terms.specs.Expr.{Expr}
 use Rattle.terms.specs.Value.{value}
 use Rattle.pool.specs.Node.{widthAt}
+use Rattle.pool.specs.Rules.{ofWidth}
 use Rattle.pool.specs.Unfold.{unfoldAt}
 use Rattle.pool.specs.Growth.{NodeIs}
 use Rattle.block_map.specs.Map.{nodeOf}
 use Rattle.block.proofs.Equal.{registers-hold}
 use Rattle.script_meaning.specs.Meaning.{script}
 use Rattle.script_meaning.proofs.Stays.{holdsOf}
-use Rattle.script_length.specs.Answer.{chosen}
 use Rattle.script_length.proofs.Answers.{good-nodes}
 use Rattle.script_write.proofs.Means.{written-means}
 use Rattle.script_blocks.specs.Demand.{RegistersChosen, DifferWhenScriptHolds}
 
-may-be-chosen : (ws : List ℕ) (count n : ℕ) (t : Expr) → NodeIs ws count n 128 t → chosen ws count n ≡ true
+may-be-chosen : (ws : List ℕ) (count n : ℕ) (t : Expr) → NodeIs ws count n 128 t → ofWidth ws count n 128 ≡ true
 may-be-chosen ws count n t h = rw (lt-ltb n count (h .under), eq-eqb (widthAt ws n) 128 (h .wide))
 
 pub registers-chosen : RegistersChosen

@@ -18,7 +18,7 @@ use Rattle.block_map.specs.Map.{nodeOf}
 use Rattle.block.proofs.Equal.{equal-when-terms-are}
 use Rattle.join.proofs.Meaning.{eq-holds}
 use Rattle.canonical_write.proofs.Meaning.{last-is-root}
-use Rattle.script_length.proofs.Answers.{below, all-wide, keeps}
+use Rattle.pool_check.proofs.Passed.{keeps, below, has-width}
 use Rattle.script_lane_length.proofs.Answers.{fine}
 use Rattle.script_lane_meaning.proofs.Values.{value-fits}
 use Rattle.script_equal.specs.Demand.{Unmet, NoLaneMet, Start, eqOf, EqualWhenNoCanonicalLaneIsMet}
@@ -40,10 +40,10 @@ chosen : (ws : List ℕ) (count x y hi lo : ℕ) → Unmet ws count x y hi lo �
 chosen ws count x y hi lo u =
     let g = fine ws count x y hi lo _ (sym (u .written .number-is)) .nodes in
     let v = keeps ws count (g .pool) in
-    let lx = below ws count x (g .first) in
-    let ly = below ws count y (g .second) in
-    let wx = all-wide ws count x (g .first) in
-    let wy = all-wide ws count y (g .second) in
+    let lx = below ws count x 128 (g .first) in
+    let ly = below ws count y 128 (g .second) in
+    let wx = has-width ws count x 128 (g .first) in
+    let wy = has-width ws count y 128 (g .second) in
     record {
       valid = v;
       x-less = lx;

@@ -56,8 +56,8 @@ pub fn lane_measure(p: &[u64], count: usize, x: Node, y: Node, hi: u64, lo: u64)
 }
 
 // The number of a refusal that has nothing to do with a buffer: 1, 5, or 0.
-pub fn lane_number(pool: &[u64], count: usize, a: usize, b: usize, hi: u64, lo: u64) -> u64
-    ensures { λ r. ⌜ r ≡ laneNumber (now (pool .entry)) count a b hi lo 0 ⌝ }
+pub fn lane_number(pool: &[u64], count: usize, a: Node, b: Node, hi: u64, lo: u64) -> u64
+    ensures { λ r. ⌜ r ≡ laneNumber (now (pool .entry)) count (a .0) (b .0) hi lo 0 ⌝ }
 {
     let number = script_number(pool, count, a, b);
     if 0 < number {
@@ -83,7 +83,7 @@ pub fn lane_script_length(
 ) -> Script
     ensures { λ r. ⌜ LaneMeasured (now (pool .entry)) count a b hi lo (r .number) (r .length) ⌝ }
 {
-    let number = lane_number(pool, count, a, b, hi, lo);
+    let number = lane_number(pool, count, Node(a), Node(b), hi, lo);
     if 0 < number {
         return Script { number, length: 0 };
     }

@@ -3,7 +3,7 @@ use mathlib.Core.List.{List}
 use mathlib.Core.Path.{_≡_, sym, subst}
 use Prim.Native.Nat.{ℕ}
 use lib.ListN.{length, take}
-use Rattle.script_length.proofs.Answers.{below, all-wide, keeps}
+use Rattle.pool_check.proofs.Passed.{keeps, below, has-width}
 use Rattle.script_write.proofs.Answers.{front-is}
 use Rattle.script_lane_meaning.specs.LaneScript.{laneScriptOf}
 use Rattle.script_lane_meaning.specs.Demand.{LaneReads}
@@ -23,5 +23,5 @@ lane-written-means ws count a b hi lo old len new h start bits =
     let f = fine ws count a b hi lo _ (sym (h .number-is)) in
     let g = f .nodes in
     subst (λ (s : List ℕ). LaneReads ws count a b hi lo s start) (sym (written-is ws count a b hi lo old len new h))
-    (lane-script-means ws count (keeps ws count (g .pool)) a b (below ws count a (g .first)) (below ws count b (g .second)) (all-wide ws count a (g .first))
-    (all-wide ws count b (g .second)) hi lo (f .order) (f .under) start bits)
+    (lane-script-means ws count (keeps ws count (g .pool)) a b (below ws count a 128 (g .first)) (below ws count b 128 (g .second)) (has-width ws count a 128 (g .first))
+    (has-width ws count b 128 (g .second)) hi lo (f .order) (f .under) start bits)

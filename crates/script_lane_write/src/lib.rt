@@ -20,7 +20,7 @@ pub fn write_lane_script(
 ) -> Script
     ensures { λ r. ⌜ LaneAnswered (now (pool .entry)) count a b hi lo (now (buffer .entry)) (r .number) (r .length) (now (buffer .exit)) ⌝ }
 {
-    let number = lane_number(pool, count, a, b, hi, lo);
+    let number = lane_number(pool, count, Node(a), Node(b), hi, lo);
     if 0 < number {
         return Script { number, length: 0 };
     }

@@ -2,19 +2,16 @@
 use mathlib.Core.Bool.{Bool, true, false, _&&_}
 use mathlib.Core.List.{List}
 use mathlib.Core.Path.{_≡_, refl, sym, ap, _∙_}
-use Prim.Native.Nat.{ℕ, zero, suc, _≤_, _<_}
+use Prim.Native.Nat.{ℕ, zero, suc, _<_}
 use native.Mathlib.Nat.{not-suc-le-zero}
 use native.Mathlib.Omega.{arith}
-use lib.Dec.{ltb, leb, eqb}
 use lib.ListN.{length}
-use borrow.Author.Tests.{lt-ltb, le-ltb, ltb-true, leb-true, eqb-true}
 use Rattle.facts.specs.Refuse.{byNumber, unless}
-use Rattle.facts.proofs.Tests.{and-both}
-use Rattle.pool.specs.Node.{places, widthAt}
-use Rattle.pool.specs.Rules.{okPool, poolOk, Valid}
+use Rattle.pool.specs.Rules.{poolOk, ofWidth}
+use Rattle.pool_check.proofs.Passed.{few}
 use Rattle.text_length.proofs.Answers.{ready}
 use Rattle.script_meaning.specs.Script.{scriptOf}
-use Rattle.script_length.specs.Answer.{AllNamed, chosen, scriptNumber, Measured}
+use Rattle.script_length.specs.Answer.{AllNamed, scriptNumber, Measured}
 
 -- ---- the tests
 
@@ -40,62 +37,41 @@ some false x y rest l = refl
 
 module _ (ws : List ℕ) (count a b : ℕ) where
   pub bad-pool : (rest : ℕ) → poolOk ws count ≡ false → scriptNumber ws count a b rest ≡ 1
-  bad-pool rest h = ap (λ (p : Bool). number p (chosen ws count a) (chosen ws count b) rest) h
+  bad-pool rest h = ap (λ (p : Bool). number p (ofWidth ws count a 128) (ofWidth ws count b 128) rest) h
 
-  pub bad-first : (rest : ℕ) → poolOk ws count ≡ true → chosen ws count a ≡ false → scriptNumber ws count a b rest ≡ 5
+  pub bad-first : (rest : ℕ) → poolOk ws count ≡ true → ofWidth ws count a 128 ≡ false → scriptNumber ws count a b rest ≡ 5
   bad-first rest h e =
-      ap (λ (p : Bool). number p (chosen ws count a) (chosen ws count b) rest) h ∙ ap (λ (x : Bool). number true x (chosen ws count b) rest) e
+      ap (λ (p : Bool). number p (ofWidth ws count a 128) (ofWidth ws count b 128) rest) h ∙ ap (λ (x : Bool). number true x (ofWidth ws count b 128) rest) e
 
-  pub bad-second : (rest : ℕ) → poolOk ws count ≡ true → chosen ws count a ≡ true → chosen ws count b ≡ false → scriptNumber ws count a b rest ≡ 5
+  pub bad-second : (rest : ℕ) → poolOk ws count ≡ true → ofWidth ws count a 128 ≡ true → ofWidth ws count b 128 ≡ false → scriptNumber ws count a b rest ≡ 5
   bad-second rest h e f =
-      ap (λ (p : Bool). number p (chosen ws count a) (chosen ws count b) rest) h
-      ∙ ap (λ (x : Bool). number true x (chosen ws count b) rest) e
+      ap (λ (p : Bool). number p (ofWidth ws count a 128) (ofWidth ws count b 128) rest) h
+      ∙ ap (λ (x : Bool). number true x (ofWidth ws count b 128) rest) e
       ∙ ap (λ (y : Bool). number true true y rest) f
 
-  pub good-nodes : (rest : ℕ) → poolOk ws count ≡ true → chosen ws count a ≡ true → chosen ws count b ≡ true → scriptNumber ws count a b rest ≡ rest
+  pub good-nodes : (rest : ℕ) → poolOk ws count ≡ true → ofWidth ws count a 128 ≡ true → ofWidth ws count b 128 ≡ true → scriptNumber ws count a b rest ≡ rest
   good-nodes rest h e f =
-      ap (λ (p : Bool). number p (chosen ws count a) (chosen ws count b) rest) h
-      ∙ ap (λ (x : Bool). number true x (chosen ws count b) rest) e
+      ap (λ (p : Bool). number p (ofWidth ws count a 128) (ofWidth ws count b 128) rest) h
+      ∙ ap (λ (x : Bool). number true x (ofWidth ws count b 128) rest) e
       ∙ ap (λ (y : Bool). number true true y rest) f
 
   -- no refusal: each test was passed
   abbrev pub Good : Type 0
-  Good = Passed (poolOk ws count) (chosen ws count a) (chosen ws count b)
+  Good = Passed (poolOk ws count) (ofWidth ws count a 128) (ofWidth ws count b 128)
 
   pub good : (rest : ℕ) → scriptNumber ws count a b rest ≡ 0 → Good
-  good rest e = none (poolOk ws count) (chosen ws count a) (chosen ws count b) rest e
+  good rest e = none (poolOk ws count) (ofWidth ws count a 128) (ofWidth ws count b 128) rest e
 
   pub past : (rest : ℕ) → Good → scriptNumber ws count a b rest ≡ rest
   past rest g = good-nodes rest (g .pool) (g .first) (g .second)
 
   -- a refusal is that whatever follows
   pub refusal : (rest : ℕ) → 0 < scriptNumber ws count a b 0 → scriptNumber ws count a b rest ≡ scriptNumber ws count a b 0
-  refusal rest l = some (poolOk ws count) (chosen ws count a) (chosen ws count b) rest l
+  refusal rest l = some (poolOk ws count) (ofWidth ws count a 128) (ofWidth ws count b 128) rest l
 
 module _ (ws : List ℕ) (count : ℕ) where
-  pub few : poolOk ws count ≡ true → count ≤ 65535
-  few h =
-      let p = and-both (leb count (places ws)) (okPool ws count) h in
-      let m : count ≤ places ws = leb-true _ _ (p .0) in
-      omega arith
-
   pub all-named : poolOk ws count ≡ true → AllNamed ws count
-  all-named h n l = record { ready = ready ws count n h l; small = omega (arith, few h) }
-
-  pub below : (n : ℕ) → chosen ws count n ≡ true → n < count
-  below n h = ltb-true _ _ (and-both (ltb n count) (eqb (widthAt ws n) 128) h .0)
-
-  pub all-wide : (n : ℕ) → chosen ws count n ≡ true → widthAt ws n ≡ 128
-  all-wide n h = eqb-true _ _ (and-both (ltb n count) (eqb (widthAt ws n) 128) h .1)
-
-  pub keeps : poolOk ws count ≡ true → Valid ws count
-  keeps h = and-both (leb count (places ws)) (okPool ws count) h .1
-
-  pub not-there : (n : ℕ) → count ≤ n → chosen ws count n ≡ false
-  not-there n l = ap (λ (t : Bool). t && eqb (widthAt ws n) 128) (le-ltb n count l)
-
-  pub there : (n w : ℕ) → n < count → w ≡ widthAt ws n → eqb w 128 ≡ chosen ws count n
-  there n w l e = ap (λ (z : ℕ). eqb z 128) e ∙ sym (ap (λ (t : Bool). t && eqb (widthAt ws n) 128) (lt-ltb n count l))
+  all-named h n l = record { ready = ready ws count n h l; small = omega (arith, few ws count h) }
 
 -- ---- the answers
 

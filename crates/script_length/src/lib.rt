@@ -3,6 +3,7 @@ use pool::Node;
 use pool::words::Kind;
 use pool::words::kind_of;
 use pool::words::width_of;
+use pool_check::of_width;
 use pool_check::pool_check;
 use pool_fields::cut_hi;
 use pool_fields::cut_lo;
@@ -12,17 +13,15 @@ use pool_fields::second;
 use pool_fields::third;
 use text_decimals::number_length;
 ghost use mathlib.Core.Path.{_≡_};
-ghost use mathlib.Core.Bool.{true};
 ghost use Prim.Native.Nat.{_+_, _*_, _≤_, _<_};
 ghost use lib.ListN.{length};
 ghost use Rattle.terms.specs.Display.{bytes};
 ghost use Rattle.pool.specs.Node.{kindAt, kindNumber};
-ghost use Rattle.pool.specs.Rules.{poolOk};
 ghost use Rattle.text_series.specs.Series.{upTo};
 ghost use Rattle.script_meaning.specs.Sexp.{show};
 ghost use Rattle.script_meaning.specs.Script.{nameOf, termOf, scriptOf, sortBy, functionOf, apply1, apply2, apply3, index1, index2};
 ghost use Rattle.script_text.specs.Lines.{lineAt};
-ghost use Rattle.script_length.specs.Answer.{Named, AllNamed, chosen, scriptNumber, Measured};
+ghost use Rattle.script_length.specs.Answer.{Named, AllNamed, scriptNumber, Measured};
 
 // A node's name.
 fn name_length(p: &[u64], n: Node) -> usize
@@ -163,28 +162,17 @@ pub fn measure(p: &[u64], count: usize, x: Node, y: Node) -> usize
     lines_length(p, count) + claim + 1128
 }
 
-// Whether a node is there and has 128 bits.
-fn is_chosen(pool: &[u64], count: usize, n: usize) -> bool
-    requires { ⌜ poolOk (now pool) count ≡ true ⌝ }
-    ensures { λ r. ⌜ r ≡ chosen (now (pool .entry)) count n ⌝ }
-{
-    if count <= n {
-        return false;
-    }
-    width_of(pool, Node(n)) == 128
-}
-
 // The number of a refusal that has nothing to do with a buffer: 1, 5, or 0.
-pub fn script_number(pool: &[u64], count: usize, a: usize, b: usize) -> u64
-    ensures { λ r. ⌜ r ≡ scriptNumber (now (pool .entry)) count a b 0 ⌝ }
+pub fn script_number(pool: &[u64], count: usize, a: Node, b: Node) -> u64
+    ensures { λ r. ⌜ r ≡ scriptNumber (now (pool .entry)) count (a .0) (b .0) 0 ⌝ }
 {
     if !pool_check(pool, count) {
         return 1;
     }
-    if !is_chosen(pool, count, a) {
+    if !of_width(pool, count, a, 128) {
         return 5;
     }
-    if !is_chosen(pool, count, b) {
+    if !of_width(pool, count, b, 128) {
         return 5;
     }
     0
@@ -200,7 +188,7 @@ pub struct Script {
 pub fn script_length(pool: &[u64], count: usize, a: usize, b: usize) -> Script
     ensures { λ r. ⌜ Measured (now (pool .entry)) count a b (r .number) (r .length) ⌝ }
 {
-    let number = script_number(pool, count, a, b);
+    let number = script_number(pool, count, Node(a), Node(b));
     if 0 < number {
         return Script { number, length: 0 };
     }

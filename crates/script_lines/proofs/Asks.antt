@@ -11,9 +11,8 @@ use Rattle.facts.specs.Refuse.{byNumber, unless}
 use Rattle.neon.specs.declared.Instruction.{Instruction}
 use Rattle.neon.specs.Refusal.{Refusal, refusal, sizeNumber, blockRefusal}
 use Rattle.pool.specs.Node.{places}
-use Rattle.pool.specs.Rules.{poolOk}
+use Rattle.pool.specs.Rules.{poolOk, ofWidth}
 use Rattle.script_meaning.specs.Script.{scriptOf}
-use Rattle.script_length.specs.Answer.{chosen}
 use Rattle.block_map.specs.Map.{nodeOf}
 use Rattle.block_check.specs.Records.{recordsOf}
 use Rattle.block.specs.declared.BlockAnswer.{BlockAnswer}
@@ -38,7 +37,7 @@ script-fits : {ws : List ℕ} {count x y : ℕ} {old : List ℕ} {n len : ℕ} {
 script-fits {ws} {count} {x} {y} {old} s =
     let size = length (scriptOf ws count x y) in
     omega
-    (arith, s .length-is, fits-by (poolOk ws count) (chosen ws count x && chosen ws count y) (leb size (length old)) size (length old) (leb-true size (length old)))
+    (arith, s .length-is, fits-by (poolOk ws count) (ofWidth ws count x 128 && ofWidth ws count y 128) (leb size (length old)) size (length old) (leb-true size (length old)))
 
 -- ---- the two registers
 

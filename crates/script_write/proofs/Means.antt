@@ -6,7 +6,8 @@ use lib.ListN.{length, take}
 use Rattle.script_meaning.specs.Meaning.{meant}
 use Rattle.script_meaning.specs.Script.{scriptOf}
 use Rattle.script_meaning.proofs.Script.{script-means}
-use Rattle.script_length.proofs.Answers.{good, below, all-wide, keeps}
+use Rattle.pool_check.proofs.Passed.{keeps, below, has-width}
+use Rattle.script_length.proofs.Answers.{good}
 use Rattle.script_write.specs.Answer.{writeNumber, Answered}
 use Rattle.script_write.specs.Demand.{WrittenMeans}
 use Rattle.script_write.proofs.Answers.{front-is}
@@ -19,9 +20,9 @@ written-is ws count a b old len new h =
 pub written-means : WrittenMeans
 written-means ws count a b old len new h start model m =
     let g = good ws count a b _ (sym (h .number-is)) in
-    let same-width = all-wide ws count a (g .first) ∙ sym (all-wide ws count b (g .second)) in
+    let same-width = has-width ws count a 128 (g .first) ∙ sym (has-width ws count b 128 (g .second)) in
     let r =
-    script-means ws count (keeps ws count (g .pool)) a b (below ws count a (g .first)) (below ws count b (g .second)) same-width start model m
+    script-means ws count (keeps ws count (g .pool)) a b (below ws count a 128 (g .first)) (below ws count b 128 (g .second)) same-width start model m
     in
     record {
       names = r .names;

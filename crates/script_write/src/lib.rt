@@ -12,7 +12,7 @@ ghost use Rattle.script_write.specs.Answer.{Answered};
 pub fn write_script(pool: &[u64], count: usize, a: usize, b: usize, buffer: &mut [u8]) -> Script
     ensures { λ r. ⌜ Answered (now (pool .entry)) count a b (now (buffer .entry)) (r .number) (r .length) (now (buffer .exit)) ⌝ }
 {
-    let number = script_number(pool, count, a, b);
+    let number = script_number(pool, count, Node(a), Node(b));
     if 0 < number {
         return Script { number, length: 0 };
     }

@@ -30,7 +30,7 @@ pub fn write_known(p: &[u64], n: Node, buffer: &mut [u8], at: usize) -> usize
 pub fn write_text(pool: &[u64], count: usize, node: usize, buffer: &mut [u8]) -> Written
     ensures { λ r. ⌜ Answered (now (pool .entry)) count node (now (buffer .entry)) (r .number) (r .length) (now (buffer .exit)) ⌝ }
 {
-    let number = node_number(pool, count, node);
+    let number = node_number(pool, count, Node(node));
     if 0 < number {
         return Written { number, length: 0 };
     }

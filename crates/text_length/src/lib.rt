@@ -142,7 +142,7 @@ pub struct TextLength {
 pub fn text_length(pool: &[u64], count: usize, node: usize, ceiling: u32) -> TextLength
     ensures { λ r. ⌜ Measured (now (pool .entry)) count node ceiling (r .number) (r .length) ⌝ }
 {
-    let number = node_number(pool, count, node);
+    let number = node_number(pool, count, Node(node));
     if 0 < number {
         return TextLength { number, length: 0 };
     }

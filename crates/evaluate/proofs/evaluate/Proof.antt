@@ -68,8 +68,8 @@ returns-2 c =
     let v = c .before .before in
     let g = good (passed v) in rw (c .refused2 .ensures) (too-many _ _ _ _ _ (g .0) (g .1) (visited v) (c .before .if2 .taken))
 
-array-read-t12 : tie.Need-array-read-t12
-array-read-t12 c = search needs
+array-read-t13 : tie.Need-array-read-t13
+array-read-t13 c = search needs
 
 array-read-t22 : tie.Need-array-read-t22
 array-read-t22 c = search needs
@@ -99,7 +99,7 @@ evaluate-spec =
     visit-requires
     refused-requires-2
     returns-2
-    array-read-t12
+    array-read-t13
     array-read-t22
     array-read-t25
     sub-t26

@@ -9,7 +9,8 @@ use Rattle.neon.proofs.Legal.{formed}
 use Rattle.pool.specs.Rules.{poolOk}
 use Rattle.neon_form.proofs.Parts.{coded}
 use Rattle.instruction_check.specs.Number.{sourcesOk}
-use Rattle.instruction_check.proofs.Refusing.{within-places, number-pool, number-form, number-sources, number-room, number-done}
+use Rattle.pool_check.proofs.Passed.{within-places}
+use Rattle.instruction_check.proofs.Refusing.{number-pool, number-form, number-sources, number-room, number-done}
 use borrow.Author.Needs.{needs}
 use Rattle.instruction_check.proofs.instruction_number.Statement.{statement}
 use Rattle.instruction_check.proofs.instruction_number.Tie as tie
@@ -32,14 +33,14 @@ abbrev formed-at : tie.After-sources-ok → tie.Else2
 formed-at c = c .before .before .before
 
 sources : (c : tie.After-sources-ok) → let a = entry (checked (formed-at c)) .args in
-    c .sources-ok .result ≡ sourcesOk (a .pool .now) (a .count) (opAt (a .operation)) (arrangementAt (a .arrangement)) (a .d) (a .n) (a .m)
+    c .sources-ok .result ≡ sourcesOk (a .pool .now) (a .count) (opAt (a .operation)) (arrangementAt (a .arrangement)) (a .d .0) (a .n .0) (a .m .0)
 sources c =
     let a = entry (checked (formed-at c)) .args in
     let k = coded (a .operation) (a .arrangement) (a .i) 0 (legal (formed-at c)) in
     c .sources-ok .ensures (opAt (a .operation)) (arrangementAt (a .arrangement)) (k .0) (c .before .before .form-code .ensures ∙ k .1) (c .before .is-full .ensures)
 
 sourced : (c : tie.Else3) → let a = entry (checked (formed-at (c .before))) .args in
-    sourcesOk (a .pool .now) (a .count) (opAt (a .operation)) (arrangementAt (a .arrangement)) (a .d) (a .n) (a .m) ≡ true
+    sourcesOk (a .pool .now) (a .count) (opAt (a .operation)) (arrangementAt (a .arrangement)) (a .d .0) (a .n .0) (a .m .0) ≡ true
 sourced c = sym (sources (c .before)) ∙ not-false (c .before .sources-ok .result) (c .if3 .left)
 
 -- ---- the calls and the answers
@@ -51,7 +52,7 @@ returns : tie.Need-returns
 returns c =
     let p = c .before in
     let a = p .before .before .args in
-    number-pool (a .pool .now) (a .count) (a .operation) (a .arrangement) (a .i) (a .d) (a .n) (a .m) (sym (p .pool-check .ensures) ∙ not-true (p .pool-check .result) (c .if1 .taken))
+    number-pool (a .pool .now) (a .count) (a .operation) (a .arrangement) (a .i) (a .d .0) (a .n .0) (a .m .0) (sym (p .pool-check .ensures) ∙ not-true (p .pool-check .result) (c .if1 .taken))
 
 form-number-requires : tie.Need-form-number-requires
 form-number-requires c κs = search needs
@@ -60,7 +61,7 @@ returns-2 : tie.Need-returns-2
 returns-2 c =
     let e = c .before .before in
     let a = entry e .args in
-    number-form (a .pool .now) (a .count) (a .operation) (a .arrangement) (a .i) (a .d) (a .n) (a .m) (good e) (c .before .form-number .ensures) (c .if2 .taken)
+    number-form (a .pool .now) (a .count) (a .operation) (a .arrangement) (a .i) (a .d .0) (a .n .0) (a .m .0) (good e) (c .before .form-number .ensures) (c .if2 .taken)
 
 form-code-requires : tie.Need-form-code-requires
 form-code-requires c κs = search needs
@@ -77,7 +78,7 @@ returns-3 c =
     let s = c .before in
     let f = formed-at s in
     let a = entry (checked f) .args in
-    number-sources (a .pool .now) (a .count) (a .operation) (a .arrangement) (a .i) (a .d) (a .n) (a .m) (good (checked f)) (legal f)
+    number-sources (a .pool .now) (a .count) (a .operation) (a .arrangement) (a .i) (a .d .0) (a .n .0) (a .m .0) (good (checked f)) (legal f)
     (sym (sources s) ∙ not-true (s .sources-ok .result) (c .if3 .taken))
 
 places-requires : tie.Need-places-requires
@@ -93,7 +94,7 @@ returns-4 c =
     let e = c .before .before in
     let f = formed-at (e .before) in
     let a = entry (checked f) .args in
-    number-room (a .pool .now) (a .count) (a .operation) (a .arrangement) (a .i) (a .d) (a .n) (a .m) (good (checked f)) (legal f)
+    number-room (a .pool .now) (a .count) (a .operation) (a .arrangement) (a .i) (a .d .0) (a .n .0) (a .m .0) (good (checked f)) (legal f)
     (sourced e) (omega (arith, c .before .places .ensures, c .if4 .taken))
 
 returns-5 : tie.Need-returns-5
@@ -101,7 +102,7 @@ returns-5 c =
     let e = c .before .before in
     let f = formed-at (e .before) in
     let a = entry (checked f) .args in
-    number-done (a .pool .now) (a .count) (a .operation) (a .arrangement) (a .i) (a .d) (a .n) (a .m) (good (checked f)) (legal f)
+    number-done (a .pool .now) (a .count) (a .operation) (a .arrangement) (a .i) (a .d .0) (a .n .0) (a .m .0) (good (checked f)) (legal f)
     (sourced e) (omega (arith, c .before .places .ensures, c .if4 .left))
 
 pub instruction-number-spec : {M : Type 1} → statement M

@@ -35,7 +35,7 @@ returns c =
     let rd = x .before in
     let a = rd .before .before .args in
     λ o v h e q.
-    sources-are (a .pool .now) (a .count) o v (a .d) (a .n) (a .m) q (rd .reads-d .ensures o v h e) (ff .first-full .ensures o v h e)
+    sources-are (a .pool .now) (a .count) o v (a .d .0) (a .n .0) (a .m .0) q (rd .reads-d .ensures o v h e) (ff .first-full .ensures o v h e)
     (hs .has-second .ensures o v h e) (sf .second-full .ensures o v h e) (x .source-ok .ensures) (y .source-ok2 .ensures) (c .source-ok3 .ensures)
 
 pub sources-ok-spec : {M : Type 1} → statement M

@@ -17,8 +17,8 @@ returns c =
     let st = at-script-number .before .before in
     let e = at-script-number .script-number .ensures in
     let ws = st .args .pool .now in
-    let l : 0 < scriptNumber ws (st .args .count) (st .args .a) (st .args .b) 0 = omega (arith, e, c .if1 .taken) in
-    e ∙ sym (bad-nodes ws (st .args .count) (st .args .a) (st .args .b) (st .args .hi) (st .args .lo) 0 l)
+    let l : 0 < scriptNumber ws (st .args .count) (st .args .a .0) (st .args .b .0) 0 = omega (arith, e, c .if1 .taken) in
+    e ∙ sym (bad-nodes ws (st .args .count) (st .args .a .0) (st .args .b .0) (st .args .hi) (st .args .lo) 0 l)
 
 returns-2 : tie.Need-returns-2
 returns-2 c =
@@ -28,8 +28,8 @@ returns-2 c =
     let hi = st .args .hi in
     let lo = st .args .lo in
     let ws = st .args .pool .now in
-    let z : scriptNumber ws (st .args .count) (st .args .a) (st .args .b) 0 ≡ 0 = omega (arith, at-script-number .script-number .ensures, at-if1 .if1 .left) in
-    sym (bad-cut ws (st .args .count) (st .args .a) (st .args .b) hi lo 0 z (no-cut-reversed hi lo (c .if2 .taken)))
+    let z : scriptNumber ws (st .args .count) (st .args .a .0) (st .args .b .0) 0 ≡ 0 = omega (arith, at-script-number .script-number .ensures, at-if1 .if1 .left) in
+    sym (bad-cut ws (st .args .count) (st .args .a .0) (st .args .b .0) hi lo 0 z (no-cut-reversed hi lo (c .if2 .taken)))
 
 returns-3 : tie.Need-returns-3
 returns-3 c =
@@ -39,9 +39,9 @@ returns-3 c =
     let hi = st .args .hi in
     let lo = st .args .lo in
     let ws = st .args .pool .now in
-    let z : scriptNumber ws (st .args .count) (st .args .a) (st .args .b) 0 ≡ 0 = omega (arith, at-script-number .script-number .ensures, at-if1 .if1 .left) in
+    let z : scriptNumber ws (st .args .count) (st .args .a .0) (st .args .b .0) 0 ≡ 0 = omega (arith, at-script-number .script-number .ensures, at-if1 .if1 .left) in
     let above : 127 < hi = omega (arith, c .if3 .taken) in
-    sym (bad-cut ws (st .args .count) (st .args .a) (st .args .b) hi lo 0 z (no-cut-above hi lo above))
+    sym (bad-cut ws (st .args .count) (st .args .a .0) (st .args .b .0) hi lo 0 z (no-cut-above hi lo above))
 
 returns-4 : tie.Need-returns-4
 returns-4 c =
@@ -52,10 +52,10 @@ returns-4 c =
     let hi = st .args .hi in
     let lo = st .args .lo in
     let ws = st .args .pool .now in
-    let z : scriptNumber ws (st .args .count) (st .args .a) (st .args .b) 0 ≡ 0 = omega (arith, at-script-number .script-number .ensures, at-if1 .if1 .left) in
+    let z : scriptNumber ws (st .args .count) (st .args .a .0) (st .args .b .0) 0 ≡ 0 = omega (arith, at-script-number .script-number .ensures, at-if1 .if1 .left) in
     let order : lo ≤ hi = omega (arith, at-if2 .if2 .left) in
     let under : hi < 128 = omega (arith, c .if3 .left) in
-    sym (good-all ws (st .args .count) (st .args .a) (st .args .b) hi lo z order under)
+    sym (good-all ws (st .args .count) (st .args .a .0) (st .args .b .0) hi lo z order under)
 
 pub lane-number-spec : {M : Type 1} → statement M
 lane-number-spec = tie.close (tie.spec script-number-requires returns returns-2 returns-3 returns-4)

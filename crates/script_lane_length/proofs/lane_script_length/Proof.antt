@@ -1,7 +1,8 @@
 -- `lane_script_length` answers with a number and a length. Assumes nothing.
 use mathlib.Core.Path.{_≡_, sym, _∙_}
 use native.Mathlib.Omega.{arith}
-use Rattle.script_length.proofs.Answers.{few, all-named, below}
+use Rattle.pool_check.proofs.Passed.{few, below}
+use Rattle.script_length.proofs.Answers.{all-named}
 use Rattle.script_lane_length.proofs.Answers.{fine, unmeasured, measured}
 use borrow.Author.Needs.{needs}
 use Rattle.script_lane_length.proofs.lane_script_length.Statement.{statement}
@@ -25,8 +26,8 @@ lane-measure-requires c κs =
     let g = f .nodes in (
       all-named ws n (g .pool),
       few ws n (g .pool),
-      below ws n (st .args .a) (g .first),
-      below ws n (st .args .b) (g .second),
+      below ws n (st .args .a) 128 (g .first),
+      below ws n (st .args .b) 128 (g .second),
       omega (arith, f .under),
       omega (arith, f .order, f .under),
     )

@@ -3,7 +3,8 @@ use mathlib.Core.Path.{_≡_, sym}
 use Prim.Native.Nat.{_≤_}
 use native.Mathlib.Omega.{arith}
 use lib.ListN.{length}
-use Rattle.script_length.proofs.Answers.{few, all-named, below}
+use Rattle.pool_check.proofs.Passed.{few, below}
+use Rattle.script_length.proofs.Answers.{all-named}
 use Rattle.script_lane_meaning.specs.LaneScript.{laneScriptOf}
 use Rattle.script_lane_length.proofs.Answers.{Fine, fine}
 use Rattle.script_lane_write.proofs.Answers.{short, fits, first-number, refused, written}
@@ -51,8 +52,8 @@ lane-measure-requires c κs =
     let g = f .nodes in (
       all-named (x .pool .now) (x .count) (g .pool),
       few (x .pool .now) (x .count) (g .pool),
-      below (x .pool .now) (x .count) (x .a) (g .first),
-      below (x .pool .now) (x .count) (x .b) (g .second),
+      below (x .pool .now) (x .count) (x .a) 128 (g .first),
+      below (x .pool .now) (x .count) (x .b) 128 (g .second),
       omega (arith, f .under),
       omega (arith, f .order, f .under),
     )
@@ -70,8 +71,8 @@ put-lane-script-requires c κs =
     let a = start (e .before) .args in
     let g = none (e .before .before) .nodes in
     let named = all-named (a .pool .now) (a .count) (g .pool) in
-    let x = named (a .a) (below (a .pool .now) (a .count) (a .a) (g .first)) in
-    let y = named (a .b) (below (a .pool .now) (a .count) (a .b) (g .second)) in
+    let x = named (a .a) (below (a .pool .now) (a .count) (a .a) 128 (g .first)) in
+    let y = named (a .b) (below (a .pool .now) (a .count) (a .b) 128 (g .second)) in
     (((λ m l. named m l .ready), x .ready .inside, y .ready .inside), record { room = omega (arith, room e) })
 
 same-length : tie.Need-same-length

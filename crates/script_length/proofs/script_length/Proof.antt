@@ -1,6 +1,7 @@
 -- `script_length` meets its contract: 1 and 5 with length 0, else the length of the script.
 use native.Mathlib.Omega.{arith}
-use Rattle.script_length.proofs.Answers.{good, few, all-named, below, unmeasured, measured}
+use Rattle.pool_check.proofs.Passed.{few, below}
+use Rattle.script_length.proofs.Answers.{good, all-named, unmeasured, measured}
 use borrow.Author.Needs.{needs}
 use Rattle.script_length.proofs.script_length.Statement.{statement}
 use Rattle.script_length.proofs.script_length.Tie as tie
@@ -19,7 +20,7 @@ measure-requires c κs =
     (omega (arith, at-script-number .script-number .ensures, c .if1 .left)) in
     let ws = st .args .pool .now in
     let n = st .args .count in
-    (all-named ws n (g .pool), few ws n (g .pool), below ws n (st .args .a) (g .first), below ws n (st .args .b) (g .second))
+    (all-named ws n (g .pool), few ws n (g .pool), below ws n (st .args .a) 128 (g .first), below ws n (st .args .b) 128 (g .second))
 
 returns-2 : tie.Need-returns-2
 returns-2 c =

@@ -5,7 +5,8 @@ use native.Mathlib.Omega.{arith}
 use lib.ListN.{length}
 use Rattle.script_meaning.specs.Script.{scriptOf}
 use Rattle.script_write.proofs.Answers.{short, fits, first-number, refused, written}
-use Rattle.script_length.proofs.Answers.{Good, good, few, all-named, below}
+use Rattle.pool_check.proofs.Passed.{few, below}
+use Rattle.script_length.proofs.Answers.{Good, good, all-named}
 use borrow.Author.Needs.{needs}
 use Rattle.script_write.proofs.write_script.Statement.{statement}
 use Rattle.script_write.proofs.write_script.Tie as tie
@@ -44,7 +45,7 @@ measure-requires c κs =
     let x = entry (c .before) .args in
     let ws = x .pool .now in
     let g = none c in
-    (all-named ws (x .count) (g .pool), few ws (x .count) (g .pool), below ws (x .count) (x .a) (g .first), below ws (x .count) (x .b) (g .second))
+    (all-named ws (x .count) (g .pool), few ws (x .count) (g .pool), below ws (x .count) (x .a) 128 (g .first), below ws (x .count) (x .b) 128 (g .second))
 
 returns-2 : tie.Need-returns-2
 returns-2 c =
@@ -59,8 +60,8 @@ put-script-requires c κs =
     let a = start (e .before) .args in
     let g = none (e .before .before) in
     let named = all-named (a .pool .now) (a .count) (g .pool) in
-    let x = named (a .a) (below (a .pool .now) (a .count) (a .a) (g .first)) in
-    let y = named (a .b) (below (a .pool .now) (a .count) (a .b) (g .second)) in
+    let x = named (a .a) (below (a .pool .now) (a .count) (a .a) 128 (g .first)) in
+    let y = named (a .b) (below (a .pool .now) (a .count) (a .b) 128 (g .second)) in
     (((λ m l. named m l .ready), x .ready .inside, y .ready .inside), record { room = omega (arith, room e) })
 
 same-length : tie.Need-same-length

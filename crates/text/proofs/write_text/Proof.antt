@@ -66,8 +66,8 @@ returns-2 c =
 write-known-requires : tie.Need-write-known-requires
 write-known-requires c κs = (whole (measured (c .before)), record { room = omega (arith, enough (c .before)) })
 
-sub-t9 : tie.Need-sub-t9
-sub-t9 c = search needs
+sub-t10 : tie.Need-sub-t10
+sub-t10 c = search needs
 
 same-length : tie.Need-same-length
 same-length c = search needs
@@ -93,6 +93,6 @@ write-text-spec =
     measure-requires
     returns-2
     write-known-requires
-    sub-t9
+    sub-t10
     same-length
     returns-3)
