@@ -8,10 +8,15 @@ use pool::words::kind_word;
 use pool::words::set_of;
 use pool::words::width_of;
 use pool_check::check_plain;
+use pool_fields::first;
+use pool_fields::high;
 use pool_fields::low;
+use pool_fields::operand_word;
+use pool_fields::second;
+use pool_fields::third;
 ghost use mathlib.Core.Bool.{cond, _&&_};
 ghost use mathlib.Core.Path.{_≡_};
-ghost use Prim.Native.Nat.{_+_, _-_, _*_, _≤_, _<_};
+ghost use Prim.Native.Nat.{ℕ, _+_, _-_, _*_, _≤_, _<_};
 ghost use lib.Dec.{ltb};
 ghost use lib.ListN.{length};
 ghost use Rattle.pool.specs.Node.{places, wordAt};
@@ -66,26 +71,26 @@ fn chosen_ok(pool: &[u64], count: usize, n: Node) -> bool
 }
 
 // What the number of the second pool's node m grows by; its registers keep theirs.
-fn raised(by: u64, m: u64) -> u64
-    ensures { λ r. ⌜ (r ≡ cond (ltb m 32) 0 by) × (r ≤ by) ⌝ }
+fn raised(by: u64, m: Node) -> u64
+    ensures { λ r. ⌜ (r ≡ cond (ltb (m .0) 32) 0 by) × (r ≤ by) ⌝ }
 {
-    if 32 <= m {
+    if 32 <= m.0 {
         return by;
     }
     0
 }
 
-// Word 1 of a node of the second pool, with its operands under their new numbers; the first pool has c nodes. The kind is not asked: a part that
-// it does not use is 0, and stays 0.
-fn moved_word(c: u64, w1: u64) -> u64
-    requires { ⌜ (32 ≤ c) × (c ≤ 65535) × (w1 < 281474976710656) ⌝ }
-    ensures { λ r. ⌜ r ≡ movedParts c w1 ⌝ }
+// Word 1 of the second pool's node m, with its operands under their new numbers; the first pool has c nodes. The kind is not asked: an
+// operand that it has not is 0, and stays 0.
+fn moved_word(c: u64, pool: &[u64], m: Node) -> u64
+    requires { ⌜ (32 ≤ c) × (c ≤ 65535) × (4 * m .0 + 3 < length (now pool)) × (wordAt (now pool) (m .0) 1 < 281474976710656) ⌝ }
+    ensures { λ r. ⌜ r ≡ movedParts c (wordAt (now (pool .entry)) (m .0) 1) ⌝ }
 {
     let by = c - 32;
-    w1
-        + raised(by, w1 % 65536)
-        + 65536 * raised(by, w1 / 65536 % 65536)
-        + 4294967296 * raised(by, w1 / 4294967296)
+    operand_word(pool, m)
+        + raised(by, first(pool, m))
+        + 65536 * raised(by, second(pool, m))
+        + 4294967296 * raised(by, third(pool, m))
 }
 
 // Copies the first pool's nodes.
@@ -107,32 +112,22 @@ fn move_one(second: &[u64], c: usize, m: Node, out: &mut [u64])
     requires { ⌜ wordAt (now second) (m .0) 1 < 281474976710656 ⌝ }
     ensures { λ r. ⌜ now (out .exit) ≡ writeMoved c (now (second .entry)) (m .0) (now (out .entry)) ⌝ }
 {
-    let at = 4 * m.0;
-    let w1 = moved_word(c as u64, second[at + 1]);
     push(
         out,
         m.0 + c - 32,
-        second[at],
-        w1,
-        second[at + 2],
-        second[at + 3],
+        second[4 * m.0],
+        moved_word(c as u64, second, m),
+        low(second, m),
+        high(second, m),
     );
 }
 
-// Copies the second pool's nodes but its registers.
-fn copy_second(
-    first: &[u64],
-    c: usize,
-    second: &[u64],
-    d: usize,
-    x: usize,
-    y: usize,
-    out: &mut [u64],
-)
+// Copies the first pool's nodes and, of the second's, all but its registers: whatever nodes x and y the Eq is of.
+fn copy_second(first: &[u64], c: usize, second: &[u64], d: usize, out: &mut [u64])
     requires { ⌜ (Valid (now second) d) × (4 * d ≤ length (now second)) × (32 ≤ d) ⌝ }
     requires { ⌜ (4 * c ≤ length (now first)) × (32 ≤ c) ⌝ }
     requires { ⌜ (4 * joinCount c d ≤ length (now out)) × (joinCount c d ≤ 65535) ⌝ }
-    ensures { λ r. ⌜ SecondAt (now (first .entry)) c (now (second .entry)) d x y (now (out .entry)) (now (out .exit)) (c + d - 32) ⌝ }
+    ensures { λ r. ⌜ ((x y : ℕ) → SecondAt (now (first .entry)) c (now (second .entry)) d x y (now (out .entry)) (now (out .exit)) (c + d - 32)) ⌝ }
 {
     copy_first(first, c, out);
     let mut m = 32;
@@ -143,19 +138,19 @@ fn copy_second(
 }
 
 // Writes the Eq of the first pool's x and of the second's y.
-fn put_eq(first: &[u64], c: usize, second: &[u64], d: usize, x: usize, y: usize, out: &mut [u64])
+fn put_eq(first: &[u64], c: usize, second: &[u64], d: usize, x: Node, y: Node, out: &mut [u64])
     requires { ⌜ (4 * c ≤ length (now first)) × (4 * d ≤ length (now second)) ⌝ }
-    requires { ⌜ (32 ≤ c) × (32 ≤ d) × (x < c) × (y < d) ⌝ }
+    requires { ⌜ (32 ≤ c) × (32 ≤ d) × (x .0 < c) × (y .0 < d) ⌝ }
     requires { ⌜ (4 * joinCount c d ≤ length (now out)) × (joinCount c d ≤ 65535) ⌝ }
-    ensures { λ r. ⌜ now (out .exit) ≡ writeEq (now (first .entry)) c (now (second .entry)) d x y (now (out .entry)) ⌝ }
+    ensures { λ r. ⌜ now (out .exit) ≡ writeEq (now (first .entry)) c (now (second .entry)) d (x .0) (y .0) (now (out .entry)) ⌝ }
 {
-    let set = set_of(first, Node(x)) | set_of(second, Node(y));
-    let b = y as u64 + raised(c as u64 - 32, y as u64);
+    let set = set_of(first, x) | set_of(second, y);
+    let b = y.0 as u64 + raised(c as u64 - 32, y);
     push(
         out,
         c + d - 32,
         kind_word(Kind::EQ, 0, set),
-        x as u64 + 65536 * b,
+        x.0 as u64 + 65536 * b,
         0,
         0,
     );
@@ -167,11 +162,11 @@ fn join_number(
     c: usize,
     second: &[u64],
     d: usize,
-    x: usize,
-    y: usize,
+    x: Node,
+    y: Node,
     out: &[u64],
 ) -> u64
-    ensures { λ r. ⌜ r ≡ joinNumber (now (first .entry)) c (now (second .entry)) d x y (now (out .entry)) ⌝ }
+    ensures { λ r. ⌜ r ≡ joinNumber (now (first .entry)) c (now (second .entry)) d (x .0) (y .0) (now (out .entry)) ⌝ }
 {
     if !starts(first, c) {
         return 1;
@@ -179,7 +174,7 @@ fn join_number(
     if !starts(second, d) {
         return 1;
     }
-    if !(chosen_ok(first, c, Node(x)) & chosen_ok(second, d, Node(y))) {
+    if !(chosen_ok(first, c, x) & chosen_ok(second, d, y)) {
         return 5;
     }
     if places(out) < c + d - 31 {
@@ -200,7 +195,7 @@ pub fn join(
 ) -> Joined
     ensures { λ r. ⌜ Answered (now (first .entry)) c (now (second .entry)) d x y (now (out .entry)) (now (out .exit)) r ⌝ }
 {
-    let number = join_number(first, c, second, d, x, y, out);
+    let number = join_number(first, c, second, d, Node(x), Node(y), out);
     if 0 < number {
         return Joined {
             number,
@@ -208,8 +203,8 @@ pub fn join(
             count: 0,
         };
     }
-    copy_second(first, c, second, d, x, y, out);
-    put_eq(first, c, second, d, x, y, out);
+    copy_second(first, c, second, d, out);
+    put_eq(first, c, second, d, Node(x), Node(y), out);
     Joined {
         number,
         node: c + d - 32,

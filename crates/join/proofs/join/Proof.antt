@@ -1,6 +1,5 @@
 -- `join` meets its contract: a refusal writes nothing, and past it every word is that of `joinWord`.
 use native.Mathlib.Omega.{arith}
-use mathlib.Core.Path.{_≡_}
 use borrow.Author.Needs.{needs}
 use Rattle.join.proofs.Refusals.{Passed, all-passed}
 use Rattle.join.proofs.Copies.{eq-at, all-done}
@@ -38,23 +37,23 @@ put-eq-requires c κs =
     let p = passed (t .before .before) in
     let f = p .first-starts in
     let g = p .second-starts in
-    ((f .long, g .long), ((f .enough, g .enough, p .x-less, p .y-less), (omega (arith, p .room, t .copy-second .ensures .long), omega (arith, p .room))))
+    ((f .long, g .long), ((f .enough, g .enough, p .x-less, p .y-less), (omega (arith, p .room, t .copy-second .ensures 0 0 .long), omega (arith, p .room))))
 
 -- after both copies
 abbrev tested : tie.After-slice-known3 → tie.Else1
 tested c = c .before .before .before .before .before .before .before .before
-
-add-t17 : tie.Need-add-t17
-add-t17 c = let p = passed (tested c) in omega (arith, p .first-starts .few, p .second-starts .few)
-
-sub-t18 : tie.Need-sub-t18
-sub-t18 c = omega (arith, passed (tested c) .first-starts .enough)
 
 add-t19 : tie.Need-add-t19
 add-t19 c = let p = passed (tested c) in omega (arith, p .first-starts .few, p .second-starts .few)
 
 sub-t20 : tie.Need-sub-t20
 sub-t20 c = omega (arith, passed (tested c) .first-starts .enough)
+
+add-t21 : tie.Need-add-t21
+add-t21 c = let p = passed (tested c) in omega (arith, p .first-starts .few, p .second-starts .few)
+
+sub-t22 : tie.Need-sub-t22
+sub-t22 c = omega (arith, passed (tested c) .first-starts .enough)
 
 same-length-2 : tie.Need-same-length-2
 same-length-2 c = search needs
@@ -68,7 +67,7 @@ returns-2 c =
     let p = passed e in
     all-done (a .first .now) (a .c) (a .second .now) (a .d) (a .x) (a .y) (a .out .now) (e .before .join-number .ensures) (omega (arith, e .if1 .left))
     (eq-at (a .first .now) (a .c) (a .second .now) (a .d) (a .x) (a .y) (p .first-starts .enough) (p .second-starts .enough) (a .out .now) _ _
-    (omega (arith, p .room, t .copy-second .ensures .long)) (q .put-eq .ensures) (t .copy-second .ensures))
+    (omega (arith, p .room, t .copy-second .ensures 0 0 .long)) (q .put-eq .ensures) (t .copy-second .ensures (a .x) (a .y)))
 
 pub join-spec : {M : Type 1} → statement M
 join-spec =
@@ -79,9 +78,9 @@ join-spec =
     returns
     copy-second-requires
     put-eq-requires
-    add-t17
-    sub-t18
     add-t19
     sub-t20
+    add-t21
+    sub-t22
     same-length-2
     returns-2)

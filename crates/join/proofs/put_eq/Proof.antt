@@ -1,16 +1,28 @@
 -- `put_eq` meets its contract: the Eq's words, with the registers of both terms.
 use Rattle.pool.specs.Node.{operandWord, kindWord}
 use lib.Bits.{bitOr, or-lt}
-use mathlib.Core.Path.{ap₂}
 use Rattle.join.specs.Join.{moved, eqSet}
 use Rattle.join.proofs.Checks.{raised-is}
-use Rattle.pool.specs.Node.{writeNode}
-use Prim.Native.Nat.{_+_, _-_, _*_}
-use mathlib.Core.Path.{_≡_, _∙_, ap}
+use Prim.Native.Nat.{_+_, _*_}
+use mathlib.Core.Path.{_≡_, _∙_, ap, ap₂}
 use native.Mathlib.Omega.{arith}
 use borrow.Author.Needs.{needs}
 use Rattle.join.proofs.put_eq.Statement.{statement}
 use Rattle.join.proofs.put_eq.Tie as tie
+
+-- ---- places, and the registers of both terms
+
+abbrev sets : tie.After-push-arg → tie.After-set-of2
+sets c = c .before .before
+
+abbrev entry : tie.After-set-of2 → tie.Start
+entry c = c .before .before .before .before .before
+
+set-of-both : (c : tie.After-set-of2) → let a = entry c .args in
+    bitOr (c .before .set-of .result) (c .set-of2 .result) ≡ eqSet (a .first .now) (a .second .now) (a .x .0) (a .y .0)
+set-of-both c = ap₂ bitOr (c .before .set-of .ensures .0) (c .set-of2 .ensures .0)
+
+-- ---- the needs
 
 set-of-requires : tie.Need-set-of-requires
 set-of-requires c κs = search needs
@@ -35,9 +47,8 @@ sub-push c = search needs
 
 kind-word-requires : tie.Need-kind-word-requires
 kind-word-requires c κs =
-    let l-set-of2 = c .before .before in
-    let l-set-of = l-set-of2 .before in
-    (omega arith, omega arith, or-lt 32 (l-set-of .set-of .result) (l-set-of2 .set-of2 .result) (l-set-of .set-of .ensures .1) (l-set-of2 .set-of2 .ensures .1))
+    let two = sets c in
+    (omega arith, omega arith, or-lt 32 (two .before .set-of .result) (two .set-of2 .result) (two .before .set-of .ensures .1) (two .set-of2 .ensures .1))
 
 mul-push : tie.Need-mul-push
 mul-push c = search needs
@@ -53,18 +64,16 @@ same-length c = search needs
 
 returns : tie.Need-returns
 returns c =
-    let l-push = c .before .before in
-    let l-kind-word = l-push .before in
-    let l-raised = l-kind-word .before .before in
-    let l-set-of2 = l-raised .before in
-    let l-set-of = l-set-of2 .before in
-    let s = l-set-of .before .before .before .before in
-    let n = s .args .c + s .args .d - 32 in
-    let k : l-kind-word .kind-word .result ≡ kindWord 12 0 (eqSet (s .args .first .now) (s .args .second .now) (s .args .x) (s .args .y)) =
-    l-kind-word .kind-word .ensures ∙ ap (kindWord 12 0) (ap₂ bitOr (l-set-of .set-of .ensures .0) (l-set-of2 .set-of2 .ensures .0)) in
-    let b = raised-is (s .args .c) (s .args .y) (l-raised .raised .result) (omega arith) (l-raised .raised .ensures .0) in
-    let w : s .args .x + 65536 * (s .args .y + l-raised .raised .result) ≡ operandWord (s .args .x) (moved (s .args .c) (s .args .y)) 0 = omega (arith, b) in
-    l-push .push .ensures .words ∙ (λ i. writeNode (s .args .out .now) n (k i) (w i) 0 0)
+    let pushed = c .before .before in
+    let first-word = pushed .before in
+    let asked = first-word .before in
+    let rise = asked .before .raised in
+    let a = entry (sets asked) .args in
+    let k : first-word .kind-word .result ≡ kindWord 12 0 (eqSet (a .first .now) (a .second .now) (a .x .0) (a .y .0)) =
+    first-word .kind-word .ensures ∙ ap (kindWord 12 0) (set-of-both (sets asked)) in
+    let b = raised-is (a .c) (a .y .0) (rise .result) (entry (sets asked) .pre .1 .0 .0) (rise .ensures .0) in
+    let w : a .x .0 + 65536 * (a .y .0 + rise .result) ≡ operandWord (a .x .0) (moved (a .c) (a .y .0)) 0 = omega (arith, b) in
+    rw (k, w) at (pushed .push .ensures .words)
 
 pub put-eq-spec : {M : Type 1} → statement M
 put-eq-spec =

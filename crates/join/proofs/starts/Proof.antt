@@ -7,7 +7,7 @@ use Rattle.pool.specs.Node.{places}
 use Rattle.facts.proofs.Tests.{and-both}
 use lib.Dec.{leb}
 use Prim.Native.Nat.{_≤_, _-_}
-use mathlib.Core.Bool.{true}
+use mathlib.Core.Bool.{true, _&&_}
 use borrow.Author.Tests.{not-true, not-false, leb-true}
 use borrow.Author.Needs.{needs}
 use mathlib.Core.Path.{_≡_, sym, _∙_}
@@ -21,39 +21,48 @@ Inv-loop pool count n₀ n = (n ≤ 32) × (varRules pool n ≡ true)
 abbrev μ-loop : tie.MeasureT-loop
 μ-loop pool count n₀ n = 32 - n
 
+-- ---- places: the start; the check passed; a turn
+
+abbrev entry : tie.After-check-plain Inv-loop μ-loop → tie.Start Inv-loop μ-loop
+entry c = c .before .before
+
+abbrev checked : tie.At-loop Inv-loop μ-loop → tie.Else1 Inv-loop μ-loop
+checked c = c .before .before
+
+abbrev turn : tie.After-is-register Inv-loop μ-loop → tie.At-loop Inv-loop μ-loop
+turn c = c .before .before
+
+check-passed : (c : tie.Else1 Inv-loop μ-loop) → let a = entry (c .before) .args in (poolOk (a .pool .now) (a .count) && plainFrom (a .pool .now) 32 (a .count)) ≡ true
+check-passed c = sym (c .before .check-plain .ensures) ∙ not-false _ (c .if1 .left)
+
+-- ---- the needs
+
 check-plain-requires : tie.Need-check-plain-requires Inv-loop μ-loop
 check-plain-requires c κs = search needs
 
 returns : tie.Need-returns Inv-loop μ-loop
-returns c =
-    let s = c .before .before .before in
-    not-ok (s .args .pool .now) (s .args .count) (sym (c .before .check-plain .ensures) ∙ not-true _ (c .if1 .taken))
+returns c = let a = entry (c .before) .args in not-ok (a .pool .now) (a .count) (sym (c .before .check-plain .ensures) ∙ not-true _ (c .if1 .taken))
 
 returns-2 : tie.Need-returns-2 Inv-loop μ-loop
-returns-2 c =
-    let s = c .before .before .before .before in
-    too-few (s .args .pool .now) (s .args .count) (c .if2 .taken)
+returns-2 c = let a = entry (c .before .before) .args in too-few (a .pool .now) (a .count) (c .if2 .taken)
 
 loop-holds : tie.Need-loop-holds Inv-loop μ-loop
-loop-holds c =
-    let s = c .before .before .before .before in
-    (omega arith, rules-none (s .args .pool .now))
+loop-holds c = (omega arith, rules-none _)
 
 is-register-requires : tie.Need-is-register-requires Inv-loop μ-loop
 is-register-requires c κs =
-    let at-if1 = c .before .before .before in
-    let at-check-plain = at-if1 .before in
-    let a = at-check-plain .before .before .args in
-    let q = and-both (poolOk (a .pool .now) (a .count)) (plainFrom (a .pool .now) 32 (a .count)) (sym (at-check-plain .check-plain .ensures) ∙ not-false _ (at-if1 .if1 .left)) in
-    let p = and-both (leb (a .count) (places (a .pool .now))) (okPool (a .pool .now) (a .count)) (q .0) in
-    omega (arith, leb-true (a .count) (places (a .pool .now)) (p .0))
+    let e = checked (c .before) in
+    let a = entry (e .before) .args in
+    let ws = a .pool .now in
+    let ok = and-both (poolOk ws (a .count)) (plainFrom ws 32 (a .count)) (check-passed e) .0 in
+    omega (arith, leb-true (a .count) (places ws) (and-both (leb (a .count) (places ws)) (okPool ws (a .count)) ok .0))
 
 returns-3 : tie.Need-returns-3 Inv-loop μ-loop
 returns-3 c =
-    let at-loop = c .before .before .before in
-    let a = at-loop .before .before .before .before .before .args in
+    let t = turn (c .before) in
+    let a = entry (checked t .before) .args in
     not-var (a .pool .now) (a .count)
-    (rules-bad (a .pool .now) (at-loop .loop .n) (a .count) (omega arith) (sym (c .before .is-register .ensures) ∙ not-true _ (c .if3 .taken)))
+    (rules-bad (a .pool .now) (t .loop .n) (a .count) (omega (arith, t .before .if2 .left)) (sym (c .before .is-register .ensures) ∙ not-true _ (c .if3 .taken)))
 
 add-n : tie.Need-add-n Inv-loop μ-loop
 add-n c = omega arith
@@ -62,20 +71,15 @@ loop-less : tie.Need-loop-less Inv-loop μ-loop
 loop-less c = omega arith
 
 loop-again : tie.Need-loop-again Inv-loop μ-loop
-loop-again c =
-    let at-loop = c .before .before .before in
-    let s = at-loop .before .before .before .before .before in
-    (omega arith, rules-more (s .args .pool .now) (at-loop .loop .n) (at-loop .loop .inv .1) (sym (c .before .is-register .ensures) ∙ not-false _ (c .if3 .left)))
+loop-again c = (omega arith, rules-more _ _ (turn (c .before) .loop .inv .1) (sym (c .before .is-register .ensures) ∙ not-false _ (c .if3 .left)))
 
 returns-4 : tie.Need-returns-4 Inv-loop μ-loop
 returns-4 c =
-    let at-loop = c .before in
-    let at-if1 = at-loop .before .before in
-    let at-check-plain = at-if1 .before in
-    let a = at-check-plain .before .before .args in
-    let e : at-loop .loop .n ≡ 32 = omega arith in
-    all-good (a .pool .now) (a .count) (sym (at-check-plain .check-plain .ensures) ∙ not-false _ (at-if1 .if1 .left)) (omega (arith, c .before .before .if2 .left))
-    (rw e at (at-loop .loop .inv .1))
+    let l = c .before .loop in
+    let past = checked (c .before) in
+    let a = entry (past .before) .args in
+    let e : l .n ≡ 32 = omega arith in
+    all-good (a .pool .now) (a .count) (check-passed past) (c .before .before .if2 .left) (rw e at (l .inv .1))
 
 pub starts-spec : {M : Type 1} → statement M
 starts-spec =
