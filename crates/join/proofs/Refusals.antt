@@ -8,9 +8,10 @@ use lib.Dec.{ltb, leb, eqb}
 use borrow.Author.Tests.{ltb-true, leb-true, le-leb, lt-leb, eqb-true}
 use Rattle.facts.proofs.Tests.{and-both, passed}
 use Rattle.pool.specs.Node.{places, widthAt}
-use Rattle.pool.specs.Rules.{poolOk}
+use Rattle.pool.specs.Rules.{poolOk, ofWidth}
+use Rattle.pool_check.proofs.Passed.{below, has-width}
 use Rattle.join.specs.Starts.{startsWithRegisters}
-use Rattle.join.specs.Join.{joinCount, chosenOk, joinNumber}
+use Rattle.join.specs.Join.{joinCount, joinNumber}
 use Rattle.join.proofs.Registers.{Starts, starts}
 
 -- what number 0 says
@@ -40,11 +41,11 @@ module _ (first : List ℕ) (c : ℕ) (second : List ℕ) (d x y : ℕ) (out : L
     bad-second e = sym (rw (p, e))
 
     module _ (q : (poolOk second d && startsWithRegisters second d) ≡ true) where
-      pub bad-chosen : (chosenOk first c x && chosenOk second d y) ≡ false → Number 5
+      pub bad-chosen : (ofWidth first c x 128 && ofWidth second d y 128) ≡ false → Number 5
       unfolding joinNumber
       bad-chosen e = sym (rw (p, q, e))
 
-      module _ (r : (chosenOk first c x && chosenOk second d y) ≡ true) where
+      module _ (r : (ofWidth first c x 128 && ofWidth second d y 128) ≡ true) where
         pub no-room : places out < joinCount c d → Number 6
         unfolding joinNumber
         no-room h = sym (rw (p, q, r, lt-leb (joinCount c d) (places out) h))
@@ -58,17 +59,15 @@ module _ (first : List ℕ) (c : ℕ) (second : List ℕ) (d x y : ℕ) (out : L
   all-passed e =
       let p1 = passed (poolOk first c && startsWithRegisters first c) (not-zero 1 (omega arith)) e in
       let p2 = passed (poolOk second d && startsWithRegisters second d) (not-zero 1 (omega arith)) (p1 .1) in
-      let p3 = passed (chosenOk first c x && chosenOk second d y) (not-zero 5 (omega arith)) (p2 .1) in
+      let p3 = passed (ofWidth first c x 128 && ofWidth second d y 128) (not-zero 5 (omega arith)) (p2 .1) in
       let p4 = passed (leb (joinCount c d) (places out)) (not-zero 6 (omega arith)) (p3 .1) in
-      let q = and-both (chosenOk first c x) (chosenOk second d y) (p3 .0) in
-      let qx = and-both (ltb x c) (eqb (widthAt first x) 128) (q .0) in
-      let qy = and-both (ltb y d) (eqb (widthAt second y) 128) (q .1) in
+      let q = and-both (ofWidth first c x 128) (ofWidth second d y 128) (p3 .0) in
       record {
         first-starts = starts first c (p1 .0);
         second-starts = starts second d (p2 .0);
-        x-less = ltb-true x c (qx .0);
-        y-less = ltb-true y d (qy .0);
-        x-wide = eqb-true _ _ (qx .1);
-        y-wide = eqb-true _ _ (qy .1);
+        x-less = below first c x 128 (q .0);
+        y-less = below second d y 128 (q .1);
+        x-wide = has-width first c x 128 (q .0);
+        y-wide = has-width second d y 128 (q .1);
         room = leb-true _ _ (p4 .0);
       }

@@ -8,7 +8,7 @@ use lib.Bits.{bitOr}
 use lib.ListN.{length, getD}
 use Rattle.facts.specs.Refuse.{unless}
 use Rattle.pool.specs.Node.{aOf, bOf, cOf, wordAt, kindNumber, widthAt, setAt, kindWord, operandWord, writeNode, places, none}
-use Rattle.pool.specs.Rules.{poolOk}
+use Rattle.pool.specs.Rules.{poolOk, ofWidth}
 use Rattle.pool_operands.specs.Operands.{hasA, hasB, hasC}
 use Rattle.join.specs.Starts.{startsWithRegisters}
 use Rattle.join.specs.declared.Joined.{Joined}
@@ -41,14 +41,11 @@ joinWord first c second d x y n j =
     (cond (eqb j 0) (kindWord 12 0 (eqSet first second x y)) (cond (eqb j 1) (operandWord x (moved c y) 0) 0)))
 
 -- 1 for the first pool, then for the second; 5; 6
-abbrev pub chosenOk : List ℕ → ℕ → ℕ → Bool
-chosenOk ws count n = ltb n count && eqb (widthAt ws n) 128
-
 unfoldable pub joinNumber : (first : List ℕ) (c : ℕ) (second : List ℕ) (d x y : ℕ) (out : List ℕ) → ℕ
 joinNumber first c second d x y out =
     unless (poolOk first c && startsWithRegisters first c) 1
     (unless (poolOk second d && startsWithRegisters second d) 1
-    (unless (chosenOk first c x && chosenOk second d y) 5 (unless (leb (joinCount c d) (places out)) 6 0)))
+    (unless (ofWidth first c x 128 && ofWidth second d y 128) 5 (unless (leb (joinCount c d) (places out)) 6 0)))
 
 -- done: every word below the count; the others are as they were
 pub record Done (first : List ℕ) (c : ℕ) (second : List ℕ) (d x y : ℕ) (old new : List ℕ) (a : Joined) : Type 0 where

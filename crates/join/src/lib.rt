@@ -6,8 +6,8 @@ use pool::words::Kind;
 use pool::words::kind_of;
 use pool::words::kind_word;
 use pool::words::set_of;
-use pool::words::width_of;
 use pool_check::check_plain;
+use pool_check::of_width;
 use pool_fields::first;
 use pool_fields::high;
 use pool_fields::low;
@@ -22,7 +22,7 @@ ghost use lib.ListN.{length};
 ghost use Rattle.pool.specs.Node.{places, wordAt};
 ghost use Rattle.pool.specs.Rules.{poolOk, Valid};
 ghost use Rattle.join.specs.Starts.{varRule, startsWithRegisters};
-ghost use Rattle.join.specs.Join.{movedParts, joinCount, chosenOk, joinNumber, Answered, Half, SecondAt, writeMoved, writeEq};
+ghost use Rattle.join.specs.Join.{movedParts, joinCount, joinNumber, Answered, Half, SecondAt, writeMoved, writeEq};
 
 // The number of document 02, the Eq, and how many nodes there are with it.
 pub struct Joined {
@@ -57,17 +57,6 @@ fn starts(pool: &[u64], count: usize) -> bool
         n += 1;
     }
     true
-}
-
-// Whether node n is there and has 128 bits.
-fn chosen_ok(pool: &[u64], count: usize, n: Node) -> bool
-    requires { ⌜ 4 * count ≤ length (now pool) ⌝ }
-    ensures { λ r. ⌜ r ≡ chosenOk (now (pool .entry)) count (n .0) ⌝ }
-{
-    if n.0 < count {
-        return width_of(pool, n) == 128;
-    }
-    false
 }
 
 // What the number of the second pool's node m grows by; its registers keep theirs.
@@ -174,7 +163,7 @@ fn join_number(
     if !starts(second, d) {
         return 1;
     }
-    if !(chosen_ok(first, c, x) & chosen_ok(second, d, y)) {
+    if !(of_width(first, c, x, 128) & of_width(second, d, y, 128)) {
         return 5;
     }
     if places(out) < c + d - 31 {
@@ -199,7 +188,7 @@ pub fn join(
     if 0 < number {
         return Joined {
             number,
-            node: 65535,
+            node: Node::NONE,
             count: 0,
         };
     }

@@ -10,7 +10,7 @@ use borrow.Author.Tests.{lt-ltb, le-ltb, le-leb, eq-eqb, ne-eqb}
 use Rattle.facts.proofs.Numbers.{before-or-from}
 use Rattle.neon.specs.declared.Instruction.{Instruction}
 use Rattle.pool.specs.Node.{bad, var, codeOf, Cell, kindNumber, wordAt, places}
-use Rattle.pool.specs.Rules.{poolOk}
+use Rattle.pool.specs.Rules.{poolOk, ofWidth}
 use Rattle.pool.proofs.Facts.{kind-code}
 use Rattle.terms.specs.Expr.{Var}
 use Rattle.block_map.specs.declared.RegisterMap.{RegisterMap}
@@ -19,7 +19,7 @@ use Rattle.block.specs.Block.{Accepted, VarAt}
 use Rattle.block.proofs.Running.{lowered-more}
 use Rattle.block.proofs.Equal.{equal-when-terms-are}
 use Rattle.join.specs.Starts.{varRule, varRules, startsWithRegisters}
-use Rattle.join.specs.Join.{joinCount, chosenOk, joinNumber}
+use Rattle.join.specs.Join.{joinCount, joinNumber}
 use Rattle.join.proofs.Meaning.{eq-holds}
 use Rattle.join_blocks.specs.Demand.{BlocksJoin, EqualWhenEqHolds}
 
@@ -53,7 +53,7 @@ module _ {old : List ℕ} {cs : List Instruction} {new : List ℕ} {m : Register
       let l : 32 ≤ m .count = lowered-more new firstMap Var cs m (A .lowered) in
       rw (A .checked, le-leb 32 (m .count) l) (rules-to (m .count) (omega arith))
 
-  chosen : (r : ℕ) → r < 32 → chosenOk new (m .count) (nodeOf m r) ≡ true
+  chosen : (r : ℕ) → r < 32 → ofWidth new (m .count) (nodeOf m r) 128 ≡ true
   chosen r h = let t = A .terms r h in rw (lt-ltb (nodeOf m r) (m .count) (t .under)) (eq-eqb _ 128 (t .wide))
 
 -- ---- the theorems

@@ -4,9 +4,8 @@ use mathlib.Core.Path.{_≡_, sym, _∙_}
 use native.Mathlib.Omega.{arith}
 use borrow.Author.Tests.{not-true, not-false}
 use borrow.Author.Needs.{needs}
-use Rattle.pool.specs.Rules.{poolOk}
+use Rattle.pool.specs.Rules.{poolOk, ofWidth}
 use Rattle.join.specs.Starts.{startsWithRegisters}
-use Rattle.join.specs.Join.{chosenOk}
 use Rattle.join.proofs.Registers.{Starts, starts}
 use Rattle.join.proofs.Refusals.{bad-first, bad-second, bad-chosen, no-room, none-bad}
 use Rattle.join.proofs.join_number.Statement.{statement}
@@ -20,7 +19,7 @@ entry c = c .before .before .before .before .before
 abbrev first-passed : tie.Else2 → tie.Else1
 first-passed c = c .before .before
 
-abbrev second-passed : tie.After-chosen-ok2 → tie.Else2
+abbrev second-passed : tie.After-of-width2 → tie.Else2
 second-passed c = c .before .before
 
 abbrev both : tie.After-places → tie.Else2
@@ -34,12 +33,12 @@ good-first c = sym (c .before .starts .ensures) ∙ not-false _ (c .if1 .left)
 good-second : (c : tie.Else2) → let a = entry (first-passed c) .args in (poolOk (a .second .now) (a .d) && startsWithRegisters (a .second .now) (a .d)) ≡ true
 good-second c = sym (c .before .starts2 .ensures) ∙ not-false _ (c .if2 .left)
 
-chosen-asked : (c : tie.After-chosen-ok2) → let a = entry (first-passed (second-passed c)) .args in
-    (chosenOk (a .first .now) (a .c) (a .x .0) && chosenOk (a .second .now) (a .d) (a .y .0)) ≡ (c .before .chosen-ok .result && c .chosen-ok2 .result)
-chosen-asked c = sym (λ i. c .before .chosen-ok .ensures i && c .chosen-ok2 .ensures i)
+chosen-asked : (c : tie.After-of-width2) → let a = entry (first-passed (second-passed c)) .args in
+    (ofWidth (a .first .now) (a .c) (a .x .0) 128 && ofWidth (a .second .now) (a .d) (a .y .0) 128) ≡ (c .before .of-width .result && c .of-width2 .result)
+chosen-asked c = sym (λ i. c .before .of-width .ensures i && c .of-width2 .ensures i)
 
 good-chosen : (c : tie.Else3) → let a = entry (first-passed (second-passed (c .before))) .args in
-    (chosenOk (a .first .now) (a .c) (a .x .0) && chosenOk (a .second .now) (a .d) (a .y .0)) ≡ true
+    (ofWidth (a .first .now) (a .c) (a .x .0) 128 && ofWidth (a .second .now) (a .d) (a .y .0) 128) ≡ true
 good-chosen c = chosen-asked (c .before) ∙ not-false _ (c .if3 .left)
 
 starts-first : (c : tie.Else1) → let a = entry c .args in Starts (a .first .now) (a .c)
@@ -62,11 +61,11 @@ starts-requires-2 c κs = search needs
 returns-2 : tie.Need-returns-2
 returns-2 c = bad-second _ _ _ _ _ _ _ (good-first (c .before .before)) (sym (c .before .starts2 .ensures) ∙ not-true _ (c .if2 .taken))
 
-chosen-ok-requires : tie.Need-chosen-ok-requires
-chosen-ok-requires c κs = starts-first (first-passed c) .long
+of-width-requires : tie.Need-of-width-requires
+of-width-requires c κs = starts-first (first-passed c) .long
 
-chosen-ok-requires-2 : tie.Need-chosen-ok-requires-2
-chosen-ok-requires-2 c κs = starts-second (c .before) .long
+of-width-requires-2 : tie.Need-of-width-requires-2
+of-width-requires-2 c κs = starts-second (c .before) .long
 
 returns-3 : tie.Need-returns-3
 returns-3 c =
@@ -98,8 +97,8 @@ join-number-spec =
     returns
     starts-requires-2
     returns-2
-    chosen-ok-requires
-    chosen-ok-requires-2
+    of-width-requires
+    of-width-requires-2
     returns-3
     places-requires
     add-if4
