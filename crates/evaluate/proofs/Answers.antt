@@ -7,11 +7,11 @@ use native.Mathlib.Omega.{arith}
 use lib.Dec.{leb}
 use lib.ListN.{length, getD}
 use borrow.Author.Tests.{leb-true, le-leb, lt-leb}
-use Rattle.facts.proofs.Tests.{and-both, passed}
-use Rattle.pool.specs.Node.{places}
-use Rattle.pool.specs.Rules.{okPool, poolOk, nodeNumber}
+use Rattle.facts.proofs.Tests.{passed}
+use Rattle.pool.specs.Rules.{poolOk, nodeNumber}
 use Rattle.pool_check.proofs.Number.{good-node, first-refusal, accepted}
 use Rattle.text_parts.specs.Text.{Ready}
+use Rattle.pool_check.proofs.Passed.{words-for, keeps}
 use Rattle.text_parts.proofs.Operands.{ready-of}
 use Rattle.wide.specs.Number.{words}
 use Rattle.evaluate.specs.Visits.{visitsAt}
@@ -24,10 +24,7 @@ empty-ok (x ∷ xs) e i = absurd (omega arith)
 
 module _ (ws regs : List ℕ) (count n allowance : ℕ) where
   pub ready : poolOk ws count ≡ true → n < count → Ready ws n
-  ready h l =
-      let p = and-both (leb count (places ws)) (okPool ws count) h in
-      let m : count ≤ places ws = leb-true _ _ (p .0) in
-      ready-of ws count n (p .1) l (omega arith)
+  ready h l = ready-of ws count n (keeps ws count h) l (words-for ws count h)
 
   refusal : (k : ℕ) → evaluateNumber ws regs count n allowance ≡ suc k → Answered ws regs count n allowance (noValue (suc k))
   unfolding words

@@ -1,4 +1,5 @@
--- Lemmas that all crates share: numbers and powers of two, joined tests, computed tables.
+-- Lemmas that all crates share: numbers and powers of two, joined tests, refusals, computed tables.
 pub mod Numbers
 pub mod Tests
+pub mod Refused
 pub mod Table

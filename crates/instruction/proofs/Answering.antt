@@ -4,7 +4,6 @@ use mathlib.Core.Path.{_≡_, refl, sym, ap}
 use mathlib.Core.Bool.{Bool, true, _&&_}
 use mathlib.Core.List.{List, []}
 use native.Mathlib.Omega.{arith}
-use lib.Dec.{leb}
 use lib.ListN.{length}
 use borrow.Author.Tests.{le-leb}
 use Rattle.facts.proofs.Tests.{and-both}
@@ -18,6 +17,7 @@ use Rattle.pool.specs.Node.{widthAt, places, placesIn}
 use Rattle.pool.specs.Rules.{okPool, poolOk}
 use Rattle.pool.specs.Unfold.{unfoldAt}
 use Rattle.pool.specs.Growth.{NodeIs, Room}
+use Rattle.pool_check.proofs.Passed.{keeps}
 use Rattle.lower.specs.Builds.{Lowers, Below, read, readIf}
 use Rattle.instruction_check.specs.Number.{sourceOk, instructionNumber}
 use Rattle.instruction.specs.Lowering.{Answers}
@@ -73,8 +73,7 @@ module _ (ws : List ℕ) (count operation arrangement i : ℕ) (d n m : Node) (h
       (resultTree o v i) []
       → Answers ws count new (record { number = 0; node = r .node .0; count = r .count }) operation arrangement i (d .0) (n .0) (m .0)
   lowered {new} {r} e =
-      let valid = and-both (leb count (places ws)) (okPool ws count) (p .pool-ok) .1 in
-      let made = e .made valid (λ u. node-is (d .0) (view v) (d-is u)) (λ u. node-is (n .0) (firstBits o v) n-is) (λ u. node-is (m .0) (secondBits o v) (m-is u)) in
+      let made = e .made (keeps ws count (p .pool-ok)) (λ u. node-is (d .0) (view v) (d-is u)) (λ u. node-is (n .0) (firstBits o v) n-is) (λ u. node-is (m .0) (secondBits o v) (m-is u)) in
       let most : r .count ≤ count + reserve = omega (arith, e .sized) in
       record {
         number = sym h;

@@ -4,17 +4,14 @@ use mathlib.Core.Bool.{Bool, true, false}
 use mathlib.Core.Path.{_≡_, sym, ap, _∙_}
 use mathlib.Core.List.{List}
 use native.Mathlib.Omega.{arith}
-use lib.Dec.{leb}
-use Rattle.facts.proofs.Tests.{and-both}
 use Rattle.terms.specs.Expr.{Expr, width}
 use Rattle.terms.specs.Value.{value}
 use Rattle.neon.specs.Op.{Op, opAt, Arrangement, arrangementAt, laneBits, full, bitsIf, view}
 use Rattle.neon.specs.Form.{form, laneCount}
 use Rattle.neon.specs.Arm.{lane, placeLane}
 use Rattle.neon.proofs.Legal.{Formed, formed}
-use Rattle.pool.specs.Node.{places}
-use Rattle.pool.specs.Rules.{okPool}
 use Rattle.pool.specs.Unfold.{unfoldAt}
+use Rattle.pool_check.proofs.Passed.{keeps}
 use Rattle.pool_check.proofs.Sound.{sound}
 use Rattle.trees_value.proofs.Whole.{result-is}
 use Rattle.trees_value.proofs.Range.{value-lt}
@@ -58,8 +55,7 @@ module _ (old : List ℕ) (count : ℕ) (new : List ℕ) (r : Lowering) (operati
   pub answer-lt : (start : ℕ → ℕ) → ValueFits old count new r operation arrangement i d n m start
   answer-lt start bits =
       let l = a .done done in
-      let valid = and-both (leb (r .count) (places new)) (okPool new (r .count)) (l .checked) .1 in
-      let s = sound new (r .count) valid (r .node) (l .is .under) in
+      let s = sound new (r .count) (keeps new (r .count) (l .checked)) (r .node) (l .is .under) in
       let w : width (unfoldAt new (r .node)) ≡ view v = s .wide ∙ l .is .wide in
       rw w at (value-lt start bits (unfoldAt new (r .node)) (s .ok) (rw w (some-bits (full v))))
 

@@ -4,8 +4,8 @@ use mathlib.Core.Bool.{true, false, _&&_}
 use mathlib.Core.List.{List}
 use Prim.Native.Nat.{ℕ, _≤_, _<_}
 use native.Mathlib.Omega.{arith}
-use lib.Dec.{ltb, leb, eqb}
-use borrow.Author.Tests.{ltb-true, leb-true, le-leb, lt-leb, eqb-true}
+use lib.Dec.{leb}
+use borrow.Author.Tests.{leb-true, le-leb, lt-leb}
 use Rattle.facts.proofs.Tests.{and-both, passed}
 use Rattle.pool.specs.Node.{places, widthAt}
 use Rattle.pool.specs.Rules.{poolOk, ofWidth}

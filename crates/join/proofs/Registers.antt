@@ -9,9 +9,10 @@ use lib.Dec.{ltb, leb, eqb}
 use lib.ListN.{length}
 use borrow.Author.Tests.{lt-ltb, ltb-true, ltb-false, leb-true, eqb-true}
 use Rattle.facts.proofs.Tests.{and-both}
-use Rattle.pool.specs.Node.{Kind, var, kinds, kindAt, codeOf, Cell, cellAt, wordAt, kindNumber, setAt, places}
-use Rattle.pool.specs.Rules.{okKind, okPool, widthBefore, setRule, Valid, poolOk}
+use Rattle.pool.specs.Node.{Kind, var, kinds, kindAt, codeOf, Cell, cellAt, wordAt, kindNumber, setAt}
+use Rattle.pool.specs.Rules.{okKind, widthBefore, setRule, Valid, poolOk}
 use Rattle.pool.proofs.Facts.{kind-code, valid-node, valid-set}
+use Rattle.pool_check.proofs.Passed.{words-for, few, keeps}
 use Rattle.join.specs.Starts.{varRule, varRules, startsWithRegisters}
 
 -- a pool that begins with the registers
@@ -38,9 +39,13 @@ pub starts : (ws : List ℕ) (c : ℕ) → (poolOk ws c && startsWithRegisters w
 starts ws c h =
     let p = and-both (poolOk ws c) (startsWithRegisters ws c) h in
     let q = and-both (leb 32 c) (varRules ws c) (p .1) in
-    let r = and-both (leb c (places ws)) (okPool ws c) (p .0) in
-    let l : c ≤ places ws = leb-true c (places ws) (r .0) in
-    record { valid = r .1; enough = leb-true 32 c (q .0); few = omega arith; long = omega arith; rule = λ n l. rules-at ws c n (q .1) l }
+    record {
+      valid = keeps ws c (p .0);
+      enough = leb-true 32 c (q .0);
+      few = few ws c (p .0);
+      long = words-for ws c (p .0);
+      rule = λ n l. rules-at ws c n (q .1) l;
+    }
 
 -- a register's node
 abbrev pub varCell : ℕ → Cell

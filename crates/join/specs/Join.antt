@@ -1,5 +1,5 @@
 -- Two pools as one (document 02, S-11): the first pool's nodes, the second's without its registers, renumbered, and an Eq.
-use mathlib.Core.Bool.{Bool, true, false, cond, _&&_}
+use mathlib.Core.Bool.{Bool, cond, _&&_}
 use mathlib.Core.List.{List}
 use mathlib.Core.Path.{_≡_}
 use Prim.Native.Nat.{ℕ, _+_, _-_, _*_, _≤_, _<_}
@@ -7,7 +7,7 @@ use lib.Dec.{ltb, leb, eqb}
 use lib.Bits.{bitOr}
 use lib.ListN.{length, getD}
 use Rattle.facts.specs.Refuse.{unless}
-use Rattle.pool.specs.Node.{aOf, bOf, cOf, wordAt, kindNumber, widthAt, setAt, kindWord, operandWord, writeNode, places, none}
+use Rattle.pool.specs.Node.{aOf, bOf, cOf, wordAt, kindNumber, setAt, kindWord, operandWord, writeNode, places, none}
 use Rattle.pool.specs.Rules.{poolOk, ofWidth}
 use Rattle.pool_operands.specs.Operands.{hasA, hasB, hasC}
 use Rattle.join.specs.Starts.{startsWithRegisters}

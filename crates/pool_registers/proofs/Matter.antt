@@ -1,17 +1,14 @@
 -- The theorems of specs/Matter.antt. Assumes nothing.
 use mathlib.Core.Path.{subst}
 use Prim.Native.Nat.{ℕ}
-use lib.Dec.{leb}
-use Rattle.facts.proofs.Tests.{and-both}
 use Rattle.terms.specs.Registers.{registers, InSet}
-use Rattle.pool.specs.Node.{places}
-use Rattle.pool.specs.Rules.{okPool}
+use Rattle.pool_check.proofs.Passed.{keeps}
 use Rattle.pool_registers.specs.Matter.{SetIsTheWalk, AgreeingStarts, OthersDoNotMatter}
 use Rattle.pool_registers.proofs.Walk.{walk-is}
 use Rattle.pool_registers.proofs.Agreeing.{same-value}
 
 pub set-is-the-walk : SetIsTheWalk
-set-is-the-walk ws count n h l = walk-is ws count (and-both (leb count (places ws)) (okPool ws count) h .1) n l
+set-is-the-walk ws count n h l = walk-is ws count (keeps ws count h) n l
 
 pub agreeing-starts : AgreeingStarts
 agreeing-starts t start start′ h = same-value start start′ t h

@@ -1,23 +1,23 @@
 -- The set in a valid node's word 0 is what the walk over its tree finds. Assumes nothing.
-use mathlib.Core.Path.{_≡_, refl, sym, ap, ap₂, _∙_}
+use mathlib.Core.Path.{_≡_, refl, sym, ap₂, _∙_}
 use mathlib.Core.List.{List}
-use Prim.Native.Nat.{ℕ, zero, suc, _+_, _*_, _≤_, _<_}
+use Prim.Native.Nat.{ℕ, zero, suc, _+_, _*_, _<_}
 use native.Mathlib.Omega.{arith}
 use native.Mathlib.Nat.{lt-trans}
 use mathlib.Core.Bool.{true, false, false≢true}
-use lib.Dec.{ltb, leb}
+use lib.Dec.{ltb}
 use lib.ListN.{length}
 use lib.Bits.{bitOr}
-use borrow.Author.Tests.{lt-ltb, leb-true}
-use Rattle.facts.specs.Refuse.{byNumber}
-use Rattle.facts.proofs.Tests.{and-both}
+use borrow.Author.Tests.{lt-ltb}
+use Rattle.facts.proofs.Refused.{zero-beside}
 use Rattle.terms.specs.Expr.{Expr}
 use Rattle.terms.specs.Registers.{registers}
-use Rattle.pool.specs.Node.{Kind, bad, var, const, bv, compare, ite, extract, concat, zext, sext, Cell, cellAt, setAt, places}
-use Rattle.pool.specs.Rules.{okKind, widthBefore, setOver, setBefore, okPool, poolOk, nodeNumber, Valid}
+use Rattle.pool.specs.Node.{Kind, bad, var, const, bv, compare, ite, extract, concat, zext, sext, Cell, cellAt, setAt}
+use Rattle.pool.specs.Rules.{okKind, widthBefore, setOver, setBefore, poolOk, nodeNumber, Valid}
 use Rattle.pool_registers.specs.Answer.{Named}
 use Rattle.pool.specs.Unfold.{shapeOf, earlier, unfoldTo, unfoldAt}
 use Rattle.pool.proofs.Facts.{valid-node, valid-set}
+use Rattle.pool_check.proofs.Passed.{words-for, keeps}
 use Rattle.pool_rules.proofs.Kept.{bv-tests, compare-tests, ite-tests, extract-tests, concat-tests, zext-tests}
 
 -- node n with the cell k, over the terms a, b, c of its operands, whose sets are SA, SB, SC
@@ -53,18 +53,11 @@ module _ (ws : List ℕ) (count : ℕ) (v : Valid ws count) where
 -- ---- what `registers_of` answers, by the way that it took
 module _ (ws : List ℕ) (count n : ℕ) where
   pub refused : (k : ℕ) → k ≡ nodeNumber ws count n 0 → 0 < k → Named ws count n k 0
-  refused k e h = record { number-is = e; set-is = rw (← e) (none k _ h) }
-    where
-      none : (k s : ℕ) → 0 < k → 0 ≡ byNumber k s
-      none zero s h = absurd (omega (arith, h))
-      none (suc k) s h = refl
+  refused k e h = record { number-is = e; set-is = rw (← e) (sym (zero-beside k _ h)) }
 
   pub inside : poolOk ws count ≡ true → n < count → 4 * n + 3 < length ws
-  inside h l =
-      let m : count ≤ places ws = leb-true _ _ (and-both (leb count (places ws)) (okPool ws count) h .0) in
-      omega arith
+  inside h l = omega (arith, words-for ws count h)
 
   pub told : {k s : ℕ} → k ≡ nodeNumber ws count n 0 → k ≡ 0 → poolOk ws count ≡ true → n < count → s ≡ setAt ws n → Named ws count n k s
   told i z h l e =
-      let v : Valid ws count = and-both (leb count (places ws)) (okPool ws count) h .1 in
-      record { number-is = i; set-is = rw (sym i ∙ z) (e ∙ walk-is ws count v n l) }
+      record { number-is = i; set-is = rw (sym i ∙ z) (e ∙ walk-is ws count (keeps ws count h) n l) }

@@ -3,7 +3,7 @@ use mathlib.Core.Bool.{true, not, false≢true}
 use mathlib.Core.List.{List}
 use mathlib.Core.Path.{_≡_, sym, ap, _∙_}
 use Prim.Native.Nat.{ℕ}
-use lib.Dec.{ltb, eqb}
+use lib.Dec.{eqb}
 use borrow.Author.Tests.{lt-ltb, eq-eqb, ne-eqb}
 use Rattle.terms.specs.Expr.{Expr}
 use Rattle.terms.specs.Value.{value}

@@ -8,9 +8,10 @@ use lib.Dec.{ltb, leb}
 use lib.ListN.{length}
 use borrow.Author.Tests.{lt-ltb, le-ltb, le-leb, lt-leb, ltb-true, leb-true}
 use Rattle.facts.specs.Refuse.{byNumber, unless}
+use Rattle.facts.proofs.Refused.{zero-beside}
 use Rattle.facts.proofs.Tests.{and-both}
 use Rattle.script_length.specs.Answer.{scriptNumber}
-use Rattle.script_length.proofs.Answers.{Good, good, past, refusal, no-length}
+use Rattle.script_length.proofs.Answers.{Good, good, past, refusal}
 use Rattle.script_lane_meaning.specs.LaneScript.{laneScriptOf}
 use Rattle.script_lane_length.specs.Answer.{isCut, laneNumber, LaneMeasured}
 
@@ -78,7 +79,7 @@ module _ (ws : List ℕ) (count a b hi lo : ℕ) where
   pub unmeasured : {k : ℕ} → k ≡ laneNumber ws count a b hi lo 0 → 0 < k → LaneMeasured ws count a b hi lo k 0
   unmeasured {k} e h = record {
     number-is = e;
-    length-is = sym (no-length k (length (laneScriptOf ws count a b hi lo)) h) ∙ ap (λ (j : ℕ). byNumber j (length (laneScriptOf ws count a b hi lo))) e;
+    length-is = sym (zero-beside k (length (laneScriptOf ws count a b hi lo)) h) ∙ ap (λ (j : ℕ). byNumber j (length (laneScriptOf ws count a b hi lo))) e;
   }
 
   pub measured : {l : ℕ} → laneNumber ws count a b hi lo 0 ≡ 0 → l ≡ length (laneScriptOf ws count a b hi lo) → LaneMeasured ws count a b hi lo 0 l

@@ -6,9 +6,9 @@ use native.Mathlib.Omega.{arith}
 use lib.ListN.{length}
 use borrow.Author.Tests.{le-leb, lt-leb}
 use Rattle.facts.specs.Refuse.{byNumber, listBy}
+use Rattle.facts.proofs.Refused.{zero-beside, old-kept}
 use Rattle.text_digits.specs.Writing.{Wrote}
-use Rattle.script_length.proofs.Answers.{no-length}
-use Rattle.script_write.proofs.Answers.{old-bytes, at-front}
+use Rattle.text.proofs.Answers.{in-front}
 use Rattle.script_lane_meaning.specs.LaneScript.{laneScriptOf}
 use Rattle.script_lane_length.specs.Answer.{laneNumber}
 use Rattle.script_lane_length.proofs.Answers.{Fine, past-all, lane-refusal}
@@ -31,8 +31,8 @@ module _ (ws : List ℕ) (count a b hi lo : ℕ) where
   pub refused : {k : ℕ} (old : List ℕ) → k ≡ writeNumber ws count a b hi lo (length old) → 0 < k → LaneAnswered ws count a b hi lo old k 0 old
   refused {k} old e h = record {
     number-is = e;
-    length-is = sym (no-length k (length text) h) ∙ ap (λ (j : ℕ). byNumber j (length text)) e;
-    buffer-is = sym (old-bytes k text old h) ∙ ap (λ (j : ℕ). listBy j text old) e;
+    length-is = sym (zero-beside k (length text) h) ∙ ap (λ (j : ℕ). byNumber j (length text)) e;
+    buffer-is = sym (old-kept k text old h) ∙ ap (λ (j : ℕ). listBy j text old) e;
   }
 
   pub written : {old new : List ℕ} {len end : ℕ} → writeNumber ws count a b hi lo (length old) ≡ 0 → length text ≤ length old → len ≡ length text
@@ -41,5 +41,5 @@ module _ (ws : List ℕ) (count a b hi lo : ℕ) where
   written {old} e h l w = record {
     number-is = sym e;
     length-is = l ∙ ap (λ (j : ℕ). byNumber j (length text)) (sym e);
-    buffer-is = at-front text h w ∙ ap (λ (j : ℕ). listBy j text old) (sym e);
+    buffer-is = in-front w h ∙ ap (λ (j : ℕ). listBy j text old) (sym e);
   }

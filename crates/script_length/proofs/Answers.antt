@@ -2,11 +2,12 @@
 use mathlib.Core.Bool.{Bool, true, false, _&&_}
 use mathlib.Core.List.{List}
 use mathlib.Core.Path.{_≡_, refl, sym, ap, _∙_}
-use Prim.Native.Nat.{ℕ, zero, suc, _<_}
+use Prim.Native.Nat.{ℕ, _<_}
 use native.Mathlib.Nat.{not-suc-le-zero}
 use native.Mathlib.Omega.{arith}
 use lib.ListN.{length}
 use Rattle.facts.specs.Refuse.{byNumber, unless}
+use Rattle.facts.proofs.Refused.{zero-beside}
 use Rattle.pool.specs.Rules.{poolOk, ofWidth}
 use Rattle.pool_check.proofs.Passed.{few}
 use Rattle.text_length.proofs.Answers.{ready}
@@ -75,15 +76,11 @@ module _ (ws : List ℕ) (count : ℕ) where
 
 -- ---- the answers
 
-pub no-length : (k l : ℕ) → 0 < k → byNumber k l ≡ 0
-no-length zero l h = absurd (not-suc-le-zero h)
-no-length (suc k) l h = refl
-
 module _ (ws : List ℕ) (count a b : ℕ) where
   pub unmeasured : {k : ℕ} → k ≡ scriptNumber ws count a b 0 → 0 < k → Measured ws count a b k 0
   unmeasured {k} e h = record {
     number-is = e;
-    length-is = sym (no-length k (length (scriptOf ws count a b)) h) ∙ ap (λ (j : ℕ). byNumber j (length (scriptOf ws count a b))) e;
+    length-is = sym (zero-beside k (length (scriptOf ws count a b)) h) ∙ ap (λ (j : ℕ). byNumber j (length (scriptOf ws count a b))) e;
   }
 
   pub measured : {l : ℕ} → scriptNumber ws count a b 0 ≡ 0 → l ≡ length (scriptOf ws count a b) → Measured ws count a b 0 l

@@ -1,26 +1,18 @@
 -- What `write_script` answers, by the way that it took. Assumes nothing.
 use mathlib.Core.List.{List, [], _∷_, _++_}
 use mathlib.Core.Path.{_≡_, refl, sym, ap, _∙_}
-use Prim.Native.Nat.{ℕ, zero, suc, _≤_, _<_}
-use native.Mathlib.Nat.{zero-add, not-suc-le-zero}
+use Prim.Native.Nat.{ℕ, _≤_, _<_}
 use native.Mathlib.Omega.{arith}
 use lib.ListN.{length, take, drop}
-use lib.Seq.{sets-eq}
 use borrow.Author.Tests.{le-leb, lt-leb}
 use Rattle.facts.specs.Refuse.{byNumber, listBy}
+use Rattle.facts.proofs.Refused.{zero-beside, old-kept}
 use Rattle.text_digits.specs.Writing.{Wrote}
+use Rattle.text.proofs.Answers.{in-front}
 use Rattle.script_meaning.specs.Script.{scriptOf}
 use Rattle.script_length.specs.Answer.{scriptNumber}
-use Rattle.script_length.proofs.Answers.{Good, past, refusal, no-length}
+use Rattle.script_length.proofs.Answers.{Good, past, refusal}
 use Rattle.script_write.specs.Answer.{writeNumber, Answered}
-
-pub old-bytes : (k : ℕ) (s old : List ℕ) → 0 < k → listBy k s old ≡ old
-old-bytes zero s old h = absurd (not-suc-le-zero h)
-old-bytes (suc k) s old h = refl
-
--- the text stands at the front
-pub at-front : {old new : List ℕ} {end : ℕ} (s : List ℕ) → length s ≤ length old → Wrote old 0 s end new → new ≡ s ++ drop (length s) old
-at-front {old} s h w = w .after-is ∙ sets-eq s old 0 (omega arith) ∙ ap (λ (k : ℕ). s ++ drop k old) (zero-add (length s))
 
 front : (s t : List ℕ) → take (length s) (s ++ t) ≡ s
 front [] t = refl
@@ -47,8 +39,8 @@ module _ (ws : List ℕ) (count a b : ℕ) where
   pub refused : {k : ℕ} (old : List ℕ) → k ≡ writeNumber ws count a b (length old) → 0 < k → Answered ws count a b old k 0 old
   refused {k} old e h = record {
     number-is = e;
-    length-is = sym (no-length k (length (scriptOf ws count a b)) h) ∙ ap (λ (j : ℕ). byNumber j (length (scriptOf ws count a b))) e;
-    buffer-is = sym (old-bytes k (scriptOf ws count a b) old h) ∙ ap (λ (j : ℕ). listBy j (scriptOf ws count a b) old) e;
+    length-is = sym (zero-beside k (length (scriptOf ws count a b)) h) ∙ ap (λ (j : ℕ). byNumber j (length (scriptOf ws count a b))) e;
+    buffer-is = sym (old-kept k (scriptOf ws count a b) old h) ∙ ap (λ (j : ℕ). listBy j (scriptOf ws count a b) old) e;
   }
 
   pub written : {old new : List ℕ} {len end : ℕ} → writeNumber ws count a b (length old) ≡ 0 → length (scriptOf ws count a b) ≤ length old
@@ -58,5 +50,5 @@ module _ (ws : List ℕ) (count a b : ℕ) where
   written {old} e h l w = record {
     number-is = sym e;
     length-is = l ∙ ap (λ (j : ℕ). byNumber j (length (scriptOf ws count a b))) (sym e);
-    buffer-is = at-front (scriptOf ws count a b) h w ∙ ap (λ (j : ℕ). listBy j (scriptOf ws count a b) old) (sym e);
+    buffer-is = in-front w h ∙ ap (λ (j : ℕ). listBy j (scriptOf ws count a b) old) (sym e);
   }

@@ -1,29 +1,21 @@
 -- What `write_text` answers, by the way that it took. Assumes nothing.
 use mathlib.Core.Bool.{true}
 use mathlib.Core.List.{List, _++_}
-use mathlib.Core.Path.{_≡_, refl, sym, ap, _∙_}
-use Prim.Native.Nat.{ℕ, zero, suc, _≤_, _<_}
+use mathlib.Core.Path.{_≡_, sym, ap, _∙_}
+use Prim.Native.Nat.{ℕ, _≤_, _<_}
 use native.Mathlib.Nat.{zero-add}
 use native.Mathlib.Omega.{arith}
 use lib.Dec.{leb}
 use lib.ListN.{length, drop}
 use lib.Seq.{sets-eq}
 use borrow.Author.Tests.{le-leb, lt-leb}
-use Rattle.facts.specs.Refuse.{listBy, unless}
+use Rattle.facts.specs.Refuse.{unless}
+use Rattle.facts.proofs.Refused.{zero-beside, old-kept}
 use Rattle.pool.specs.Rules.{poolOk, nodeNumber}
 use Rattle.pool_check.proofs.Number.{good-node, first-refusal}
 use Rattle.text_digits.specs.Writing.{Wrote}
 use Rattle.text_parts.specs.Text.{text}
-use Rattle.text_length.proofs.Answers.{no-length}
 use Rattle.text.specs.Answer.{textNumber, Answered}
-
-none : {A : Type 0} → 0 < 0 → A
-none h = absurd (omega arith)
-
--- a refusal leaves the buffer
-pub no-text : (number : ℕ) (s old : List ℕ) → 0 < number → listBy number s old ≡ old
-no-text zero s old h = none h
-no-text (suc k) s old h = refl
 
 -- a text at the front of a buffer, and the bytes after it
 pub in-front : {old new s : List ℕ} {end : ℕ} → Wrote old 0 s end new → length s ≤ length old → new ≡ s ++ drop (length s) old
@@ -44,7 +36,7 @@ module _ (ws : List ℕ) (count n : ℕ) where
   pub refused : (old : List ℕ) {number : ℕ} → number ≡ textNumber ws count n (length old) → 0 < number → Answered ws count n old number 0 old
   refused old e h =
       let r : 0 < textNumber ws count n (length old) = rw e at h in
-      record { number-is = e; length-is = sym (no-length _ _ r); buffer-is = sym (no-text _ _ _ r) }
+      record { number-is = e; length-is = sym (zero-beside _ _ r); buffer-is = sym (old-kept _ _ _ r) }
 
   -- a text that was written
   pub written : {old new : List ℕ} {number len : ℕ} → number ≡ 0 → textNumber ws count n (length old) ≡ 0 → len ≡ length (text ws n)

@@ -1,14 +1,13 @@
 -- `starts` meets its contract: after n turns the first n nodes keep `varRule`; past the check no further node is a Var.
 use Rattle.join.proofs.Checks.{rules-none, rules-more, rules-bad, not-ok, too-few, not-var, all-good}
 use Rattle.join.specs.Starts.{varRules}
-use Rattle.pool.specs.Rules.{okPool, poolOk}
+use Rattle.pool.specs.Rules.{poolOk}
 use Rattle.pool_check.specs.Plain.{plainFrom}
-use Rattle.pool.specs.Node.{places}
+use Rattle.pool_check.proofs.Passed.{words-for}
 use Rattle.facts.proofs.Tests.{and-both}
-use lib.Dec.{leb}
 use Prim.Native.Nat.{_≤_, _-_}
 use mathlib.Core.Bool.{true, _&&_}
-use borrow.Author.Tests.{not-true, not-false, leb-true}
+use borrow.Author.Tests.{not-true, not-false}
 use borrow.Author.Needs.{needs}
 use mathlib.Core.Path.{_≡_, sym, _∙_}
 use native.Mathlib.Omega.{arith}
@@ -55,7 +54,7 @@ is-register-requires c κs =
     let a = entry (e .before) .args in
     let ws = a .pool .now in
     let ok = and-both (poolOk ws (a .count)) (plainFrom ws 32 (a .count)) (check-passed e) .0 in
-    omega (arith, leb-true (a .count) (places ws) (and-both (leb (a .count) (places ws)) (okPool ws (a .count)) ok .0))
+    omega (arith, words-for ws (a .count) ok)
 
 returns-3 : tie.Need-returns-3 Inv-loop μ-loop
 returns-3 c =

@@ -1,6 +1,5 @@
 -- `of_width` meets its contract: both its tests are those of `ofWidth`.
 use borrow.Author.Tests.{lt-ltb, le-ltb}
-use native.Mathlib.Omega.{arith}
 use borrow.Author.Needs.{needs}
 use Rattle.pool_check.proofs.of_width.Statement.{statement}
 use Rattle.pool_check.proofs.of_width.Tie as tie

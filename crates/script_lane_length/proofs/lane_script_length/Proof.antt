@@ -1,5 +1,4 @@
 -- `lane_script_length` answers with a number and a length. Assumes nothing.
-use mathlib.Core.Path.{_≡_, sym, _∙_}
 use native.Mathlib.Omega.{arith}
 use Rattle.pool_check.proofs.Passed.{few, below}
 use Rattle.script_length.proofs.Answers.{all-named}
