@@ -98,23 +98,26 @@ module _ (ws regs : List ℕ) (n : ℕ) (r : Ready ws n) (k : ℕ) (is-k : k ≡
       (λ e. tree 17 e)
       (pair-kinds b))
 
-  pub visits-ite : k ≡ 15
-      → visitsAt ws regs n ≡ suc (visitsAt ws regs (opA ws n) + ite (valueAt ws regs (opA ws n)) (visitsAt ws regs (opB ws n)) (visitsAt ws regs (opC ws n)))
-  unfolding kindAt kinds visits
-  visits-ite h =
-      let la = ite-a ws n r k is-k h .before in
-      let lb = ite-b ws n r k is-k h .before in
-      let lc = ite-c ws n r k is-k h .before in
-      rw (← found-visits ws regs n la, ← found-visits ws regs n lb, ← found-visits ws regs n lc, ← found-value ws regs n la) (tree 15 h)
+  -- the operands of an Ite
+  module _ (h : k ≡ 15) where
+    la : opA ws n < n
+    la = ite-a ws n r k is-k h .before
 
-  pub value-ite : k ≡ 15 → valueAt ws regs n ≡ ite (valueAt ws regs (opA ws n)) (valueAt ws regs (opB ws n)) (valueAt ws regs (opC ws n))
-  unfolding kindAt kinds
-  value-ite h =
-      let la = ite-a ws n r k is-k h .before in
-      let lb = ite-b ws n r k is-k h .before in
-      let lc = ite-c ws n r k is-k h .before in
-      rw (← found-value ws regs n lb, ← found-value ws regs n lc, ← found-value ws regs n la)
-      (unfold valueAt value in ap (value start) (unfolds ws regs n ∙ ap (λ (j : ℕ). shaped ws regs n (kindAt j)) (sym is-k ∙ h)))
+    lb : opB ws n < n
+    lb = ite-b ws n r k is-k h .before
+
+    lc : opC ws n < n
+    lc = ite-c ws n r k is-k h .before
+
+    pub visits-ite : visitsAt ws regs n ≡ suc (visitsAt ws regs (opA ws n) + ite (valueAt ws regs (opA ws n)) (visitsAt ws regs (opB ws n)) (visitsAt ws regs (opC ws n)))
+    unfolding kindAt kinds visits
+    visits-ite = rw (← found-visits ws regs n la, ← found-visits ws regs n lb, ← found-visits ws regs n lc, ← found-value ws regs n la) (tree 15 h)
+
+    pub value-ite : valueAt ws regs n ≡ ite (valueAt ws regs (opA ws n)) (valueAt ws regs (opB ws n)) (valueAt ws regs (opC ws n))
+    unfolding kindAt kinds
+    value-ite =
+        rw (← found-value ws regs n lb, ← found-value ws regs n lc, ← found-value ws regs n la)
+        (unfold valueAt value in ap (value start) (unfolds ws regs n ∙ ap (λ (j : ℕ). shaped ws regs n (kindAt j)) (sym is-k ∙ h)))
 
   -- a condition is 1 or 0
   pub flat-value : widthAt ws n ≡ 0 → valueAt ws regs n ≤ 1

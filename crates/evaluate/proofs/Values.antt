@@ -178,21 +178,24 @@ module _ (ws regs : List ℕ) (n : ℕ) (r : Ready ws n) (k : ℕ) (is-k : k ≡
   c = operandTree ws n (opC ws n)
 
   module _ (h : InWords regs) where
-    pub one-is : single k ≡ true → (x : ℕ) → valueAt ws regs n ≡ appliedAt ws n (valueAt ws regs (opA ws n)) x
-    unfolding valueAt
-    one-is e x =
-        let s = is-single k e in
-        let l = single-a ws n r k is-k s .before in
-        rw (← wide-of l, ← value-of l, ← is-k)
-        (ap (value start) tree ∙ one-value start (start-bits regs h) (cellAt ws n) a b c (kindAt k) (one-kind s (to-nineteen ws n r k is-k)) (cond (single k) 0 (widthAt ws (opB ws n))) x)
+    module _ (e : single k ≡ true) (x : ℕ) where
+      s : Single k
+      s = is-single k e
 
-    pub one-ok : single k ≡ true → (x : ℕ) → OperandsAt ws n (valueAt ws regs (opA ws n)) x
-    unfolding valueAt
-    one-ok e x =
-        let s = is-single k e in
-        let l = single-a ws n r k is-k s .before in
-        rw (← wide-of l, ← value-of l, ← is-k)
-        (one-operand start (start-bits regs h) (cellAt ws n) a b c (kindAt k) (one-kind s (to-nineteen ws n r k is-k)) (cond (single k) 0 (widthAt ws (opB ws n))) x good)
+      l : opA ws n < n
+      l = single-a ws n r k is-k s .before
+
+      pub one-is : valueAt ws regs n ≡ appliedAt ws n (valueAt ws regs (opA ws n)) x
+      unfolding valueAt
+      one-is =
+          rw (← wide-of l, ← value-of l, ← is-k)
+          (ap (value start) tree ∙ one-value start (start-bits regs h) (cellAt ws n) a b c (kindAt k) (one-kind s (to-nineteen ws n r k is-k)) (cond (single k) 0 (widthAt ws (opB ws n))) x)
+
+      pub one-ok : OperandsAt ws n (valueAt ws regs (opA ws n)) x
+      unfolding valueAt
+      one-ok =
+          rw (← wide-of l, ← value-of l, ← is-k)
+          (one-operand start (start-bits regs h) (cellAt ws n) a b c (kindAt k) (one-kind s (to-nineteen ws n r k is-k)) (cond (single k) 0 (widthAt ws (opB ws n))) x good)
 
     module _ (three : 3 ≤ k) (no : k ≡ 15 → ⊥) (e : single k ≡ false) where
       pair : Pair k

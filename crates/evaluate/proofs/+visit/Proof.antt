@@ -2,17 +2,16 @@
 mod Places
 use mathlib.Core.Bool.{false≢true}
 use mathlib.Core.Path.{refl, sym, _∙_}
-use Prim.Native.Nat.{ℕ, _≤_}
+use Prim.Native.Nat.{ℕ}
 use native.Mathlib.Omega.{arith}
 use borrow.Author.Needs.{needs}
-use Rattle.pool.specs.Node.{kindNumber}
 use Rattle.text_parts.proofs.Operands.{is-single, ite-b, ite-c, pair-b}
 use Rattle.evaluate.proofs.Steps.{some, visits-leaf, spent, given, first-spent, after-one, after-two, second-spent, no-arm, yes-arm, first-operand}
 use Rattle.evaluate.proofs.visit.Reads as visit
 use Rattle.evaluate.proofs.+visit.Lts-visit as visit-lts
 use Rattle.evaluate.proofs.+visit.{statement}
 use Rattle.evaluate.proofs.+visit.Tie.{close}
-use Rattle.evaluate.proofs.+visit.Proof.Places.{μ-visit, visit-at, claims, pool, regs, node, start, some-left}
+use Rattle.evaluate.proofs.+visit.Proof.Places.{μ-visit, visit-at, claims, pool, regs, node, start, some-left, leaf-entry, leaf-kind}
 use Rattle.evaluate.proofs.+visit.Proof.Places.{entry, kind-is, some-first, first-visited, from-three, first-of, choice-no, choice-yes}
 use Rattle.evaluate.proofs.+visit.Proof.Places.{first-other, first-one, one-is, two, two-is, first-before, second-visited}
 
@@ -25,24 +24,22 @@ module _ (t : ℕ) where
 
   combine-requires : visit-lts.Need-combine-requires (claims t) (visit-at t) visit.Post
   combine-requires c κs =
-      let w = c .before .before in
-      let r = w .before in
-      let s = start t r in
-      let few : 3 ≤ kindNumber (pool t s) (node t s) → ⊥ = λ h. omega (arith, h, w .if2 .taken, r .kind-of .ensures) in
-      ((s .pre .1 .0, λ e. omega (arith, e, w .if2 .taken, r .kind-of .ensures), s .pre .1 .1), (λ h. absurd (few h), λ h. absurd (few h)))
+      let l = c .before .before in
+      let s = leaf-entry t l in
+      let few = leaf-kind t l in
+      ((s .pre .1 .0, λ e. omega (arith, e, few), s .pre .1 .1), (λ h. absurd (omega (arith, h, few)), λ h. absurd (omega (arith, h, few))))
 
   returns-2 : visit-lts.Need-returns-2 (claims t) (visit-at t) visit.Post
   returns-2 c =
-      let w = c .before .before .before in
-      let r = w .before in
-      let s = start t r in
-      given (pool t s) (regs t s) (node t s) _ (c .combine .ensures) (omega (arith, visits-leaf (pool t s) (regs t s) (node t s) (s .pre .1 .0) _ (r .kind-of .ensures) (w .if2 .taken)))
+      let l = c .before .before .before in
+      let s = leaf-entry t l in
+      given (pool t s) (regs t s) (node t s) _ (c .combine .ensures) (omega (arith, visits-leaf (pool t s) (regs t s) (node t s) (s .pre .1 .0) _ refl (leaf-kind t l)))
 
   first-requires : visit-lts.Need-first-requires (claims t) (visit-at t) visit.Post
   first-requires c κs = start t (c .before .before) .pre .1 .0 .inside
 
   sub-visit : visit-lts.Need-sub-visit (claims t) (visit-at t) visit.Post
-  sub-visit c = let r = c .before .before .before .before in some-left t r
+  sub-visit c = some-left t (c .before .before .before .before)
 
   visit-requires : visit-lts.Need-visit-requires (claims t) (visit-at t) visit.Post
   visit-requires c κs =

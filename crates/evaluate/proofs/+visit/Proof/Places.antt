@@ -71,6 +71,16 @@ module _ (t : ℕ) where
   abbrev pub kind : Read → ℕ
   kind c = c .kind-of .result
 
+  -- a leaf
+  abbrev pub Leaf : Type 0
+  Leaf = visit-lts.Then2 (claims t) (visit-at t) visit.Post
+
+  abbrev pub leaf-entry : Leaf → Start
+  leaf-entry c = start (c .before)
+
+  pub leaf-kind : (c : Leaf) → kindNumber (pool (leaf-entry c)) (node (leaf-entry c)) < 3
+  leaf-kind c = omega (arith, c .if2 .taken, c .before .kind-of .ensures)
+
   -- the first operand has its value
   abbrev pub First : Type 0
   First = visit-lts.After-visit (claims t) (visit-at t) visit.Post
