@@ -3,7 +3,7 @@ use mathlib.Core.Bool.{true, false}
 use mathlib.Core.List.{List}
 use mathlib.Core.Logic.{⊎-elim}
 use mathlib.Core.Path.{_≡_, sym, _∙_}
-use Prim.Native.Nat.{ℕ, _-_, _<_}
+use Prim.Native.Nat.{ℕ, _-_, _≤_, _<_}
 use native.Mathlib.Omega.{arith}
 use borrow.Author.Needs.{needs}
 use borrow.Author.Tests.{eq-eqb, ne-eqb}
@@ -94,6 +94,9 @@ module _ (t : ℕ) where
   one-is : (c : One) → single (kind (read-one c)) ≡ true
   one-is c = sym (c .before .is-single .ensures) ∙ c .if3 .taken
 
+  abbrev one : less-node-lts.After-first (claims t) (less-node-at t) less-node.Post → One
+  one c = c .before .before
+
   -- a kind with two, or an Ite
   abbrev Two : Type 0
   Two = less-node-lts.Else3 (claims t) (less-node-at t) less-node.Post
@@ -103,6 +106,9 @@ module _ (t : ℕ) where
 
   two-is : (c : Two) → single (kind (read-two c)) ≡ false
   two-is c = sym (c .before .is-single .ensures) ∙ c .if3 .left
+
+  from-three : (c : Two) → 3 ≤ kind (read-two c)
+  from-three c = c .before .before .if2 .left
 
   -- its own characters are taken off
   abbrev Own : Type 0
@@ -144,14 +150,14 @@ module _ (t : ℕ) where
 
   less-single-requires : less-node-lts.Need-less-single-requires (claims t) (less-node-at t) less-node.Post
   less-single-requires c κs =
-      let o = c .before .before .before in
+      let o = one (c .before) in
       let r = read-one o in
       (start r .pre .1, r .kind-of .ensures, one-is o)
 
   less-node-requires : less-node-lts.Need-less-node-requires (claims t) (less-node-at t) less-node.Post
   less-node-requires c κs =
       let f = c .before .before in
-      let o = f .before .before in
+      let o = one f in
       let r = read-one o in
       let s = start r in
       let d = single-a (pool s) (node s) (s .pre .1) _ (r .kind-of .ensures) (is-single _ (one-is o)) in
@@ -161,7 +167,7 @@ module _ (t : ℕ) where
   returns-3 c =
       let l = c .before in
       let f = l .before .before in
-      let o = f .before .before in
+      let o = one f in
       let r = read-one o in
       let s = start r in
       less-one (pool s) (node s) (s .pre .1) _ (r .kind-of .ensures) (s .args .b) (is-single _ (one-is o)) (l .less-single .ensures) (rw (f .first .ensures) at (c .less-node .ensures))
@@ -170,7 +176,7 @@ module _ (t : ℕ) where
   own-length-requires c κs =
       let r = read-two c in
       let s = start r in
-      a-joined (pool s) (node s) (s .pre .1) _ (r .kind-of .ensures) (c .before .before .if2 .left) (two-is c)
+      a-joined (pool s) (node s) (s .pre .1) _ (r .kind-of .ensures) (from-three c) (two-is c)
 
   minus-or-zero-requires : less-node-lts.Need-minus-or-zero-requires (claims t) (less-node-at t) less-node.Post
   minus-or-zero-requires c κs = search needs
@@ -194,7 +200,7 @@ module _ (t : ℕ) where
       let w = two (c .before .before .before) in
       let r = read-two w in
       let s = start r in
-      let d = left-term (pool s) (node s) (s .pre .1) _ (r .kind-of .ensures) (w .before .before .if2 .left) in
+      let d = left-term (pool s) (node s) (s .pre .1) _ (r .kind-of .ensures) (from-three w) in
       rw (c .left .ensures) (omega (arith, s .pre .0, d .before), d .ready)
 
   right-requires : less-node-lts.Need-right-requires (claims t) (less-node-at t) less-node.Post
@@ -205,7 +211,7 @@ module _ (t : ℕ) where
       let w = two (c .before .before .before .before .before .before) in
       let r = read-two w in
       let s = start r in
-      let d = right-term (pool s) (node s) (s .pre .1) _ (r .kind-of .ensures) (w .before .before .if2 .left) (two-is w) in
+      let d = right-term (pool s) (node s) (s .pre .1) _ (r .kind-of .ensures) (from-three w) (two-is w) in
       rw (c .right .ensures) (omega (arith, s .pre .0, d .before), d .ready)
 
   returns-4 : less-node-lts.Need-returns-4 (claims t) (less-node-at t) less-node.Post
@@ -218,7 +224,7 @@ module _ (t : ℕ) where
       let w = two o in
       let r = read-two w in
       let s = start r in
-      less-two (pool s) (node s) (s .pre .1) _ (r .kind-of .ensures) (s .args .b) (w .before .before .if2 .left) (two-is w)
+      less-two (pool s) (node s) (s .pre .1) _ (r .kind-of .ensures) (s .args .b) (from-three w) (two-is w)
       (rw (o .before .own-length .ensures) at (o .minus-or-zero .ensures)) (condition-less q) (rw (f .left .ensures) at (l .less-node3 .ensures))
       (rw (g .right .ensures) at (c .less-node4 .ensures))
 

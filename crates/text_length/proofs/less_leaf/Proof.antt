@@ -6,14 +6,23 @@ use borrow.Author.Needs.{needs}
 use Rattle.text_length.proofs.less_leaf.Statement.{statement}
 use Rattle.text_length.proofs.less_leaf.Tie as tie
 
+-- ---- the entry, of a Var and of a Const
+
+abbrev of-var : tie.Then1 → tie.Start
+of-var c = c .before .before
+
+abbrev of-const : tie.Else1 → tie.Start
+of-const c = c .before .before
+
+-- ---- needs
+
 low-requires : tie.Need-low-requires
 low-requires c κs = search needs
 
 decimal-length-requires : tie.Need-decimal-length-requires
 decimal-length-requires c κs =
-    let l-if1 = c .before in
-    let st = l-if1 .before .before in
-    rw (c .low .ensures) (register-small (st .args .p .now) (st .args .n .0) (st .pre .0) (st .args .k) (st .pre .1) (l-if1 .if1 .taken))
+    let s = of-var (c .before) in
+    rw (c .low .ensures) (register-small (s .args .p .now) (s .args .n .0) (s .pre .0) (s .args .k) (s .pre .1) (c .before .if1 .taken))
 
 add-minus-or-zero : tie.Need-add-minus-or-zero
 add-minus-or-zero c = search needs
@@ -25,10 +34,8 @@ returns : tie.Need-returns
 returns c =
     let l-decimal-length = c .before in
     let l-low = l-decimal-length .before in
-    let l-if1 = l-low .before in
-    let st = l-if1 .before .before in
-    let a = st .args in
-    let size = size-var (a .p .now) (a .n .0) (st .pre .0) (a .k) (st .pre .1) (l-if1 .if1 .taken) in
+    let s = of-var (l-low .before) in
+    let size = size-var (s .args .p .now) (s .args .n .0) (s .pre .0) (s .args .k) (s .pre .1) (l-low .before .if1 .taken) in
     omega (arith, size, c .minus-or-zero .ensures, rw (l-low .low .ensures) at (l-decimal-length .decimal-length .ensures .0))
 
 width-of-requires : tie.Need-width-of-requires
@@ -36,8 +43,8 @@ width-of-requires c κs = search needs
 
 decimal-length-requires-2 : tie.Need-decimal-length-requires-2
 decimal-length-requires-2 c κs =
-    let st = c .before .before .before in
-    rw (c .width-of .ensures .0) (width-small (st .args .p .now) (st .args .n .0) (st .pre .0) (st .args .k) (st .pre .1))
+    let s = of-const (c .before) in
+    rw (c .width-of .ensures .0) (width-small (s .args .p .now) (s .args .n .0) (s .pre .0) (s .args .k) (s .pre .1))
 
 add-minus-or-zero-2 : tie.Need-add-minus-or-zero-2
 add-minus-or-zero-2 c = search needs
@@ -61,11 +68,10 @@ returns-2 c =
     let l-minus-or-zero2 = l-low2 .before in
     let l-decimal-length2 = l-minus-or-zero2 .before in
     let l-width-of = l-decimal-length2 .before in
-    let l-if1 = l-width-of .before in
-    let st = l-if1 .before .before in
-    let a = st .args in
-    let const = is-const (a .p .now) (a .n .0) (st .pre .0) (a .k) (st .pre .1) (st .pre .2) (l-if1 .if1 .left) in
-    let size = size-const (a .p .now) (a .n .0) (st .pre .0) (a .k) (st .pre .1) const in
+    let s = of-const (l-width-of .before) in
+    let a = s .args in
+    let const = is-const (a .p .now) (a .n .0) (s .pre .0) (a .k) (s .pre .1) (s .pre .2) (l-width-of .before .if1 .left) in
+    let size = size-const (a .p .now) (a .n .0) (s .pre .0) (a .k) (s .pre .1) const in
     let width = rw (l-width-of .width-of .ensures .0) at (l-decimal-length2 .decimal-length2 .ensures .0) in
     omega (arith, size, l-minus-or-zero2 .minus-or-zero2 .ensures, width, rw (l-low2 .low2 .ensures, l-high .high .ensures) at (c .less-hex .ensures))
 

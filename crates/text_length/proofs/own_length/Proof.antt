@@ -19,9 +19,9 @@ add-result c = search needs
 
 returns : tie.Need-returns
 returns c =
-    let e = c .before in
-    let p = e .before .pre in
-    rw (ne-eqb (e .before .args .k) 15 (λ q. omega (arith, q, e .if1 .taken))) (omega (arith, ap length (bracket (p .from) (e .if1 .taken)), c .operator-length .ensures))
+    let o = c .before in
+    let s = o .before in
+    rw (ne-eqb (s .args .k) 15 (λ q. omega (arith, q, o .if1 .taken))) (omega (arith, ap length (bracket (s .pre .from) (o .if1 .taken)), c .operator-length .ensures))
 
 returns-2 : tie.Need-returns-2
 unfolding openText betweenText kindAt kinds
@@ -31,8 +31,9 @@ returns-3 : tie.Need-returns-3
 unfolding openText betweenText kindAt kinds
 returns-3 c =
     let e = c .before in
-    let p = e .before .pre in
-    let concat : e .before .args .k ≡ 17 = omega (arith, p .to, e .if1 .left, c .if2 .left, p .no-extract) in rw concat
+    let s = e .before in
+    let concat : s .args .k ≡ 17 = omega (arith, s .pre .to, e .if1 .left, c .if2 .left, s .pre .no-extract) in
+    rw concat
 
 pub own-length-spec : {M : Type 1} → statement M
 own-length-spec =

@@ -11,6 +11,13 @@ use borrow.Author.Needs.{needs}
 use Rattle.text_length.proofs.nodes.hex_length.Statement.{statement}
 use Rattle.text_length.proofs.nodes.hex_length.Tie as tie
 
+-- the high word is 0
+abbrev entry : tie.Else1 → tie.Start
+entry c = c .before
+
+no-high : (c : tie.Else1) → entry c .args .high ≡ 0
+no-high c = omega (arith, c .if1 .left)
+
 sub-result : tie.Need-sub-result
 sub-result c = omega (arith, leading-le 64 (c .before .args .high))
 
@@ -25,22 +32,20 @@ returns c =
 returns-2 : tie.Need-returns-2
 unfolding hexadecimal
 returns-2 c =
-    let e = c .before in
-    let a = e .before .args in
-    let l = length-digit (a .low) (a .high) (omega (arith, e .if1 .left, c .if2 .taken)) in
+    let a = entry (c .before) .args in
+    let l = length-digit (a .low) (a .high) (omega (arith, no-high (c .before), c .if2 .taken)) in
     (sym l, omega arith)
 
 sub-result-2 : tie.Need-sub-result-2
-sub-result-2 c = omega (arith, leading-le 64 (c .before .before .args .low))
+sub-result-2 c = omega (arith, leading-le 64 (entry (c .before) .args .low))
 
 cast-result-2 : tie.Need-cast-result-2
 cast-result-2 c = search needs
 
 returns-3 : tie.Need-returns-3
 returns-3 c =
-    let e = c .before in
-    let s = e .before in
-    let z : wide (s .args .low) (s .args .high) ≡ s .args .low = omega (arith, e .if1 .left) in
+    let s = entry (c .before) in
+    let z : wide (s .args .low) (s .args .high) ≡ s .args .low = omega (arith, no-high (c .before)) in
     let d = word-digits (s .args .low) (omega (arith, c .if2 .left)) (s .fits .low .fits) in
     rw z (d .0, omega (arith, d .1))
 

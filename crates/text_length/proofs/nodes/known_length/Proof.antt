@@ -51,6 +51,12 @@ extension-inner l = extension l .before .before .before
 abbrev joined : tie.After-two-lengths2 → tie.Else1
 joined t = t .before .before .before .before
 
+abbrev ite : tie.After-length-at3 → tie.Then5
+ite l = l .before .before
+
+abbrev ite-pair : tie.After-length-at3 → tie.After-two-lengths2
+ite-pair l = ite l .before
+
 -- ---- what is known there
 
 -- an earlier node has a place, and its length is known
@@ -104,21 +110,21 @@ operator-characters-requires c κs = search needs
 
 add-least : tie.Need-add-least
 add-least c =
-    let t = c .before in
-    let e = operator t in
-    omega (arith, t .two-lengths .ensures, c .operator-characters .ensures .1, held e (one e) .small, held e (two e (operator-is (t .before))) .small)
+    let o = c .before in
+    let e = operator o in
+    omega (arith, o .two-lengths .ensures, c .operator-characters .ensures .1, held e (one e) .small, held e (two e (operator-is (o .before))) .small)
 
 least-requires-2 : tie.Need-least-requires-2
 least-requires-2 c κs = search needs
 
 returns-2 : tie.Need-returns-2
 returns-2 c =
-    let t = c .before .before in
-    let e = operator t in
+    let o = c .before .before in
+    let e = operator o in
     let s = entry e in
-    let z = pair-size (pool s) (node s) (s .pre .0) _ (e .before .kind-of .ensures) (an-operator (e .if1 .left) (t .before .if2 .taken)) in
+    let z = pair-size (pool s) (node s) (s .pre .0) _ (e .before .kind-of .ensures) (an-operator (e .if1 .left) (o .before .if2 .taken)) in
     omega
-    (arith, c .least2 .ensures, t .two-lengths .ensures, c .before .operator-characters .ensures .0, known e (one e), known e (two e (operator-is (t .before))), z)
+    (arith, c .least2 .ensures, o .two-lengths .ensures, c .before .operator-characters .ensures .0, known e (one e), known e (two e (operator-is (o .before))), z)
 
 first-requires : tie.Need-first-requires
 first-requires c κs = search needs
@@ -133,21 +139,21 @@ range-length-requires c κs =
 
 add-least-2 : tie.Need-add-least-2
 add-least-2 c =
-    let l = c .before in
-    let e = range-inner l in
-    omega (arith, held e (one e) .small, rw (l .before .first .ensures) at (l .length-at .ensures), c .range-length .ensures .1)
+    let r = c .before in
+    let e = range-inner r in
+    omega (arith, held e (one e) .small, rw (r .before .first .ensures) at (r .length-at .ensures), c .range-length .ensures .1)
 
 least-requires-3 : tie.Need-least-requires-3
 least-requires-3 c κs = search needs
 
 returns-3 : tie.Need-returns-3
 returns-3 c =
-    let l = c .before .before in
-    let e = range-inner l in
+    let r = c .before .before in
+    let e = range-inner r in
     let s = entry e in
     let x = rw (← e .before .kind-of .ensures) at (c .before .range-length .ensures .0) in
-    let z = single-size (pool s) (node s) (s .pre .0) _ (e .before .kind-of .ensures) (a-range (range l .if3 .taken)) in
-    omega (arith, c .least3 .ensures, known e (one e), rw (l .before .first .ensures) at (l .length-at .ensures), x, z)
+    let z = single-size (pool s) (node s) (s .pre .0) _ (e .before .kind-of .ensures) (a-range (range r .if3 .taken)) in
+    omega (arith, c .least3 .ensures, known e (one e), rw (r .before .first .ensures) at (r .length-at .ensures), x, z)
 
 first-requires-2 : tie.Need-first-requires-2
 first-requires-2 c κs = search needs
@@ -162,9 +168,9 @@ extension-length-requires c κs =
 
 add-least-3 : tie.Need-add-least-3
 add-least-3 c =
-    let l = c .before in
-    let e = extension-inner l in
-    omega (arith, held e (one e) .small, rw (l .before .first2 .ensures) at (l .length-at2 .ensures), c .extension-length .ensures .1)
+    let x = c .before in
+    let e = extension-inner x in
+    omega (arith, held e (one e) .small, rw (x .before .first2 .ensures) at (x .length-at2 .ensures), c .extension-length .ensures .1)
 
 least-requires-4 : tie.Need-least-requires-4
 least-requires-4 c κs = search needs
@@ -185,18 +191,16 @@ third-requires : tie.Need-third-requires
 third-requires c κs = search needs
 
 length-at-requires-3 : tie.Need-length-at-requires-3
-length-at-requires-3 c κs =
-    let i = c .before in
-    rw (c .third .ensures) (held (joined (i .before)) (three i) .below)
+length-at-requires-3 c κs = rw (c .third .ensures) (held (joined (c .before .before)) (three (c .before)) .below)
 
--- the three lengths have a sum
-sum : (c : tie.After-length-at3) → c .before .before .before .two-lengths2 .result + c .length-at3 .result ≤ 12884901888
+-- the two lengths of an Ite or a Concat have a sum, and the three of an Ite
+pair-sum : (c : tie.After-two-lengths2) → c .two-lengths2 .result ≤ 8589934592
+pair-sum c = let e = joined c in omega (arith, c .two-lengths2 .ensures, held e (one e) .small, held e (two e (joins-is (c .before))) .small)
+
+sum : (c : tie.After-length-at3) → ite-pair c .two-lengths2 .result + c .length-at3 .result ≤ 12884901888
 sum c =
-    let i = c .before .before in
-    let t = i .before in
-    let e = joined t in
     let z = rw (c .before .third .ensures) at (c .length-at3 .ensures) in
-    omega (arith, t .two-lengths2 .ensures, z, held e (one e) .small, held e (two e (joins-is (t .before))) .small, held e (three i) .small)
+    omega (arith, pair-sum (ite-pair c), z, held (joined (ite-pair c)) (three (ite c)) .small)
 
 add-least-4 : tie.Need-add-least-4
 add-least-4 c = omega (arith, sum c)
@@ -210,8 +214,8 @@ least-requires-5 c κs = search needs
 returns-5 : tie.Need-returns-5
 returns-5 c =
     let l = c .before in
-    let i = l .before .before in
-    let t = i .before in
+    let i = ite l in
+    let t = ite-pair l in
     let e = joined t in
     let s = entry e in
     let x = rw (l .before .third .ensures) at (l .length-at3 .ensures) in
@@ -219,10 +223,7 @@ returns-5 c =
     omega (arith, c .least5 .ensures, t .two-lengths2 .ensures, x, known e (one e), known e (two e (joins-is (t .before))), known e (three i), z)
 
 add-least-6 : tie.Need-add-least-6
-add-least-6 c =
-    let t = c .before in
-    let e = joined t in
-    omega (arith, t .two-lengths2 .ensures, held e (one e) .small, held e (two e (joins-is (t .before))) .small)
+add-least-6 c = omega (arith, pair-sum (c .before))
 
 least-requires-6 : tie.Need-least-requires-6
 least-requires-6 c κs = search needs

@@ -6,14 +6,23 @@ use borrow.Author.Needs.{needs}
 use Rattle.text_length.proofs.nodes.leaf_length.Statement.{statement}
 use Rattle.text_length.proofs.nodes.leaf_length.Tie as tie
 
+-- ---- the entry, of a Var and of a Const
+
+abbrev of-var : tie.Then1 → tie.Start
+of-var c = c .before .before
+
+abbrev of-const : tie.Else1 → tie.Start
+of-const c = c .before .before
+
+-- ---- needs
+
 low-requires : tie.Need-low-requires
 low-requires c κs = search needs
 
 decimal-length-requires : tie.Need-decimal-length-requires
 decimal-length-requires c κs =
-    let i = c .before in
-    let s = i .before .before in
-    rw (c .low .ensures) (register-small (s .args .p .now) (s .args .n .0) (s .pre .0) (s .args .k) (s .pre .1) (i .if1 .taken))
+    let s = of-var (c .before) in
+    rw (c .low .ensures) (register-small (s .args .p .now) (s .args .n .0) (s .pre .0) (s .args .k) (s .pre .1) (c .before .if1 .taken))
 
 add-result : tie.Need-add-result
 add-result c = search needs
@@ -22,7 +31,7 @@ returns : tie.Need-returns
 returns c =
     let l = c .before in
     let i = l .before in
-    let s = i .before .before in
+    let s = of-var i in
     omega (arith, size-var (s .args .p .now) (s .args .n .0) (s .pre .0) (s .args .k) (s .pre .1) (i .if1 .taken), rw (l .low .ensures) at (c .decimal-length .ensures .0))
 
 width-of-requires : tie.Need-width-of-requires
@@ -30,7 +39,7 @@ width-of-requires c κs = search needs
 
 decimal-length-requires-2 : tie.Need-decimal-length-requires-2
 decimal-length-requires-2 c κs =
-    let s = c .before .before .before in
+    let s = of-const (c .before) in
     rw (c .width-of .ensures .0) (width-small (s .args .p .now) (s .args .n .0) (s .pre .0) (s .args .k) (s .pre .1))
 
 add-result-2 : tie.Need-add-result-2
@@ -55,7 +64,7 @@ returns-2 c =
     let d = l .before in
     let w = d .before in
     let i = w .before in
-    let s = i .before .before in
+    let s = of-const i in
     let k = is-const (s .args .p .now) (s .args .n .0) (s .pre .0) (s .args .k) (s .pre .1) (s .pre .2) (i .if1 .left) in
     omega (
       arith,
