@@ -139,11 +139,11 @@ module _ (t : ℕ) where
 
   pub write-term-requires-2 : write-condition-lts.Need-write-term-requires-2 (write-condition-claims t) (write-condition-at t) write-condition.Post
   write-term-requires-2 c κs =
-      let f = c .before in
-      let g = f .before .before in
+      let r = c .before in
+      let g = r .before .before in
       let s = start (opened (lefted g)) in
       let d = pair-b (pool s) (node s) (s .pre .1 .0 .0) _ refl (pair s) in
-      rw (f .second .ensures) (omega (arith, s .pre .0, d .before), ((d .ready, d .wide), room-front _ (sign-room g)))
+      rw (r .second .ensures) (omega (arith, s .pre .0, d .before), ((d .ready, d .wide), room-front _ (sign-room g)))
 
   pub slice-aggregate-put-3 : write-condition-lts.Need-slice-aggregate-put-3 (write-condition-claims t) (write-condition-at t) write-condition.Post
   slice-aggregate-put-3 c = refl

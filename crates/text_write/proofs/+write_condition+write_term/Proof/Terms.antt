@@ -6,7 +6,7 @@ use mathlib.Core.Path.{_≡_, refl}
 use Prim.Native.Nat.{ℕ}
 use native.Mathlib.Omega.{arith}
 use borrow.Author.Tests.{eq-eqb, ne-eqb, le-leb, lt-leb}
-use denote.Ref.{at-last}
+use denote.Ref.{RefT, at-last}
 use Rattle.terms.specs.Display.{bytes}
 use Rattle.pool_fields.specs.Fields.{opA, leftOf, rightOf}
 use Rattle.text_digits.specs.Writing.{Room}
@@ -88,6 +88,11 @@ module _ (t : ℕ) where
       Room (c .write-term .last .1 .1 .0 .now) (c .write-term .result) (rest (pool (start i)) (node (start i)) (kind i))
   left-room c = room-step (left-wrote c .wrote) (front-room (fronted c))
 
+  -- the text, once what follows the left operand is written too
+  text-wrote : (c : Lefted) {k : ℕ} {b : RefT (List ℕ)} → let i = inner (fronted c) in let s = start i in
+      WroteBehind (c .write-term .last .1 .1 .0) (c .write-term .result) (rest (pool s) (node s) (kind i)) k b → WroteBehind (s .args .buf .now) (s .args .at) (text (pool s) (node s)) k b
+  text-wrote c w = behind-as (whole-is (inner (fronted c))) (behind-more (front-wrote (fronted c)) (behind-more (left-wrote c) w))
+
   -- an only operand: an Extract's, and an extension's
   end-is : (c : Inner) → single (kind c) ≡ true → rest (pool (start c)) (node (start c)) (kind c) ≡ endText (pool (start c)) (node (start c))
   end-is c s = rw s
@@ -101,7 +106,10 @@ module _ (t : ℕ) where
   abbrev Extension : Type 0
   Extension = write-term-lts.Then4 (write-term-claims t) (write-term-at t) write-term.Post
 
-  extension-is : (c : Extension) → single (kind (inner (fronted (c .before .before)))) ≡ true
+  abbrev extended : Extension → Lefted
+  extended c = c .before .before
+
+  extension-is : (c : Extension) → single (kind (inner (fronted (extended c)))) ≡ true
   extension-is c = rw (ne-eqb _ 16 (c .before .if3 .left), le-leb 18 _ (c .if4 .taken)) refl
 
   -- two operands
@@ -226,16 +234,14 @@ module _ (t : ℕ) where
 
   pub put-end-requires : write-term-lts.Need-put-end-requires (write-term-claims t) (write-term-at t) write-term.Post
   put-end-requires c κs =
-      let e = c .before .before in
-      let i = inner (fronted (e .before)) in
-      ((start i .pre .1 .0 .0, i .before .kind-of .ensures, range-is e), room-as (end-is i (range-is e)) (left-room (e .before)))
+      let r = c .before .before in
+      let i = inner (fronted (r .before)) in
+      ((start i .pre .1 .0 .0, i .before .kind-of .ensures, range-is r), room-as (end-is i (range-is r)) (left-room (r .before)))
 
   pub returns-2 : write-term-lts.Need-returns-2 (write-term-claims t) (write-term-at t) write-term.Post
   returns-2 c =
-      let e = c .before .before .before in
-      let l = e .before in
-      behind-as (whole-is (inner (fronted l)))
-      (behind-more (front-wrote (fronted l)) (behind-more (left-wrote l) (behind-as (end-is (inner (fronted l)) (range-is e)) (behind-one _ (c .put-end .ensures)))))
+      let r = c .before .before .before in
+      text-wrote (r .before) (behind-as (end-is (inner (fronted (r .before))) (range-is r)) (behind-one _ (c .put-end .ensures)))
 
   pub slice-aggregate-put-end-2 : write-term-lts.Need-slice-aggregate-put-end-2 (write-term-claims t) (write-term-at t) write-term.Post
   slice-aggregate-put-end-2 c = refl
@@ -243,16 +249,13 @@ module _ (t : ℕ) where
   pub put-end-requires-2 : write-term-lts.Need-put-end-requires-2 (write-term-claims t) (write-term-at t) write-term.Post
   put-end-requires-2 c κs =
       let e = c .before .before in
-      let l = e .before .before in
-      let i = inner (fronted l) in
-      ((start i .pre .1 .0 .0, i .before .kind-of .ensures, extension-is e), room-as (end-is i (extension-is e)) (left-room l))
+      let i = inner (fronted (extended e)) in
+      ((start i .pre .1 .0 .0, i .before .kind-of .ensures, extension-is e), room-as (end-is i (extension-is e)) (left-room (extended e)))
 
   pub returns-3 : write-term-lts.Need-returns-3 (write-term-claims t) (write-term-at t) write-term.Post
   returns-3 c =
       let e = c .before .before .before in
-      let l = e .before .before in
-      behind-as (whole-is (inner (fronted l)))
-      (behind-more (front-wrote (fronted l)) (behind-more (left-wrote l) (behind-as (end-is (inner (fronted l)) (extension-is e)) (behind-one _ (c .put-end2 .ensures)))))
+      text-wrote (extended e) (behind-as (end-is (inner (fronted (extended e))) (extension-is e)) (behind-one _ (c .put-end2 .ensures)))
 
   pub slice-aggregate-put-between : write-term-lts.Need-slice-aggregate-put-between (write-term-claims t) (write-term-at t) write-term.Post
   slice-aggregate-put-between c = refl
@@ -287,10 +290,6 @@ module _ (t : ℕ) where
 
   pub returns-4 : write-term-lts.Need-returns-4 (write-term-claims t) (write-term-at t) write-term.Post
   returns-4 c =
-      let r = c .before .before .before in
-      let g = signed r in
-      let l = lefted (two g) in
-      behind-as (whole-is (inner (fronted l)))
-      (behind-more (front-wrote (fronted l))
-      (behind-more (left-wrote l)
-      (behind-as (rest-is (two g)) (behind-then _ (g .put-between .ensures) (behind-more (right-wrote r) (behind-one _ (c .put2 .ensures)))))))
+      let w = c .before .before .before in
+      let g = signed w in
+      text-wrote (lefted (two g)) (behind-as (rest-is (two g)) (behind-then _ (g .put-between .ensures) (behind-more (right-wrote w) (behind-one _ (c .put2 .ensures)))))
