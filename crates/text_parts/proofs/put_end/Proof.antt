@@ -1,5 +1,7 @@
 -- `put_end` meets its contract: the bits of an Extract, or the width of an extension.
+use mathlib.Core.List.{_++_}
 use mathlib.Core.Path.{_≡_}
+use Rattle.terms.specs.Display.{bytes, decimal}
 use Rattle.text_digits.specs.Writing.{Room}
 use Rattle.text_digits.proofs.Laws.{room-front, room-step, room-as, wrote-then, wrote-as}
 use Rattle.text_parts.specs.Text.{endText, rangeText, widthText}
@@ -22,6 +24,18 @@ range-is c =
 range-room : (c : tie.After-cut-lo) → let a = start-range c .args in Room (a .buf .now) (a .at) (rangeText (c .before .cut-hi .result .0) (c .cut-lo .result .0))
 range-room c = room-as (range-is c) (start-range c .pre .1)
 
+-- the high bit is written
+abbrev cut : tie.After-put-numbered → tie.After-cut-lo
+cut c = c .before .before
+
+high-room : (c : tie.After-put-numbered)
+    → Room (c .put-numbered .last .1 .1 .0) (c .put-numbered .result) (bytes ":" ++ (decimal (cut c .cut-lo .result .0) ++ bytes "]"))
+high-room c = room-step (c .put-numbered .ensures) (range-room (cut c))
+
+-- and the low one
+abbrev high-written : tie.After-put-numbered2 → tie.After-put-numbered
+high-written c = c .before .before .before .before
+
 -- an extension, whose width is read
 abbrev start-width : tie.After-width-of → tie.Start
 start-width c = c .before .before .before .before
@@ -43,9 +57,7 @@ put-numbered-requires : tie.Need-put-numbered-requires
 put-numbered-requires c κs = room-front _ (range-room (c .before))
 
 put-numbered-requires-2 : tie.Need-put-numbered-requires-2
-put-numbered-requires-2 c κs =
-    let p = c .before .before .before in
-    room-front _ (room-step (p .put-numbered .ensures) (range-room (p .before .before)))
+put-numbered-requires-2 c κs = room-front _ (high-room (c .before .before .before))
 
 slice-aggregate-put : tie.Need-slice-aggregate-put
 slice-aggregate-put c = search needs
@@ -53,8 +65,7 @@ slice-aggregate-put c = search needs
 put-requires : tie.Need-put-requires
 put-requires c κs =
     let q = c .before .before .before .before in
-    let p = q .before .before .before .before in
-    room-step (q .put-numbered2 .ensures) (room-step (p .put-numbered .ensures) (range-room (p .before .before)))
+    room-step (q .put-numbered2 .ensures) (high-room (high-written q))
 
 same-length : tie.Need-same-length
 same-length c = search needs
@@ -63,8 +74,8 @@ returns : tie.Need-returns
 returns c =
     let e = c .before .before in
     let q = e .before .before .before .before .before in
-    let p = q .before .before .before .before in
-    wrote-as (range-is (p .before .before)) (wrote-then (p .put-numbered .ensures) (wrote-then (q .put-numbered2 .ensures) (e .put .ensures)))
+    let p = high-written q in
+    wrote-as (range-is (cut p)) (wrote-then (p .put-numbered .ensures) (wrote-then (q .put-numbered2 .ensures) (e .put .ensures)))
 
 width-of-requires : tie.Need-width-of-requires
 width-of-requires c κs = search needs

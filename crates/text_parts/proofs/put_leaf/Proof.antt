@@ -34,6 +34,13 @@ const-is c e =
     let const = is-const (a .p .now) (a .n .0) (s .pre .0 .0) (a .k) (s .pre .0 .1) (s .pre .0 .2) (l .before .if1 .left) in
     whole-const (a .p .now) (a .n .0) (s .pre .0 .0) (a .k) (s .pre .0 .1) const (l .low2 .ensures) (c .high .ensures) e
 
+-- the width is read, with the value written
+abbrev valued : tie.After-width-of → tie.After-put-value
+valued c = c .before .before .before
+
+abbrev const-read : tie.After-width-of → tie.After-high
+const-read c = valued c .before .before
+
 low-requires : tie.Need-low-requires
 low-requires c κs = search needs
 
@@ -65,9 +72,8 @@ put-numbered-requires-2 : tie.Need-put-numbered-requires-2
 unfolding display
 put-numbered-requires-2 c κs =
     let w = c .before in
-    let v = w .before .before .before in
-    let h = v .before .before in
-    room-step (v .put-value .ensures) (room-as (const-is h (w .width-of .ensures .0)) (start-const h .pre .1))
+    let h = const-read w in
+    room-step (valued w .put-value .ensures) (room-as (const-is h (w .width-of .ensures .0)) (start-const h .pre .1))
 
 same-length-2 : tie.Need-same-length-2
 same-length-2 c = search needs
@@ -77,8 +83,7 @@ unfolding display
 returns-2 c =
     let p = c .before .before in
     let w = p .before .before in
-    let v = w .before .before .before in
-    wrote-as (const-is (v .before .before) (w .width-of .ensures .0)) (wrote-then (v .put-value .ensures) (p .put-numbered2 .ensures))
+    wrote-as (const-is (const-read w) (w .width-of .ensures .0)) (wrote-then (valued w .put-value .ensures) (p .put-numbered2 .ensures))
 
 pub put-leaf-spec : {M : Type 1} → statement M
 put-leaf-spec =
