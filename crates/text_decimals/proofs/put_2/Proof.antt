@@ -6,6 +6,13 @@ use borrow.Author.Needs.{needs}
 use Rattle.text_decimals.proofs.put_2.Statement.{statement}
 use Rattle.text_decimals.proofs.put_2.Tie as tie
 
+-- the figure of the tens, and of what is left
+abbrev entry : tie.After-figure → tie.Start
+entry c = c .before .before .before
+
+abbrev tens : tie.After-figure2 → tie.After-figure
+tens c = c .before
+
 place-of-requires : tie.Need-place-of-requires
 place-of-requires c κs = search needs
 
@@ -14,8 +21,8 @@ figure-requires c κs = search needs
 
 slice-write-buf : tie.Need-slice-write-buf
 slice-write-buf c =
-    let st = c .before .before .before in
-    omega (arith, st .pre .1 .room, length-padded 2 (st .args .x))
+    let s = entry c in
+    omega (arith, s .pre .1 .room, length-padded 2 (s .args .x))
 
 figure-requires-2 : tie.Need-figure-requires-2
 figure-requires-2 c κs = search needs
@@ -25,9 +32,8 @@ add-buf c = search needs
 
 slice-write-buf-2 : tie.Need-slice-write-buf-2
 slice-write-buf-2 c =
-    let at-figure = c .before in
-    let st = at-figure .before .before .before in
-    omega (arith, st .pre .1 .room, length-padded 2 (st .args .x), length-set (st .args .buf .now) (st .args .at) (at-figure .figure .result))
+    let s = entry (tens c) in
+    omega (arith, s .pre .1 .room, length-padded 2 (s .args .x), length-set (s .args .buf .now) (s .args .at) (tens c .figure .result))
 
 add-result : tie.Need-add-result
 add-result c = search needs
@@ -37,11 +43,8 @@ same-length c = search needs
 
 returns : tie.Need-returns
 returns c =
-    let at-figure = c .before in
-    let at-place-of = at-figure .before in
-    let st = at-place-of .before .before in
-    let p = at-place-of .place-of in
-    wrote-last (at-figure .figure .ensures) (c .figure2 .ensures) (first-2 (st .args .x) _ _ (p .ensures .0) (p .ensures .1))
+    let p = tens c .before .place-of in
+    wrote-last (tens c .figure .ensures) (c .figure2 .ensures) (first-2 (entry (tens c) .args .x) _ _ (p .ensures .0) (p .ensures .1))
 
 pub put-2-spec : {M : Type 1} → statement M
 put-2-spec =
