@@ -17,20 +17,23 @@ use Rattle.run_lines.proofs.put_line.Tie as tie
 abbrev entry : tie.After-put-register → tie.Start
 entry c = c .before .before .before
 
-abbrev digits-done : tie.After-put → tie.After-put-register
-digits-done c = c .before .before .before .before .before
+abbrev digits-done : tie.After-put-arg2 → tie.After-put-register
+digits-done c = c .before .before .before .before
 
-abbrev blank-done : tie.After-put-decimal → tie.After-put
-blank-done c = c .before .before .before .before
+abbrev blank-done : tie.After-put-decimal-arg → tie.After-put
+blank-done c = c .before .before .before
+
+abbrev name-done : tie.After-put-mark-arg → tie.After-put-decimal
+name-done c = c .before .before .before .before
+
+abbrev mark-done : tie.After-put-arg4 → tie.After-put-mark
+mark-done c = c .before .before .before .before
 
 abbrev start : tie.After-put-decimal → tie.Start
-start c = entry (digits-done (blank-done c))
+start c = entry (digits-done (blank-done (c .before) .before))
 
 abbrev compared : tie.After-put-mark → tie.After-is-same
 compared c = c .before .before
-
-abbrev name-done : tie.After-put-mark → tie.After-put-decimal
-name-done c = compared c .before .before .before
 
 from-digits : (c : tie.After-put-register) → let a = entry c .args in
     (c .put-register .result ≡ a .at + 32) × (length (c .put-register .last .1 .1 .0) ≡ length (a .buf .now))
@@ -38,22 +41,22 @@ from-digits c =
     let w = c .put-register .ensures in
     (omega (arith, w .next-is, digits-length 32 (number (entry c .args .new))), wrote-length w)
 
-from-blank : (c : tie.After-put) → let a = entry (digits-done c) .args in (c .put .result ≡ a .at + 34) × (length (c .put .last .1 .0) ≡ length (a .buf .now))
+from-blank : (c : tie.After-put) → let a = entry (digits-done (c .before)) .args in (c .put .result ≡ a .at + 34) × (length (c .put .last .1 .0) ≡ length (a .buf .now))
 from-blank c =
     let w = c .put .ensures in
-    let f = from-digits (digits-done c) in
+    let f = from-digits (digits-done (c .before)) in
     (omega (arith, f .0, w .next-is), omega (arith, f .1, wrote-length w))
 
 from-name : (c : tie.After-put-decimal) → let a = start c .args in (c .put-decimal .result ≤ a .at + 36) × (length (c .put-decimal .last .1 .0) ≡ length (a .buf .now))
 from-name c =
     let w = c .put-decimal .ensures in
-    let f = from-blank (blank-done c) in
+    let f = from-blank (blank-done (c .before)) in
     (omega (arith, f .0, w .next-is, name-length (start c .args .r) (start c .pre .0)), omega (arith, f .1, wrote-length w))
 
-from-mark : (c : tie.After-put-mark) → let a = start (name-done c) .args in (c .put-mark .result ≤ a .at + 38) × (length (c .put-mark .last .1 .0) ≡ length (a .buf .now))
+from-mark : (c : tie.After-put-mark) → let a = start (name-done (c .before)) .args in (c .put-mark .result ≤ a .at + 38) × (length (c .put-mark .last .1 .0) ≡ length (a .buf .now))
 from-mark c =
     let w = c .put-mark .ensures in
-    let f = from-name (name-done c) in
+    let f = from-name (name-done (c .before)) in
     (omega (arith, f .0, w .next-is, mark-length (compared c .is-same .result)), omega (arith, f .1, wrote-length w))
 
 -- ---- needs
@@ -66,15 +69,15 @@ slice-aggregate-put c = search needs
 
 put-requires : tie.Need-put-requires
 put-requires c κs =
-    let w = c .before .before .before .before in
-    let f = from-digits w in
-    record { room = omega (arith, f .0, f .1, entry w .pre .1) }
+    let d = digits-done c in
+    let f = from-digits d in
+    record { room = omega (arith, f .0, f .1, entry d .pre .1) }
 
 put-decimal-requires : tie.Need-put-decimal-requires
 put-decimal-requires c κs =
-    let w = c .before .before .before in
-    let s = entry (digits-done w) in
-    let f = from-blank w in
+    let b = blank-done c in
+    let s = entry (digits-done (b .before)) in
+    let f = from-blank b in
     record { room = omega (arith, f .0, f .1, name-length (s .args .r) (s .pre .0), s .pre .1) }
 
 is-same-requires : tie.Need-is-same-requires
@@ -82,18 +85,18 @@ is-same-requires c κs = search needs
 
 put-mark-requires : tie.Need-put-mark-requires
 put-mark-requires c κs =
-    let w = c .before .before .before .before in
-    let f = from-name w in
-    omega (arith, f .0, f .1, start w .pre .1)
+    let n = name-done c in
+    let f = from-name n in
+    omega (arith, f .0, f .1, start n .pre .1)
 
 slice-aggregate-put-2 : tie.Need-slice-aggregate-put-2
 slice-aggregate-put-2 c = search needs
 
 put-requires-2 : tie.Need-put-requires-2
 put-requires-2 c κs =
-    let w = c .before .before .before .before in
-    let f = from-mark w in
-    record { room = omega (arith, f .0, f .1, start (name-done w) .pre .1) }
+    let m = mark-done c in
+    let f = from-mark m in
+    record { room = omega (arith, f .0, f .1, start (name-done (m .before)) .pre .1) }
 
 same-length : tie.Need-same-length
 same-length c = search needs
@@ -101,11 +104,11 @@ same-length c = search needs
 returns : tie.Need-returns
 returns c =
     let e = c .before .before in
-    let m = e .before .before .before .before .before in
-    let d = name-done m in
-    let b = blank-done d in
+    let m = mark-done (e .before) in
+    let n = name-done (m .before) in
+    let b = blank-done (n .before) in
     let marked = wrote-as (ap mark (sym (compared m .is-same .ensures))) (m .put-mark .ensures) in (
-      wrote-then (digits-done b .put-register .ensures) (wrote-then (b .put .ensures) (wrote-then (d .put-decimal .ensures) (wrote-then marked (e .put2 .ensures)))),
+      wrote-then (digits-done (b .before) .put-register .ensures) (wrote-then (b .put .ensures) (wrote-then (n .put-decimal .ensures) (wrote-then marked (e .put2 .ensures)))),
       omega (arith, from-mark m .0, e .put2 .ensures .next-is),
     )
 

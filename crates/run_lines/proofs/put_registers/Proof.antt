@@ -24,6 +24,12 @@ Inv-loop start after buf₀ r₀ end₀ buf r end =
 abbrev μ-loop : tie.MeasureT-loop
 μ-loop start after buf₀ r₀ end₀ buf r end = 32 - r
 
+abbrev entry : tie.At-loop Inv-loop μ-loop → tie.Start Inv-loop μ-loop
+entry c = c .before .before
+
+abbrev turn : tie.After-slice-known2 Inv-loop μ-loop → tie.In-loop Inv-loop μ-loop
+turn c = c .before .before .before .before .before .before
+
 loop-holds : tie.Need-loop-holds Inv-loop μ-loop
 loop-holds c =
     let a = c .before .args in
@@ -38,27 +44,25 @@ get-requires-2 c κs = c .before .loop-test .taken
 put-line-requires : tie.Need-put-line-requires Inv-loop μ-loop
 put-line-requires c κs =
     let t = c .before .before .before in
-    let l = t .before in
-    (t .loop-test .taken, omega (arith, l .loop .inv, t .loop-test .taken, l .before .before .pre))
+    (t .loop-test .taken, omega (arith, t .before .loop .inv, t .loop-test .taken, entry (t .before) .pre))
 
 add-r : tie.Need-add-r Inv-loop μ-loop
-add-r c = omega (arith, c .before .before .before .before .before .before .loop-test .taken)
+add-r c = omega (arith, turn c .loop-test .taken)
 
 loop-less : tie.Need-loop-less Inv-loop μ-loop
-loop-less c = omega (arith, c .before .before .before .before .before .before .loop-test .taken)
+loop-less c = omega (arith, turn c .loop-test .taken)
 
 loop-again : tie.Need-loop-again Inv-loop μ-loop
 loop-again c =
     let p = c .before .before in
     let new = p .before .before in
     let old = new .before in
-    let t = old .before in
-    let l = t .before in
-    let a = l .before .before .args in
+    let l = old .before .before in
+    let a = entry l .args in
     let same = ap₂ (registerLine (l .loop .r)) (sym (old .get .ensures)) (sym (new .get2 .ensures)) in (
       wrote-next (rows (a .start .words) (a .after .words)) (l .loop .r) (l .loop .inv .0) (wrote-as same (p .put-line .ensures .0)),
       omega (arith, p .put-line .ensures .1, l .loop .inv .1),
-      omega (arith, t .loop-test .taken),
+      omega (arith, turn c .loop-test .taken),
       wrote-length (p .put-line .ensures .0) ∙ l .loop .inv .3,
     )
 
@@ -69,7 +73,7 @@ returns : tie.Need-returns Inv-loop μ-loop
 unfolding registersText
 returns c =
     let l = c .before .loop in
-    let a = c .before .before .before .args in
+    let a = entry (c .before) .args in
     let e : l .r ≡ 32 = omega (arith, l .inv .2, c .loop-test .left) in
     (subst (λ (r : ℕ). Wrote (a .buf .now) 0 (upTo r (rows (a .start .words) (a .after .words))) (l .end) (l .buf)) e (l .inv .0), omega (arith, l .inv .1, l .inv .2))
 

@@ -6,14 +6,24 @@ use borrow.Author.Needs.{needs}
 use Rattle.run_lines.proofs.run_text.Statement.{statement}
 use Rattle.run_lines.proofs.run_text.Tie as tie
 
+-- ---- places, from the start that is read: the input that fits, the entry
+
+abbrev fits : tie.After-read-start → tie.Else1
+fits c = c .before .before
+
+abbrev entry : tie.After-read-start → tie.Start
+entry c = fits c .before .before
+
+-- ---- needs
+
 refused-requires : tie.Need-refused-requires
 refused-requires c κs = search needs
 
 returns : tie.Need-returns
 returns c =
-    let t = c .before in
-    let a = t .before .before .args in
-    too-long (a .input .now) (a .out .now) (t .if1 .taken) (c .refused .result) (c .refused .ensures)
+    let long = c .before in
+    let a = long .before .before .args in
+    too-long (a .input .now) (a .out .now) (long .if1 .taken) (c .refused .result) (c .refused .ensures)
 
 read-start-requires : tie.Need-read-start-requires
 read-start-requires c κs = search needs
@@ -23,11 +33,10 @@ refused-requires-2 c κs = search needs
 
 returns-2 : tie.Need-returns-2
 returns-2 c =
-    let t = c .before in
-    let s = t .before .before in
-    let u = s .before .before in
-    let a = u .before .before .args in
-    start-refused (a .input .now) (a .out .now) (u .if1 .left) (s .read-start .result) (s .read-start .ensures) (t .if2 .taken) (c .refused2 .result) (c .refused2 .ensures)
+    let broken = c .before in
+    let s = broken .before .before in
+    let a = entry s .args in
+    start-refused (a .input .now) (a .out .now) (fits s .if1 .left) (s .read-start .result) (s .read-start .ensures) (broken .if2 .taken) (c .refused2 .result) (c .refused2 .ensures)
 
 sub-run-rest : tie.Need-sub-run-rest
 sub-run-rest c = search needs
@@ -43,11 +52,10 @@ run-rest-requires c κs = search needs
 
 returns-3 : tie.Need-returns-3
 returns-3 c =
-    let t = c .before .before .before in
-    let s = t .before .before in
-    let u = s .before .before in
-    let a = u .before .before .args in
-    start-read (a .input .now) (a .out .now) (u .if1 .left) (s .read-start .result) (s .read-start .ensures) refl (t .if2 .left)
+    let good = c .before .before .before in
+    let s = good .before .before in
+    let a = entry s .args in
+    start-read (a .input .now) (a .out .now) (fits s .if1 .left) (s .read-start .result) (s .read-start .ensures) refl (good .if2 .left)
     (c .run-rest .ensures)
 
 pub run-text-spec : {M : Type 1} → statement M
