@@ -17,6 +17,12 @@ Inv-loop bytes at all₀ j₀ all j = (all ≡ allHex bytes at j) × (j ≤ 32)
 abbrev μ-loop : tie.MeasureT-loop
 μ-loop bytes at all₀ j₀ all j = 32 - j
 
+abbrev entry : tie.At-loop Inv-loop μ-loop → tie.Start Inv-loop μ-loop
+entry c = c .before .before
+
+abbrev turn : tie.After-is-hex Inv-loop μ-loop → tie.In-loop Inv-loop μ-loop
+turn c = c .before .before
+
 loop-holds : tie.Need-loop-holds Inv-loop μ-loop
 loop-holds c = (sym (all-none (c .before .args .bytes .now) (c .before .args .at)), omega arith)
 
@@ -33,18 +39,18 @@ add-j : tie.Need-add-j Inv-loop μ-loop
 add-j c = omega arith
 
 loop-less : tie.Need-loop-less Inv-loop μ-loop
-loop-less c = omega (arith, c .before .before .loop-test .taken)
+loop-less c = omega (arith, turn c .loop-test .taken)
 
 loop-again : tie.Need-loop-again Inv-loop μ-loop
 loop-again c =
-    let l = c .before .before .before in
-    let a = l .before .before .args in
-    (all-next (a .bytes .now) (a .at) (l .loop .j) (l .loop .inv .0) (c .is-hex .ensures), omega (arith, c .before .before .loop-test .taken))
+    let l = turn c .before in
+    let a = entry l .args in
+    (all-next (a .bytes .now) (a .at) (l .loop .j) (l .loop .inv .0) (c .is-hex .ensures), omega (arith, turn c .loop-test .taken))
 
 returns : tie.Need-returns Inv-loop μ-loop
 returns c =
     let l = c .before in
-    let a = l .before .before .args in
+    let a = entry l .args in
     let e : l .loop .j ≡ 32 = omega (arith, l .loop .inv .1, c .loop-test .left) in
     subst (λ (j : ℕ). l .loop .all ≡ allHex (a .bytes .now) (a .at) j) e (l .loop .inv .0)
 

@@ -18,7 +18,7 @@ Inv-loop bytes words₀ next₀ r₀ words next r = Reading bytes words₀ words
 abbrev μ-loop : tie.MeasureT-loop
 μ-loop bytes words₀ next₀ r₀ words next r = 32 - r
 
--- ---- places: a turn, the gap's end in it, whether a register stands there
+-- ---- places: a turn, the gap's end in it, whether a register stands there, and where one does
 
 abbrev entry : tie.At-loop Inv-loop μ-loop → tie.Start Inv-loop μ-loop
 entry c = c .before .before
@@ -31,6 +31,9 @@ turn c = gap c .before
 
 abbrev top : tie.After-is-register Inv-loop μ-loop → tie.At-loop Inv-loop μ-loop
 top c = turn c .before
+
+abbrev found : tie.After-put-pair Inv-loop μ-loop → tie.Else1 Inv-loop μ-loop
+found c = c .before .before
 
 -- a register stands where the gap ends
 there : (c : tie.Else1 Inv-loop μ-loop) → isRegister (entry (top (c .before)) .args .bytes .now) (gap (c .before) .gap-end .result) ≡ true
@@ -72,21 +75,20 @@ put-pair-requires c κs =
 
 add-next : tie.Need-add-next Inv-loop μ-loop
 add-next c =
-    let e = c .before .before in
+    let e = found c in
     omega (arith, register-fits (entry (top (e .before)) .args .bytes .now) (gap (e .before) .gap-end .result) (there e))
 
 add-r : tie.Need-add-r Inv-loop μ-loop
-add-r c = omega (arith, turn (c .before .before .before) .loop-test .taken)
+add-r c = omega (arith, turn (found c .before) .loop-test .taken)
 
 loop-less : tie.Need-loop-less Inv-loop μ-loop
-loop-less c = omega (arith, turn (c .before .before .before) .loop-test .taken)
+loop-less c = omega (arith, turn (found c .before) .loop-test .taken)
 
 loop-again : tie.Need-loop-again Inv-loop μ-loop
 loop-again c =
-    let e = c .before .before in
-    let b = e .before in
+    let b = found c .before in
     let s = entry (top b) .args in
-    reading-more (s .bytes .now) (s .words .now) (top b .loop .inv) (gap b .gap-end .result) (gap b .gap-end .ensures .0) (turn b .loop-test .taken) (there e) (c .put-pair .ensures)
+    reading-more (s .bytes .now) (s .words .now) (top b .loop .inv) (gap b .gap-end .result) (gap b .gap-end .ensures .0) (turn b .loop-test .taken) (there (found c)) (c .put-pair .ensures)
 
 line-after-requires : tie.Need-line-after-requires Inv-loop μ-loop
 line-after-requires c κs = c .before .loop .inv .next-in

@@ -15,6 +15,12 @@ Inv-loop bytes at word₀ j₀ word j = (word ≡ hexAt bytes at j) × (word < t
 abbrev μ-loop : tie.MeasureT-loop
 μ-loop bytes at word₀ j₀ word j = 16 - j
 
+abbrev entry : tie.At-loop Inv-loop μ-loop → tie.Start Inv-loop μ-loop
+entry c = c .before .before
+
+abbrev turn : tie.After-hex-value Inv-loop μ-loop → tie.In-loop Inv-loop μ-loop
+turn c = c .before .before
+
 loop-holds : tie.Need-loop-holds Inv-loop μ-loop
 loop-holds c = (sym (hex-none (c .before .args .bytes .now) (c .before .args .at)), top-first, omega arith)
 
@@ -32,30 +38,29 @@ hex-value-requires c κs = search needs
 
 add-word : tie.Need-add-word Inv-loop μ-loop
 add-word c =
-    let t = c .before .before in
+    let t = turn c in
     omega (arith, t .before .loop .inv .1, top-word (t .before .loop .j) (t .loop-test .taken), c .hex-value .ensures .1)
 
 add-j : tie.Need-add-j Inv-loop μ-loop
-add-j c = omega (arith, c .before .before .loop-test .taken)
+add-j c = omega (arith, turn c .loop-test .taken)
 
 loop-less : tie.Need-loop-less Inv-loop μ-loop
-loop-less c = omega (arith, c .before .before .loop-test .taken)
+loop-less c = omega (arith, turn c .loop-test .taken)
 
 loop-again : tie.Need-loop-again Inv-loop μ-loop
 loop-again c =
-    let t = c .before .before in
-    let l = t .before in
-    let a = l .before .before .args in
+    let l = turn c .before in
+    let a = entry l .args in
     let v = c .hex-value .ensures in (
       hex-next (a .bytes .now) (a .at) (l .loop .j) (l .loop .inv .0) (v .0),
       top-next (l .loop .j) (l .loop .word) (c .hex-value .result) (l .loop .inv .1) (v .1),
-      omega (arith, t .loop-test .taken),
+      omega (arith, turn c .loop-test .taken),
     )
 
 returns : tie.Need-returns Inv-loop μ-loop
 returns c =
     let l = c .before in
-    let a = l .before .before .args in
+    let a = entry l .args in
     let e : l .loop .j ≡ 16 = omega (arith, l .loop .inv .2, c .loop-test .left) in
     subst (λ (j : ℕ). l .loop .word ≡ hexAt (a .bytes .now) (a .at) j) e (l .loop .inv .0)
 
