@@ -4,7 +4,7 @@ use native.Mathlib.Nat.{mod-lt}
 use lib.Pow.{pow-pos}
 use Rattle.neon.specs.Arm.{lane}
 use native.Mathlib.Omega.{arith}
-use mathlib.Core.Path.{_≡_, ap, _∙_, subst}
+use mathlib.Core.Path.{_≡_, sym, ap, _∙_, subst}
 use Rattle.run_exact.specs.Exact.{Answers}
 use Rattle.run_block.specs.Lanes.{number, laneBy, beyondBy}
 use Rattle.run_block.proofs.Running.{Kept, none-yet, one-more, two-words, in-word, at-most, all-in, le-times, answers-at, lane-by-lt}
@@ -20,41 +20,56 @@ Inv-loop op n m k skip element index d a b acc₀ saturated₀ j₀ acc saturate
 abbrev μ-loop : tie.MeasureT-loop
 μ-loop op n m k skip element index d a b acc₀ saturated₀ j₀ acc saturated j = k - j
 
+-- ---- a turn: the entry before it, its lane, and where the lane's bits stand
+
 module _ (c : tie.In-loop Inv-loop μ-loop) where
-  place : c .before .before .args .n * c .before .loop .j + c .before .before .args .n ≤ 128
-  place = c .before .before .pre .4 .lane-in (c .before .loop .j) (c .loop-test .taken)
+  abbrev entry : tie.Start Inv-loop μ-loop
+  entry = c .before .before
 
-  first : c .before .before .args .m * (c .before .loop .j + c .before .before .args .skip) + c .before .before .args .m ≤ 128
-  first = c .before .before .pre .4 .first-in (c .before .loop .j) (c .loop-test .taken)
+  abbrev j : ℕ
+  j = c .before .loop .j
 
-  near : c .before .loop .j + c .before .before .args .skip ≤ 128
-  near = omega (arith, first, le-times (c .before .before .args .m) (c .before .loop .j + c .before .before .args .skip) (c .before .before .pre .1))
+  place : entry .args .n * j + entry .args .n ≤ 128
+  place = entry .pre .4 .lane-in j (c .loop-test .taken)
 
-  n-le : c .before .before .args .n ≤ 64
-  n-le = at-most (c .before .before .args .n) (c .before .before .pre .4 .n-word)
+  first : entry .args .m * (j + entry .args .skip) + entry .args .m ≤ 128
+  first = entry .pre .4 .first-in j (c .loop-test .taken)
 
-second : (c : tie.After-second-at Inv-loop μ-loop) → let s = c .before .before .before .before .before in s .args .m * c .second-at .result + s .args .m ≤ 128
+  near : j + entry .args .skip ≤ 128
+  near = omega (arith, first, le-times (entry .args .m) (j + entry .args .skip) (entry .pre .1))
+
+  n-le : entry .args .n ≤ 64
+  n-le = at-most (entry .args .n) (entry .pre .4 .n-word)
+
+-- ---- the turn, from where the second source's lane is known and from the lane that is made
+
+abbrev turn : tie.After-second-at Inv-loop μ-loop → tie.In-loop Inv-loop μ-loop
+turn c = c .before .before .before
+
+abbrev made : tie.After-lane-at Inv-loop μ-loop → tie.In-loop Inv-loop μ-loop
+made c = turn (c .before .before)
+
+second : (c : tie.After-second-at Inv-loop μ-loop) → let a = entry (turn c) .args in a .m * c .second-at .result + a .m ≤ 128
 second c =
-    let at-loop-test = c .before .before .before in
-    let at-loop = at-loop-test .before in
-    let s = at-loop .before in
-    rw (c .second-at .ensures) (s .pre .4 .second-in (at-loop .loop .j) (at-loop-test .loop-test .taken))
+    let t = turn c in
+    let a = entry t .args in
+    subst (λ (k : ℕ). a .m * k + a .m ≤ 128) (sym (c .second-at .ensures)) (entry t .pre .4 .second-in (j t) (t .loop-test .taken))
 
 -- the lanes that are read
-lane-is : (c : tie.After-lane-at Inv-loop μ-loop) → let l = c .before .before .before .before .before .before in let s = l .before in
-    Answers (laneBy (s .args .op) (s .args .n) (s .args .m) (s .args .skip) (s .args .element) (s .args .index) (number (s .args .d)) (number (s .args .a)) (number (s .args .b)) (l .loop .j))
-    (beyondBy (s .args .op) (s .args .n) (s .args .m) (s .args .skip) (s .args .element) (s .args .index) (number (s .args .d)) (number (s .args .a)) (number (s .args .b)) (l .loop .j))
+lane-is : (c : tie.After-lane-at Inv-loop μ-loop) → let t = made c in let a = entry t .args in
+    Answers (laneBy (a .op) (a .n) (a .m) (a .skip) (a .element) (a .index) (number (a .d)) (number (a .a)) (number (a .b)) (j t))
+    (beyondBy (a .op) (a .n) (a .m) (a .skip) (a .element) (a .index) (number (a .d)) (number (a .a)) (number (a .b)) (j t))
     (c .lane-at .result .bits) (c .lane-at .result .saturated)
 unfolding lane
 lane-is c =
-    let at-second-at = c .before .before in
-    let at-bits-at = at-second-at .before in
-    let at-bits-at2 = at-bits-at .before in
-    let p7 = at-bits-at2 .before .before .before in
-    let s = p7 in
-    answers-at (s .args .op) (s .args .n) (at-bits-at2 .bits-at .ensures) (at-bits-at .bits-at2 .ensures)
-    (c .before .bits-at3 .ensures ∙ ap (λ (t : ℕ). number (s .args .b) / 2 ^ (s .args .m * t) % 2 ^ s .args .m) (at-second-at .second-at .ensures))
+    let a = entry (made c) .args in
+    let of-b = c .before .before in
+    let of-a = of-b .before in
+    answers-at (a .op) (a .n) (of-a .before .bits-at .ensures) (of-a .bits-at2 .ensures)
+    (c .before .bits-at3 .ensures ∙ ap (λ (t : ℕ). number (a .b) / 2 ^ (a .m * t) % 2 ^ a .m) (of-b .second-at .ensures))
     (c .lane-at .ensures)
+
+-- ---- needs
 
 loop-holds : tie.Need-loop-holds Inv-loop μ-loop
 loop-holds c = (omega arith, none-yet _ _ _)
@@ -64,8 +79,8 @@ mul-at c = omega (arith, place c)
 
 bits-at-requires : tie.Need-bits-at-requires Inv-loop μ-loop
 bits-at-requires c κs =
-    let s = c .before .before in
-    (omega (arith, place c, s .pre .0), in-word (s .args .n) (c .before .loop .j) (s .pre .0) (s .pre .4 .n-word))
+    let s = entry c in
+    (omega (arith, place c, s .pre .0), in-word (s .args .n) (j c) (s .pre .0) (s .pre .4 .n-word))
 
 add-bits-at : tie.Need-add-bits-at Inv-loop μ-loop
 add-bits-at c = omega (arith, near (c .before))
@@ -75,7 +90,7 @@ mul-bits-at c = omega (arith, first (c .before))
 
 bits-at-requires-2 : tie.Need-bits-at-requires-2 Inv-loop μ-loop
 bits-at-requires-2 c κs =
-    let s = c .before .before .before in
+    let s = entry (c .before) in
     (omega (arith, first (c .before), s .pre .1), in-word (s .args .m) _ (s .pre .1) (s .pre .4 .m-word))
 
 second-at-requires : tie.Need-second-at-requires Inv-loop μ-loop
@@ -86,27 +101,26 @@ mul-bits-at-2 c = omega (arith, second c)
 
 bits-at-requires-3 : tie.Need-bits-at-requires-3 Inv-loop μ-loop
 bits-at-requires-3 c κs =
-    let s = c .before .before .before .before .before in
+    let s = entry (turn c) in
     (omega (arith, second c, s .pre .1), in-word (s .args .m) _ (s .pre .1) (s .pre .4 .m-word))
 
 lane-at-requires : tie.Need-lane-at-requires Inv-loop μ-loop
 lane-at-requires c κs =
-    let at-bits-at = c .before .before in
-    let at-bits-at2 = at-bits-at .before in
-    let p4 = at-bits-at2 .before in
-    let s = p4 .before .before in (
+    let t = turn (c .before) in
+    let s = entry t in
+    let of-a = c .before .before in (
       s .pre .0,
-      n-le (p4),
-      rw (at-bits-at2 .bits-at .ensures) (mod-lt _ (pow-pos _)),
-      subst (λ (t : ℕ). at-bits-at .bits-at2 .result < 2 ^ t)
-          (s .pre .2) (rw (at-bits-at .bits-at2 .ensures) (mod-lt _ (pow-pos _))),
+      n-le t,
+      rw (of-a .before .bits-at .ensures) (mod-lt _ (pow-pos _)),
+      subst (λ (t : ℕ). of-a .bits-at2 .result < 2 ^ t)
+          (s .pre .2) (rw (of-a .bits-at2 .ensures) (mod-lt _ (pow-pos _))),
       subst (λ (t : ℕ). c .bits-at3 .result < 2 ^ t) (s .pre .2)
           (rw (c .bits-at3 .ensures) (mod-lt _ (pow-pos _))),
       s .pre .3,
     )
 
 shl-requires : tie.Need-shl-requires Inv-loop μ-loop
-shl-requires c κs = omega (arith, place (c .before .before .before .before .before))
+shl-requires c κs = omega (arith, place (made c))
 
 add-requires : tie.Need-add-requires Inv-loop μ-loop
 add-requires c κs = tt
@@ -120,24 +134,20 @@ loop-less c = omega arith
 loop-again : tie.Need-loop-again Inv-loop μ-loop
 loop-again c =
     let at-shl = c .before .before in
-    let p3 = at-shl .before in
-    let at-loop-test = p3 .before .before .before .before .before in
-    let p9 = at-loop-test .before in
-    let p10 = p9 .before in
-    let s = p10 in
-    let l = p9 in (
-      omega (arith, at-loop-test .loop-test .taken),
+    let l = at-shl .before in
+    let t = made l in
+    let s = entry t in (
+      omega (arith, t .loop-test .taken),
       one-more (s .args .n) (s .args .k) _ _
-          (lane-by-lt (s .args .op) (s .args .n) (s .args .m) (s .args .skip) (s .args .element) (s .args .index) _ _ _ (s .pre .0) (n-le (at-loop-test))
-          (s .pre .2) (s .pre .3)) (l .loop .j) _ _ _ _ _ _ (l .loop .inv .1) (place (at-loop-test)) (lane-is (p3) .bits-are) (lane-is (p3) .saturated-is)
+          (lane-by-lt (s .args .op) (s .args .n) (s .args .m) (s .args .skip) (s .args .element) (s .args .index) _ _ _ (s .pre .0) (n-le t)
+          (s .pre .2) (s .pre .3)) (j t) _ _ _ _ _ _ (t .before .loop .inv .1) (place t) (lane-is l .bits-are) (lane-is l .saturated-is)
           (at-shl .shl .ensures) (c .before .add .ensures),
     )
 
 returns : tie.Need-returns Inv-loop μ-loop
 returns c =
-    let p2 = c .before .before in
-    let s = p2 in
     let l = c .before in
+    let s = l .before in
     let e : l .loop .j ≡ s .args .k = omega arith in
     let kept = rw e at (l .loop .inv .1) in
     record {
