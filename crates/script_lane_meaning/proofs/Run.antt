@@ -15,7 +15,9 @@ use Rattle.terms.specs.Display.{bytes}
 use Rattle.pool.specs.Node.{Kind, bad, var, Cell, cellAt, widthAt}
 use Rattle.pool.specs.Rules.{Valid}
 use Rattle.script_meaning.specs.Sexp.{word, Items, _⨾_}
-use Rattle.script_meaning.specs.Meaning.{andThen, Meaning, meaning, Entry, _↦ᵉ_, find, functions, equal, applied, atom, term, valuesOf, Script, script, run}
+use Rattle.script_meaning.specs.Values.{andThen, Meaning, meaning, Entry, _↦ᵉ_, find}
+use Rattle.script_meaning.specs.Functions.{functions, equal, applied}
+use Rattle.script_meaning.specs.Meaning.{atom, term, valuesOf, Script, script, run}
 use Rattle.script_meaning.specs.Script.{nodeName, applyTo, termOf, definedBy}
 use Rattle.script_meaning.proofs.Names.{find-here, atom-name}
 use Rattle.script_meaning.proofs.Vars.{isVar, is-var, defined-other}

@@ -14,7 +14,9 @@ use Rattle.pool.specs.Node.{cellAt, widthAt}
 use Rattle.pool.specs.Rules.{Valid}
 use Rattle.pool.specs.Unfold.{unfoldAt}
 use Rattle.script_meaning.specs.Sexp.{Items, stop, _⨾_}
-use Rattle.script_meaning.specs.Meaning.{andThen, Meaning, meaning, Entry, find, functions, indexed, cut, distinct, applied, appliedAt, term, commands, Script, script, done, run, begun, meant}
+use Rattle.script_meaning.specs.Values.{andThen, Meaning, meaning, Entry, find}
+use Rattle.script_meaning.specs.Functions.{functions, indexed, cut, distinct, applied, appliedAt}
+use Rattle.script_meaning.specs.Meaning.{term, commands, Script, script, done, run, begun, meant}
 use Rattle.script_meaning.specs.Script.{nodeName, nameOf, setLogic, checkSat, declarations}
 use Rattle.script_meaning.specs.Demand.{ModelOf, Holds}
 use Rattle.script_meaning.proofs.Reading.{read-lines}

@@ -13,7 +13,8 @@ use Rattle.pool.specs.Node.{widthAt}
 use Rattle.pool.specs.Rules.{Valid}
 use Rattle.pool.specs.Unfold.{unfoldAt}
 use Rattle.pool_check.proofs.Sound.{sound}
-use Rattle.script_meaning.specs.Meaning.{number, valuesOf}
+use Rattle.script_meaning.specs.Values.{number}
+use Rattle.script_meaning.specs.Meaning.{valuesOf}
 use Rattle.script_meaning.specs.Script.{registerName, nodeName}
 use Rattle.script_meaning.proofs.Numbers.{decimal-number}
 

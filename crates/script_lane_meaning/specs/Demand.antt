@@ -10,7 +10,8 @@ use Rattle.terms.specs.Value.{value}
 use Rattle.pool.specs.Node.{widthAt}
 use Rattle.pool.specs.Rules.{Valid}
 use Rattle.pool.specs.Unfold.{unfoldAt}
-use Rattle.script_meaning.specs.Meaning.{Meaning, meaning, Entry, find, script, meant}
+use Rattle.script_meaning.specs.Values.{Meaning, meaning, Entry, find}
+use Rattle.script_meaning.specs.Meaning.{script, meant}
 use Rattle.script_meaning.specs.Script.{nameOf}
 use Rattle.script_meaning.specs.Demand.{ModelOf, Holds}
 use Rattle.script_lane_meaning.specs.LaneScript.{laneScriptOf}

@@ -10,7 +10,9 @@ use borrow.Author.Tests.{lt-ltb, eq-eqb}
 use Rattle.terms.specs.Value.{bit}
 use Rattle.terms.specs.Display.{bytes, decimal}
 use Rattle.script_meaning.specs.Sexp.{Sexp, word, list, stop, _⨾_}
-use Rattle.script_meaning.specs.Meaning.{Meaning, meaning, Entry, _↦ᵉ_, find, functions, term, sort, commands, isFresh, valuesOf, script, done, command}
+use Rattle.script_meaning.specs.Values.{Meaning, meaning, Entry, _↦ᵉ_, find}
+use Rattle.script_meaning.specs.Functions.{functions}
+use Rattle.script_meaning.specs.Meaning.{term, sort, commands, isFresh, valuesOf, script, done, command}
 use Rattle.script_meaning.specs.Script.{registerName, nodeName, sortBy, declareConst, assertion, defineFun}
 use Rattle.script_meaning.proofs.Numbers.{decimal-numeral}
 use Rattle.script_meaning.proofs.Names.{node-free, register-free, decimal-symbolic}

@@ -15,7 +15,7 @@ use Rattle.pool.specs.Rules.{widthBefore, okKind, Valid}
 use Rattle.pool.proofs.Facts.{valid-node}
 use Rattle.script_meaning.specs.Sexp.{Sexp, word, list, Items, stop, _⨾_}
 use Rattle.script_meaning.specs.Read.{isPlain}
-use Rattle.script_meaning.specs.Meaning.{all}
+use Rattle.script_meaning.specs.Values.{all}
 use Rattle.script_meaning.specs.Script.{binary, registerName, nodeName, nameBy, nameOf, operator, comparison}
 use Rattle.script_meaning.specs.Script.{termBy, termOf, sortBy, definedBy, sortWidth, definition, definitions, declarations, commandsOf}
 use Rattle.script_meaning.proofs.Reading.{plain, fine, fineAll}

@@ -11,7 +11,9 @@ use Rattle.facts.proofs.Tests.{and-both}
 use Rattle.terms.specs.Display.{bytes, decimal}
 use Rattle.pool.specs.Node.{Kind, bad, var, const, bv, compare, ite, extract, concat, zext, sext, Cell}
 use Rattle.script_meaning.specs.Read.{isDigit, isSymbolic, isPlain}
-use Rattle.script_meaning.specs.Meaning.{all, same, isAmong, literal, Meaning, Entry, _↦ᵉ_, find, functions, taken, atom}
+use Rattle.script_meaning.specs.Values.{all, same, isAmong, literal, Meaning, Entry, _↦ᵉ_, find}
+use Rattle.script_meaning.specs.Functions.{functions, taken}
+use Rattle.script_meaning.specs.Meaning.{atom}
 use Rattle.script_meaning.specs.Script.{registerName, nodeName, nameBy}
 use Rattle.script_meaning.proofs.Numbers.{decimal-one, decimal-digits}
 

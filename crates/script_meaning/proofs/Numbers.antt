@@ -16,7 +16,7 @@ use Rattle.facts.proofs.Numbers.{before-or-from}
 use Rattle.terms.specs.Display.{digit, decimal}
 use Rattle.text_digits.proofs.Laws.{digits, digits-one, digits-more}
 use Rattle.script_meaning.specs.Read.{isDigit}
-use Rattle.script_meaning.specs.Meaning.{all, number, isNumeral, numeral, isBinaryDigit, when}
+use Rattle.script_meaning.specs.Values.{all, number, isNumeral, numeral, isBinaryDigit, when}
 use Rattle.script_meaning.specs.Script.{binary}
 
 -- ---- decimals

@@ -7,7 +7,7 @@ use Prim.Native.Nat.{ℕ}
 use Rattle.facts.proofs.Tests.{and-both}
 use Rattle.script_meaning.specs.Sexp.{Sexp, word, list, Items, stop, _⨾_, show, showAll, showMore, showLines}
 use Rattle.script_meaning.specs.Read.{isPlain, Reading, at, broken, ended, parted, opened, closed, spelt, readByte, reading, whole, read}
-use Rattle.script_meaning.specs.Meaning.{all}
+use Rattle.script_meaning.specs.Values.{all}
 
 -- words that are not empty, of plain characters
 abbrev pub plain : List ℕ → Bool

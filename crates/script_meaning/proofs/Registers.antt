@@ -8,7 +8,8 @@ use Prim.Native.Nat.{ℕ, zero, suc, _+_, _^_, _≤_, _<_}
 use native.Mathlib.Nat.{eq-or-lt-of-le, le-of-suc-le-suc}
 use native.Mathlib.Omega.{arith}
 use Rattle.script_meaning.specs.Sexp.{Items}
-use Rattle.script_meaning.specs.Meaning.{andThen, Meaning, meaning, Entry, _↦ᵉ_, find, Script, script, run}
+use Rattle.script_meaning.specs.Values.{andThen, Meaning, meaning, Entry, _↦ᵉ_, find}
+use Rattle.script_meaning.specs.Meaning.{Script, script, run}
 use Rattle.script_meaning.specs.Script.{registerName, nodeName, declarations}
 use Rattle.script_meaning.proofs.Names.{other-decimal, find-here, find-past}
 use Rattle.script_meaning.proofs.Commands.{fresh-register, declare-step}

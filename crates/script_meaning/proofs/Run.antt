@@ -12,7 +12,9 @@ use Rattle.terms.specs.Display.{bytes}
 use Rattle.pool.specs.Node.{Kind, cellAt, widthAt}
 use Rattle.pool.specs.Rules.{Valid}
 use Rattle.script_meaning.specs.Sexp.{Items, stop, _⨾_}
-use Rattle.script_meaning.specs.Meaning.{andThen, Meaning, Entry, _↦ᵉ_, find, functions, distinct, applied, commands, Script, script, done, run}
+use Rattle.script_meaning.specs.Values.{andThen, Meaning, Entry, _↦ᵉ_, find}
+use Rattle.script_meaning.specs.Functions.{functions, distinct, applied}
+use Rattle.script_meaning.specs.Meaning.{commands, Script, script, done, run}
 use Rattle.script_meaning.specs.Script.{registerName, nodeName, nameOf, apply2, termOf, sortWidth, assertion, definedBy, definition, definitions, declarations, checkSat}
 use Rattle.script_meaning.proofs.Vars.{isVar, is-var, defined-other}
 use Rattle.script_meaning.proofs.Terms.{two-args}

@@ -2,7 +2,8 @@
 use mathlib.Core.Path.{_≡_, refl, ap, _∙_}
 use mathlib.Core.Option.{Option, some}
 use Rattle.script_meaning.specs.Sexp.{Items, _⨾_}
-use Rattle.script_meaning.specs.Meaning.{andThen, begun, meant}
+use Rattle.script_meaning.specs.Values.{andThen}
+use Rattle.script_meaning.specs.Meaning.{begun, meant}
 use Rattle.script_meaning.specs.Script.{setLogic, declarations, definitions, commandsOf, scriptOf}
 use Rattle.script_meaning.specs.Demand.{ScriptMeans}
 use Rattle.script_meaning.proofs.Reading.{read-lines}

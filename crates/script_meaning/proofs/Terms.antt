@@ -21,9 +21,10 @@ use Rattle.pool.specs.Rules.{okKind}
 use Rattle.pool.specs.Unfold.{shapeOf}
 use Rattle.pool_rules.proofs.Kept.{wide-one, const-wide, const-fits, bv-tests, compare-tests, ite-tests, extract-tests, concat-tests, zext-tests}
 use Rattle.script_meaning.specs.Sexp.{Sexp, word, list, Items, stop, _⨾_}
-use Rattle.script_meaning.specs.Meaning as meanings
-use Rattle.script_meaning.specs.Meaning.{andThen, when, isNone, all, number, isBinaryDigit, literal, Meaning, meaning, Entry, find, functions, indexed, cut, zeros, signs}
-use Rattle.script_meaning.specs.Meaning.{Function, equal, distinct, choose, join, isVector, sameSort, applied, appliedAt, words, numeral, numerals, indexedBy, called, atom, term}
+use Rattle.script_meaning.specs.Values.{andThen, when, isNone, all, number, numeral, isBinaryDigit, literal, Meaning, meaning, Entry, find}
+use Rattle.script_meaning.specs.Functions as tables
+use Rattle.script_meaning.specs.Functions.{Function, equal, distinct, choose, join, functions, cut, zeros, signs, indexed, isVector, sameSort, applied, appliedAt}
+use Rattle.script_meaning.specs.Meaning.{words, numerals, indexedBy, called, atom, term}
 use Rattle.script_meaning.specs.Script.{binary, operator, comparison, apply1, applyTo, apply2, apply3, index1, index2, termBy}
 use Rattle.script_meaning.proofs.Vars.{isVar}
 use Rattle.script_meaning.proofs.Numbers.{decimal-numeral, binary-number, binary-length, binary-digits}
@@ -41,7 +42,7 @@ literal-binary w v h l =
 
 -- ---- functions by name
 
-find-operator : (o : BinOp) → find functions (operator o) ≡ some (meanings.Function.bv o)
+find-operator : (o : BinOp) → find functions (operator o) ≡ some (tables.Function.bv o)
 unfolding find functions
 find-operator Add = refl
 find-operator Sub = refl
@@ -70,12 +71,12 @@ module _ (env : List (Entry Meaning)) where
   unfolding term
   three-args f a b c o u v w e p q r = rw (p, q, r, e)
 
-  indexed-1 : (f a : List ℕ) (i : ℕ) (o : meanings.Indexed) (u : Meaning) → find indexed f ≡ some o → atom env a ≡ some u
+  indexed-1 : (f a : List ℕ) (i : ℕ) (o : tables.Indexed) (u : Meaning) → find indexed f ≡ some o → atom env a ≡ some u
       → term (apply1 (index1 f i) a) env ≡ appliedAt o (i ∷ []) (u ∷ [])
   unfolding term
   indexed-1 f a i o u e p = rw (p, e, decimal-numeral i)
 
-  pub indexed-2 : (f a : List ℕ) (i j : ℕ) (o : meanings.Indexed) (u : Meaning) → find indexed f ≡ some o → atom env a ≡ some u
+  pub indexed-2 : (f a : List ℕ) (i j : ℕ) (o : tables.Indexed) (u : Meaning) → find indexed f ≡ some o → atom env a ≡ some u
       → term (apply1 (index2 f i j) a) env ≡ appliedAt o (i ∷ j ∷ []) (u ∷ [])
   unfolding term
   indexed-2 f a i j o u e p = rw (p, e, decimal-numeral i, decimal-numeral j)
@@ -99,11 +100,11 @@ module _ (env : List (Entry Meaning)) (regs : ℕ → ℕ) (n : ℕ) (k : Cell) 
       two-args env (bytes "=") a b equal _ _ refl (ha (t .1) .is) (hb (t .2) .is) ∙ rw (eq-eqb A B (sym (t .4)), t .0)
   compare-reads Ult h =
       let t = compare-tests n k A B C Ult h in
-      two-args env (bytes "bvult") a b (meanings.Function.compare Ult) _ _ refl (ha (t .1) .is) (hb (t .2) .is)
+      two-args env (bytes "bvult") a b (tables.Function.compare Ult) _ _ refl (ha (t .1) .is) (hb (t .2) .is)
       ∙ rw (eq-eqb A B (sym (t .4)), lt-ltb 0 A (t .3), t .0)
   compare-reads Slt h =
       let t = compare-tests n k A B C Slt h in
-      two-args env (bytes "bvslt") a b (meanings.Function.compare Slt) _ _ refl (ha (t .1) .is) (hb (t .2) .is)
+      two-args env (bytes "bvslt") a b (tables.Function.compare Slt) _ _ refl (ha (t .1) .is) (hb (t .2) .is)
       ∙ rw (eq-eqb A B (sym (t .4)), lt-ltb 0 A (t .3), t .0, ha (t .1) .wide-is)
 
   pub by-kind : (κ : Kind) → isVar κ ≡ false → okKind κ n k A B C ≡ true → Reads κ
@@ -115,7 +116,7 @@ module _ (env : List (Entry Meaning)) (regs : ℕ → ℕ) (n : ℕ) (k : Cell) 
       let t = bv-tests n k A B C o h in
       let w : A ≡ B = t .3 ∙ sym (t .4) in
       let l : 0 < A = omega (arith, t .3, wide-one (k .width) (t .0)) in
-      two-args env (operator o) a b (meanings.Function.bv o) _ _ (find-operator o) (ha (t .1) .is) (hb (t .2) .is)
+      two-args env (operator o) a b (tables.Function.bv o) _ _ (find-operator o) (ha (t .1) .is) (hb (t .2) .is)
       ∙ rw (lt-ltb 0 A l, eq-eqb A B w, ha (t .1) .wide-is, t .3)
   by-kind (compare o) v h = compare-reads o h
   by-kind ite v h =

@@ -9,7 +9,8 @@ use Rattle.terms.specs.Value.{value}
 use Rattle.pool.specs.Node.{widthAt}
 use Rattle.pool.specs.Rules.{Valid}
 use Rattle.pool.specs.Unfold.{unfoldAt}
-use Rattle.script_meaning.specs.Meaning.{Meaning, meaning, Entry, find, Script, script, meant}
+use Rattle.script_meaning.specs.Values.{Meaning, meaning, Entry, find}
+use Rattle.script_meaning.specs.Meaning.{Script, script, meant}
 use Rattle.script_meaning.specs.Script.{registerName, nameOf, scriptOf}
 
 -- the model of a start: r0 to r31 are its registers, of 128 bits
