@@ -8,8 +8,8 @@ use Rattle.script_meaning.specs.Script.{nameOf}
 use Rattle.script_text.proofs.Chunks.{indexed-2}
 use Rattle.script_text.proofs.Parts.{together, left}
 use borrow.Author.Needs.{needs}
-use Rattle.script_text.proofs.put_cut.Statement.{statement}
-use Rattle.script_text.proofs.put_cut.Tie as tie
+use Rattle.script_text.proofs.term.put_cut.Statement.{statement}
+use Rattle.script_text.proofs.term.put_cut.Tie as tie
 
 -- ---- places: after each text, with the place before it
 

@@ -2,8 +2,8 @@
 use Rattle.text_digits.proofs.Laws.{room-front, room-step, room-as, wrote-then, wrote-as}
 use Rattle.script_text.proofs.Chunks.{short-sort, long-sort}
 use borrow.Author.Needs.{needs}
-use Rattle.script_text.proofs.put_sort.Statement.{statement}
-use Rattle.script_text.proofs.put_sort.Tie as tie
+use Rattle.script_text.proofs.term.put_sort.Statement.{statement}
+use Rattle.script_text.proofs.term.put_sort.Tie as tie
 
 -- ---- places
 

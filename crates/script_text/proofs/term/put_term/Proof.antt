@@ -11,8 +11,8 @@ use Rattle.script_meaning.specs.Script.{binary, nameOf, termOf, functionOf, app
 use Rattle.pool_fields.specs.Fields.{opA, opB}
 use Rattle.script_text.proofs.Nodes.{Two, Extends, constant, three-of, cut-of, two-of, extension-of, extension-term, kind-below}
 use borrow.Author.Needs.{needs}
-use Rattle.script_text.proofs.put_term.Statement.{statement}
-use Rattle.script_text.proofs.put_term.Tie as tie
+use Rattle.script_text.proofs.term.put_term.Statement.{statement}
+use Rattle.script_text.proofs.term.put_term.Tie as tie
 
 from-three : (k : ℕ) → 2 ≤ k → (k ≡ 2 → ⊥) → 3 ≤ k
 from-three k h f = omega arith

@@ -1,8 +1,8 @@
 -- `put_register_name` writes r and the register's number.
 use Rattle.text_digits.proofs.Laws.{room-front, room-step, room-as, wrote-then, wrote-as}
 use borrow.Author.Needs.{needs}
-use Rattle.script_text.proofs.put_register_name.Statement.{statement}
-use Rattle.script_text.proofs.put_register_name.Tie as tie
+use Rattle.script_text.proofs.term.put_register_name.Statement.{statement}
+use Rattle.script_text.proofs.term.put_register_name.Tie as tie
 
 slice-aggregate-put : tie.Need-slice-aggregate-put
 slice-aggregate-put c = search needs

@@ -5,8 +5,8 @@ use native.Mathlib.Omega.{arith}
 use Rattle.pool.specs.Node.{wide}
 use Rattle.script_text.proofs.Bits.{low-bit, high-part, top-bit}
 use borrow.Author.Needs.{needs}
-use Rattle.script_text.proofs.bit.Statement.{statement}
-use Rattle.script_text.proofs.bit.Tie as tie
+use Rattle.script_text.proofs.term.bit.Statement.{statement}
+use Rattle.script_text.proofs.term.bit.Tie as tie
 
 shr-result : tie.Need-shr-result
 shr-result c = search needs

@@ -6,8 +6,8 @@ use Rattle.pool.specs.Node.{kindAt, kinds}
 use Rattle.script_meaning.specs.Script.{functionOf}
 use Rattle.script_text.proofs.Spelling.{above, last-kind}
 use borrow.Author.Needs.{needs}
-use Rattle.script_text.proofs.put_function.Statement.{statement}
-use Rattle.script_text.proofs.put_function.Tie as tie
+use Rattle.script_text.proofs.term.put_function.Statement.{statement}
+use Rattle.script_text.proofs.term.put_function.Tie as tie
 
 -- the name that is due, by a kind's number
 named : {k : ℕ} (y : ℕ) → k ≡ y → functionOf (kindAt k) ≡ functionOf (kindAt y)

@@ -11,8 +11,8 @@ use Rattle.text_digits.specs.Writing.{Wrote}
 use Rattle.script_meaning.specs.Script.{binary}
 use Rattle.script_meaning.proofs.Numbers.{binary-length}
 use Rattle.script_text.proofs.Bits.{next-bit}
-use Rattle.script_text.proofs.put_binary.Statement.{statement}
-use Rattle.script_text.proofs.put_binary.Tie as tie
+use Rattle.script_text.proofs.term.put_binary.Statement.{statement}
+use Rattle.script_text.proofs.term.put_binary.Tie as tie
 
 abbrev Inv-loop : tie.InvT-loop
 Inv-loop low high width buf₀ at k₀ i₀ buf k i =

@@ -4,8 +4,8 @@ use mathlib.Core.Path.{_≡_, sym, ap, _∙_}
 use Rattle.script_meaning.specs.Script.{registerName, nodeName, nameOf}
 use Rattle.script_text.proofs.Spelling.{register-named, node-named}
 use borrow.Author.Needs.{needs}
-use Rattle.script_text.proofs.put_name.Statement.{statement}
-use Rattle.script_text.proofs.put_name.Tie as tie
+use Rattle.script_text.proofs.term.put_name.Statement.{statement}
+use Rattle.script_text.proofs.term.put_name.Tie as tie
 
 -- ---- places: the entry from where the kind is read, and the name by the kind
 

@@ -1,8 +1,8 @@
 -- `put_constant` writes #b and the binary digits.
 use Rattle.text_digits.proofs.Laws.{room-front, room-step, room-as, wrote-then, wrote-as}
 use borrow.Author.Needs.{needs}
-use Rattle.script_text.proofs.put_constant.Statement.{statement}
-use Rattle.script_text.proofs.put_constant.Tie as tie
+use Rattle.script_text.proofs.term.put_constant.Statement.{statement}
+use Rattle.script_text.proofs.term.put_constant.Tie as tie
 
 slice-aggregate-put : tie.Need-slice-aggregate-put
 slice-aggregate-put c = search needs
