@@ -21,13 +21,16 @@ value c = c .before .before .before
 abbrev asked : tie.After-signed-amount → tie.Then1
 asked c = c .before .before
 
+abbrev shifted : tie.Then1 → tie.After-extract-lane
+shifted c = value (c .before)
+
 -- ---- the calls
 
 lane-in : (s : tie.Start) → s .args .lane-bits * s .args .index .0 + s .args .lane-bits ≤ 128
 lane-in s = lane-fits (s .args .lane-bits) (s .args .index .0) (s .args .lanes) (s .pre .1 .1 .3) (s .pre .1 .1 .4)
 
 -- the kind is a register shift
-by-register : (c : tie.Then1) → isRegister (entry (value (c .before)) .args .kind) ≡ true
+by-register : (c : tie.Then1) → isRegister (entry (shifted c) .args .kind) ≡ true
 by-register c = sym (c .before .is-register .ensures) ∙ c .if1 .taken
 
 extract-lane-requires : tie.Need-extract-lane-requires
@@ -38,15 +41,14 @@ is-register-requires c κs = search needs
 
 signed-amount-requires : tie.Need-signed-amount-requires
 signed-amount-requires c κs =
-    let i = c .before in
-    let v = value (i .before) in
+    let v = shifted (c .before) in
     let s = entry v in
-    omega (arith, s .pre, v .extract-lane .ensures .sized, s .pre .1 .0 .1 (by-register i), lane-in s)
+    omega (arith, s .pre, v .extract-lane .ensures .sized, s .pre .1 .0 .1 (by-register (c .before)), lane-in s)
 
 shift-lane-requires : tie.Need-shift-lane-requires
 shift-lane-requires c κs =
     let a = c .before .before .before in
-    let v = value (asked a .before) in
+    let v = shifted (asked a) in
     let s = entry v in
     let lane = v .extract-lane .ensures .sized in
     let amount = a .signed-amount .ensures .sized in
@@ -59,10 +61,9 @@ returns : tie.Need-returns
 returns c =
     let l = c .before .before in
     let a = l .before .before .before .before in
-    let i = asked a in
-    let v = value (i .before) in
+    let v = shifted (asked a) in
     let s = entry v in
-    at-register (s .args .kind) (s .args .signed) (s .pre .1 .1 .3) (s .pre .1 .1 .4) (by-register i)
+    at-register (s .args .kind) (s .args .signed) (s .pre .1 .1 .3) (s .pre .1 .1 .4) (by-register (asked a))
     (v .extract-lane .ensures) (a .signed-amount .ensures) (l .shift-lane .ensures)
 
 shift-lane-requires-2 : tie.Need-shift-lane-requires-2
@@ -73,12 +74,12 @@ same-length-2 c = search needs
 
 returns-2 : tie.Need-returns-2
 returns-2 c =
-    let l = c .before .before in
-    let i = l .before .before in
+    let immediate = c .before .before in
+    let i = immediate .before .before in
     let v = value (i .before) in
     let s = entry v in
     at-immediate (s .args .kind) (s .args .signed) (s .pre .1 .1 .3) (s .pre .1 .1 .4) (sym (i .before .is-register .ensures) ∙ i .if1 .left)
-    (v .extract-lane .ensures) (l .shift-lane2 .ensures)
+    (v .extract-lane .ensures) (immediate .shift-lane2 .ensures)
 
 pub shift-at-spec : {M : Type 1} → statement M
 shift-at-spec =

@@ -5,17 +5,20 @@ use borrow.Author.Needs.{needs}
 use Rattle.lower_shift.proofs.signed_amount.Statement.{statement}
 use Rattle.lower_shift.proofs.signed_amount.Tie as tie
 
+abbrev entry : tie.Then1 → tie.Start
+entry i = i .before .before
+
 mul-lo : tie.Need-mul-lo
-mul-lo c = omega (arith, c .before .before .before .pre)
+mul-lo c = omega (arith, entry (c .before) .pre)
 
 add-t11 : tie.Need-add-t11
-add-t11 c = omega (arith, c .before .before .before .before .pre)
+add-t11 c = omega (arith, entry (c .before .before) .pre)
 
 extract-collapsing-requires : tie.Need-extract-collapsing-requires
 extract-collapsing-requires c κs =
     let i = c .before .before in
-    let st = i .before .before in
-    (omega (arith, st .pre .0), (st .pre .1 .0, omega arith, omega (arith, st .pre .1, i .if1 .taken)))
+    let p = entry i .pre in
+    (omega (arith, p .0), (p .1 .0, omega arith, omega (arith, p .1, i .if1 .taken)))
 
 sign-ext-requires : tie.Need-sign-ext-requires
 sign-ext-requires c κs = search needs
@@ -28,8 +31,7 @@ returns c =
     let e = c .before .before in
     let x = e .before .before .before .before in
     let i = x .before .before .before in
-    let st = i .before .before in
-    amount-byte (i .if1 .taken) (st .pre .1 .2) (x .extract-collapsing .ensures) (e .sign-ext .ensures)
+    amount-byte (i .if1 .taken) (entry i .pre .1 .2) (x .extract-collapsing .ensures) (e .sign-ext .ensures)
 
 extract-lane-requires : tie.Need-extract-lane-requires
 extract-lane-requires c κs = search needs
