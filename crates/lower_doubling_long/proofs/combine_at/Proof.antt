@@ -8,6 +8,9 @@ use borrow.Author.Needs.{needs}
 use Rattle.lower_doubling_long.proofs.combine_at.Statement.{statement}
 use Rattle.lower_doubling_long.proofs.combine_at.Tie as tie
 
+abbrev entry : tie.After-combine → tie.Start
+entry c = c .before .before .before
+
 enum-told : tie.Need-enum-told
 enum-told c = search needs
 
@@ -19,13 +22,13 @@ add-wide c = search needs
 
 extract-lane-requires : tie.Need-extract-lane-requires
 extract-lane-requires c κs =
-    let l-combine = c .before .before in
-    let st = l-combine .before .before .before in
+    let k = c .before .before in
+    let s = entry k in
     omega (
       arith,
-      st .pre,
-      st .pre .1 .0 .1 (ap accumulates (l-combine .combine .given .1)),
-      lane-fits (st .args .lane-bits) (st .args .index .0) (st .args .lanes) (st .pre .1 .1 .2) (st .pre .1 .1 .3),
+      s .pre,
+      s .pre .1 .0 .1 (ap accumulates (k .combine .given .1)),
+      lane-fits (s .args .lane-bits) (s .args .index .0) (s .args .lanes) (s .pre .1 .1 .2) (s .pre .1 .1 .3),
     )
 
 join-requires : tie.Need-join-requires
@@ -36,21 +39,20 @@ clamp-requires c κs = search needs
 
 returns : tie.Need-returns
 returns c =
-    let l-enum-told = c in
-    let st = l-enum-told .before .before .before in
-    combined-nothing (st .args .lane-bits) (st .args .lanes) (st .args .index .0) (l-enum-told .enum-told .given .1) (st .pre .1 .0 .0) refl refl
+    let s = c .before .before .before in
+    combined-nothing (s .args .lane-bits) (s .args .lanes) (s .args .index .0) (c .enum-told .given .1) (s .pre .1 .0 .0) refl refl
 
 same-length : tie.Need-same-length
 same-length c = search needs
 
 returns-2 : tie.Need-returns-2
 returns-2 c =
-    let l-clamp = c .before .before in
-    let l-join = l-clamp .before .before .before .before in
-    let l-extract-lane = l-join .before .before .before .before in
-    let l-combine = l-extract-lane .before .before .before in
-    let st = l-combine .before .before .before in
-    combined-with (st .pre .1 .1 .0) (st .pre .1 .1 .2) (l-combine .combine .given .1) (l-extract-lane .extract-lane .ensures) (l-join .join .ensures) (l-clamp .clamp .ensures)
+    let clamp = c .before .before in
+    let sum = clamp .before .before .before .before in
+    let prior = sum .before .before .before .before in
+    let k = prior .before .before .before in
+    let p = entry k .pre .1 .1 in
+    combined-with (p .0) (p .2) (k .combine .given .1) (prior .extract-lane .ensures) (sum .join .ensures) (clamp .clamp .ensures)
 
 pub combine-at-spec : {M : Type 1} → statement M
 combine-at-spec =

@@ -1,7 +1,7 @@
 -- doubled_lanes builds the lanes of `doublingLongLanes` over a second source that is made: its loop keeps the lanes so far
 use native.Mathlib.Omega.{arith}
 use native.Mathlib.Nat.{lt-of-lt-of-le}
-use Prim.Native.Nat.{_*_, _/_, _-_, _≤_}
+use Prim.Native.Nat.{ℕ, _*_, _/_, _-_, _≤_, _<_}
 use Rattle.lower.specs.Builds.{read, readIf}
 use Rattle.lower.proofs.Lanes.{LanesTo, LanesKept, lanes-first, lanes-more, lanes-all, room-first, room-lane, room-concat}
 use Rattle.lower_doubling_long.specs.Elements.{accumulates, elementSource, elementNodes, factorBits}
@@ -31,6 +31,10 @@ so-far c =
     let lane0 = c .before .before .before in
     c .loop .inv .2 _ (lanes-first _ {m = 26} (lane0 .before .first .ensures) (omega arith) (lane0 .doubling-at .ensures))
 
+-- a node of the entry is still one in a turn
+still : (t : tie.In-loop Inv-loop μ-loop) {n : ℕ} → n < entry (t .before) .args .count → n < t .before .loop .acc .count
+still t l = lt-of-lt-of-le l (so-far (t .before) .sized .more)
+
 first-requires : tie.Need-first-requires Inv-loop μ-loop
 first-requires c κs = tt
 
@@ -47,10 +51,9 @@ doubling-at-requires-2 : tie.Need-doubling-at-requires-2 Inv-loop μ-loop
 doubling-at-requires-2 c κs =
     let t = c .before in
     let p = entry (t .before) .pre in
-    let w = p .1 .1 in
-    let s = so-far (t .before) .sized in (
-      room-lane (p .0) (omega arith) (t .loop-test .taken) s,
-      ((lt-of-lt-of-le (p .1 .0 .0) (s .more), lt-of-lt-of-le (p .1 .0 .1) (s .more), λ u. lt-of-lt-of-le (p .1 .0 .2 u) (s .more)), (w .0, w .1, t .loop-test .taken, w .3)),
+    let w = p .1 .1 in (
+      room-lane (p .0) (omega arith) (t .loop-test .taken) (so-far (t .before) .sized),
+      ((still t (p .1 .0 .0), still t (p .1 .0 .1), λ u. still t (p .1 .0 .2 u)), (w .0, w .1, t .loop-test .taken, w .3)),
     )
 
 concat-lanes-requires : tie.Need-concat-lanes-requires Inv-loop μ-loop

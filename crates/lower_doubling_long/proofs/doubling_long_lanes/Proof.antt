@@ -7,22 +7,26 @@ use borrow.Author.Needs.{needs}
 use Rattle.lower_doubling_long.proofs.doubling_long_lanes.Statement.{statement}
 use Rattle.lower_doubling_long.proofs.doubling_long_lanes.Tie as tie
 
+-- ---- places: the entry, where the second source is one element
+
+abbrev entry : tie.Then1 → tie.Start
+entry i = i .before .before
+
+abbrev element : tie.After-extract-lane → tie.Then1
+element l = l .before .before
+
+-- ---- needs
+
 extract-lane-requires : tie.Need-extract-lane-requires
 extract-lane-requires c κs = search needs
 
 doubled-lanes-requires : tie.Need-doubled-lanes-requires
 doubled-lanes-requires c κs =
-    let l-extract-lane = c .before .before .before .before in
-    let st = l-extract-lane .before .before .before .before in (
-      omega (arith, st .pre, l-extract-lane .extract-lane .ensures .sized),
-      (
-        (
-          omega (arith, st .pre, l-extract-lane .extract-lane .ensures .sized),
-          omega (arith, l-extract-lane .extract-lane .ensures .sized),
-          λ u. lt-of-lt-of-le (st .pre .1 .0 .2 u) (omega (arith, l-extract-lane .extract-lane .ensures .sized)),
-        ),
-        omega (arith, st .pre),
-      ),
+    let l = c .before .before .before .before in
+    let p = entry (element l) .pre in
+    let n = l .extract-lane .ensures .sized in (
+      omega (arith, p, n),
+      ((omega (arith, p, n), omega (arith, n), λ u. lt-of-lt-of-le (p .1 .0 .2 u) (n .more)), omega (arith, p)),
     )
 
 same-length : tie.Need-same-length
@@ -30,12 +34,11 @@ same-length c = search needs
 
 returns : tie.Need-returns
 returns c =
-    let l-doubled-lanes = c .before .before in
-    let l-extract-lane = l-doubled-lanes .before .before .before .before .before in
-    let l-if1 = l-extract-lane .before .before in
-    let st = l-if1 .before .before in
-    by-element (st .args .lane-bits) (st .args .lanes) (st .args .element .0) (st .args .combine) (st .args .upper) (st .args .by-element) (st .pre .1 .1 .4) (l-if1 .if1 .taken)
-    (l-extract-lane .extract-lane .ensures) (l-doubled-lanes .doubled-lanes .ensures)
+    let made = c .before .before in
+    let l = made .before .before .before .before .before in
+    let s = entry (element l) in
+    by-element (s .args .lane-bits) (s .args .lanes) (s .args .element .0) (s .args .combine) (s .args .upper) (s .args .by-element) (s .pre .1 .1 .4) (element l .if1 .taken)
+    (l .extract-lane .ensures) (made .doubled-lanes .ensures)
 
 doubled-lanes-requires-2 : tie.Need-doubled-lanes-requires-2
 doubled-lanes-requires-2 c κs = search needs
@@ -45,10 +48,10 @@ same-length-2 c = search needs
 
 returns-2 : tie.Need-returns-2
 returns-2 c =
-    let l-doubled-lanes2 = c .before .before in
-    let l-if1 = l-doubled-lanes2 .before .before in
-    let st = l-if1 .before .before in
-    by-lane (st .args .lane-bits) (st .args .lanes) (st .args .element .0) (st .args .combine) (st .args .upper) (st .args .by-element) (l-if1 .if1 .left) (l-doubled-lanes2 .doubled-lanes2 .ensures)
+    let l = c .before .before in
+    let lanes = l .before .before in
+    let a = lanes .before .before .args in
+    by-lane (a .lane-bits) (a .lanes) (a .element .0) (a .combine) (a .upper) (a .by-element) (lanes .if1 .left) (l .doubled-lanes2 .ensures)
 
 pub doubling-long-lanes-spec : {M : Type 1} → statement M
 doubling-long-lanes-spec =
