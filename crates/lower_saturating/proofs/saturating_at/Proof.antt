@@ -6,7 +6,7 @@ use mathlib.Core.Path.{_≡_, sym, subst, _∙_}
 use Prim.Native.Nat.{ℕ, _+_, _*_, _≤_}
 use Rattle.lower_kinds.specs.Sources.{usesSecond}
 use Rattle.lower.proofs.Lanes.{lane-fits}
-use Rattle.lower_saturating.proofs.Joining.{source-least, Second, both-sized, at-lane}
+use Rattle.lower_saturating.proofs.Joining.{source-least, Second, Both, both-sized, at-lane}
 use borrow.Author.Needs.{needs}
 use Rattle.lower_saturating.proofs.saturating_at.Statement.{statement}
 use Rattle.lower_saturating.proofs.saturating_at.Tie as tie
@@ -57,26 +57,29 @@ second c =
     let e = sym (c .before .uses-second .ensures) in
     ⊎-elim (λ w. inl (e ∙ w .0 .taken, rw (w .5, w .6) (w .2 .ensures))) (λ w. inr (e ∙ w .0 .left, w .1, w .2)) (c .if1 .came)
 
+-- what both take
+taken : (c : tie.Joined1) → let u = c .before in let s = entry (bits u) .args in Both (s .pool .now) (s .count) (c .if1 .pool) (first u .extract-lane .result) (c .if1 .b)
+taken c = both-sized (first (c .before) .extract-lane .ensures) (second c)
+
 -- ---- the lane
+
+abbrev joined : tie.After-saturating-lane → tie.Joined1
+joined l = l .before .before
 
 saturating-lane-requires : tie.Need-saturating-lane-requires
 saturating-lane-requires c κs =
     let j = c .before in
-    let u = j .before in
-    let s = entry (bits u) in
-    let t = both-sized (first u .extract-lane .ensures) (second j) in
-    (omega (arith, s .pre .0, t .both), (t .first-under, t .both .under, s .pre .1 .1 .0, s .pre .1 .1 .2))
+    let p = entry (bits (j .before)) .pre in
+    let t = taken j in
+    (omega (arith, p .0, t .both), (t .first-under, t .both .under, p .1 .1 .0, p .1 .1 .2))
 
 same-length : tie.Need-same-length
-same-length c =
-    let l = c .before .before in
-    let j = l .before .before in
-    omega (arith, both-sized (first (j .before) .extract-lane .ensures) (second j) .both, l .saturating-lane .ensures .sized)
+same-length c = omega (arith, taken (joined (c .before .before)) .both, c .before .before .saturating-lane .ensures .sized)
 
 returns : tie.Need-returns
 returns c =
     let l = c .before .before in
-    let j = l .before .before in
+    let j = joined l in
     let u = j .before in
     let s = entry (bits u) in
     at-lane (s .args .kind) (s .args .signed-sources) (s .pre .1 .1 .3) (bits u .source-bits .ensures) (first u .extract-lane .ensures) (second j) (l .saturating-lane .ensures)
