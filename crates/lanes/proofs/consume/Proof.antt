@@ -23,6 +23,9 @@ test a = a .before .before .before .before
 abbrev answered : tie.After-write Inv-loop μ-loop → tie.After-answer-lines Inv-loop μ-loop
 answered w = w .before .before .before .before .before .before .before .before
 
+abbrev written : tie.Else1 Inv-loop μ-loop → tie.After-answer-lines Inv-loop μ-loop
+written e = answered (e .before)
+
 abbrev top : tie.After-answer-lines Inv-loop μ-loop → tie.At-loop Inv-loop μ-loop
 top a = test a .before
 
@@ -65,12 +68,12 @@ returns c = answered (c .before) .answer-lines .ensures .line-fits
 -- the answers are written
 loop-less : tie.Need-loop-less Inv-loop μ-loop
 loop-less c =
-    let a = answered (c .before) in
+    let a = written c in
     omega (arith, test a .loop-test .taken, a .answer-lines .ensures .further (test a .loop-test .taken))
 
 loop-again : tie.Need-loop-again Inv-loop μ-loop
 loop-again c =
-    let a = answered (c .before) in
+    let a = written c in
     (a .answer-lines .ensures .line-fits, same-pool a, same-held a, same-out a)
 
 same-length-4 : tie.Need-same-length-4 Inv-loop μ-loop
