@@ -21,7 +21,7 @@ Inv-loop pool₀ held₀ line input from out₀ len₀ output₀ next₀ pool he
 abbrev μ-loop : tie.MeasureT-loop
 μ-loop pool₀ held₀ line input from out₀ len₀ output₀ next₀ pool held out len output next = length input - next
 
--- ---- places of the code: its entry, the loop's test, the turn's gathering
+-- ---- places of the code: its entry, the loop's test, the turn's gathering, the answer to a line that ended
 
 abbrev entry : tie.At-loop Inv-loop μ-loop → tie.Start Inv-loop μ-loop
 entry l = l .before .before .before .before .before
@@ -35,8 +35,14 @@ top g = test g .before
 abbrev gathered : tie.Then2 Inv-loop μ-loop → tie.After-gather Inv-loop μ-loop
 gathered t = t .before .before .before
 
+abbrev left-open : tie.Else2 Inv-loop μ-loop → tie.After-gather Inv-loop μ-loop
+left-open e = e .before .before .before
+
 abbrev ended : tie.After-answer-line Inv-loop μ-loop → tie.Then2 Inv-loop μ-loop
 ended a = a .before .before .before .before
+
+abbrev answered : tie.After-slice-known6 Inv-loop μ-loop → tie.After-answer-line Inv-loop μ-loop
+answered c = c .before .before .before .before
 
 -- ---- what a turn gathers
 
@@ -86,12 +92,12 @@ gather-requires c κs = tt
 
 slice-reshare-prefix-answer-line : tie.Need-slice-reshare-prefix-answer-line Inv-loop μ-loop
 slice-reshare-prefix-answer-line c =
-    let g = c .before .before .before .before in
+    let g = gathered (c .before) in
     omega (arith, fits g, g .gather .kept .0)
 
 slice-aggregate-answer-line : tie.Need-slice-aggregate-answer-line Inv-loop μ-loop
 slice-aggregate-answer-line c =
-    let g = c .before .before .before .before .before in
+    let g = gathered (c .before .before) in
     sym (length-take-le _ _ (omega (arith, fits g, g .gather .kept .0)))
 
 answer-line-requires : tie.Need-answer-line-requires Inv-loop μ-loop
@@ -100,12 +106,12 @@ answer-line-requires c κs = tt
 -- a line ended
 loop-less : tie.Need-loop-less Inv-loop μ-loop
 loop-less c =
-    let g = gathered (ended (c .before .before .before .before)) in
+    let g = gathered (ended (answered c)) in
     omega (arith, more g, test g .loop-test .taken)
 
 loop-again : tie.Need-loop-again Inv-loop μ-loop
 loop-again c =
-    let a = c .before .before .before .before in
+    let a = answered c in
     let t = ended a in
     let g = gathered t in
     let l = top g in
@@ -129,12 +135,12 @@ loop-again c =
 -- the piece ended first
 loop-less-2 : tie.Need-loop-less-2 Inv-loop μ-loop
 loop-less-2 c =
-    let g = c .before .before .before in
+    let g = left-open c in
     omega (arith, more g, test g .loop-test .taken)
 
 loop-again-2 : tie.Need-loop-again-2 Inv-loop μ-loop
 loop-again-2 c =
-    let g = c .before .before .before in
+    let g = left-open c in
     let l = top g in
     let i = l .loop .inv in
     let p = places (entry l .args .pool .now) in
