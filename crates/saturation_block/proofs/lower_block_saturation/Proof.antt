@@ -13,6 +13,17 @@ entry c = c .before .before .before .before .before
 accepted : (c : tie.Else1) → Fits (entry c .args .pool .now) (entry c .args .records .now)
 accepted c = let a = entry c .args in fits (a .pool .now) (a .records .now) (c .before .refusal .ensures .0) (c .if1 .left)
 
+-- ---- from the answer back to the run, to its start and to the test
+
+abbrev run : tie.After-bit → tie.After-run-flagged
+run c = c .before .before .before .before
+
+abbrev started : tie.After-run-flagged → tie.After-start-flagged
+started r = r .before .before .before .before
+
+abbrev tested : tie.After-start-flagged → tie.Else1
+tested p = p .before .before
+
 refusal-requires : tie.Need-refusal-requires
 refusal-requires c κs = search needs
 
@@ -44,20 +55,20 @@ run-flagged-requires : tie.Need-run-flagged-requires
 run-flagged-requires c κs =
     let p = c .before .before .before in
     let s = p .start-flagged .ensures in
-    let f = accepted (p .before .before) in
+    let f = accepted (tested p) in
     let o = started-ok s in
     (omega (arith, f .room, o .2, s .grown .long), (o .0, (o .1, f .legal)))
 
 same-length-2 : tie.Need-same-length-2
 same-length-2 c =
-    let r = c .before .before .before .before in
-    omega (arith, r .before .before .before .before .start-flagged .ensures .grown .long, r .run-flagged .ensures .long)
+    let r = run c in
+    omega (arith, started r .start-flagged .ensures .grown .long, r .run-flagged .ensures .long)
 
 returns-2 : tie.Need-returns-2
 returns-2 c =
-    let r = c .before .before .before .before in
-    let p = r .before .before .before .before in
-    let e = p .before .before in
+    let r = run c in
+    let p = started r in
+    let e = tested p in
     record {
       number = e .before .refusal .ensures .0;
       position = e .before .refusal .ensures .1;
