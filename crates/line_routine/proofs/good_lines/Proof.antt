@@ -17,6 +17,12 @@ Inv-loop bytes count j₀ j = (count ≡ lineCount bytes) × (j ≤ count) × ((
 abbrev μ-loop : tie.MeasureT-loop
 μ-loop bytes count j₀ j = count - j
 
+abbrev entry : tie.At-loop Inv-loop μ-loop → tie.Start Inv-loop μ-loop
+entry l = l .before .before .before
+
+abbrev turn : tie.Else1 Inv-loop μ-loop → tie.In-loop Inv-loop μ-loop
+turn c = c .before .before
+
 line-count-requires : tie.Need-line-count-requires Inv-loop μ-loop
 line-count-requires c κs = search needs
 
@@ -29,30 +35,26 @@ is-line-requires c κs = omega (arith, c .before .loop .inv .0, c .loop-test .ta
 returns : tie.Need-returns Inv-loop μ-loop
 returns c =
     let r = c .before in
-    let l = r .before .before in
+    let i = r .before .before .loop .inv in
     record {
-      most = omega (arith, l .loop .inv .0, l .loop .inv .1);
-      before = l .loop .inv .2;
-      first = λ h. sym (r .is-line .ensures) ∙ not-true (r .is-line .result) (c .if1 .taken);
+      most = omega (arith, i .0, i .1);
+      before = i .2;
+      first = λ h. sym (r .is-line .ensures) ∙ not-true _ (c .if1 .taken);
     }
 
 add-j : tie.Need-add-j Inv-loop μ-loop
-add-j c =
-    let w = c .before .before in
-    omega (arith, w .loop-test .taken, w .before .loop .inv .0)
+add-j c = omega (arith, turn c .loop-test .taken, turn c .before .loop .inv .0)
 
 loop-less : tie.Need-loop-less Inv-loop μ-loop
-loop-less c = omega (arith, c .before .before .loop-test .taken)
+loop-less c = omega (arith, turn c .loop-test .taken)
 
 loop-again : tie.Need-loop-again Inv-loop μ-loop
 loop-again c =
-    let r = c .before in
-    let w = r .before in
-    let l = w .before in
-    let bs = l .before .before .before .args .bytes .now in
-    let good : isLine bs (l .loop .j) ≡ true = sym (r .is-line .ensures) ∙ not-false (r .is-line .result) (c .if1 .left) in (
+    let l = turn c .before in
+    let bs = entry l .args .bytes .now in
+    let good : isLine bs (l .loop .j) ≡ true = sym (c .before .is-line .ensures) ∙ not-false _ (c .if1 .left) in (
       l .loop .inv .0,
-      omega (arith, w .loop-test .taken),
+      omega (arith, turn c .loop-test .taken),
       λ i h.
           ⊎-elim (λ e. subst (λ (k : ℕ). isLine bs k ≡ true) (sym e) good) (λ s. l .loop .inv .2 i s) (eq-or-lt-of-le (let q : i ≤ l .loop .j = omega arith in q)),
     )
@@ -60,7 +62,7 @@ loop-again c =
 returns-2 : tie.Need-returns-2 Inv-loop μ-loop
 returns-2 c =
     let l = c .before in
-    let e : l .loop .j ≡ lineCount (l .before .before .before .args .bytes .now) = omega (arith, l .loop .inv .0, l .loop .inv .1, c .loop-test .left) in
+    let e : l .loop .j ≡ lineCount (entry l .args .bytes .now) = omega (arith, l .loop .inv .0, l .loop .inv .1, c .loop-test .left) in
     record { most = omega arith; before = λ i h. l .loop .inv .2 i (omega (arith, e, h)); first = λ h. absurd (omega arith) }
 
 pub good-lines-spec : {M : Type 1} → statement M
