@@ -16,40 +16,37 @@ Inv-loop map position words₀ r₀ words r = (r ≤ 32) × (words ≡ sets (rep
 abbrev μ-loop : tie.MeasureT-loop
 μ-loop map position words₀ r₀ words r = 32 - r
 
+abbrev entry : tie.At-loop Inv-loop μ-loop → tie.Start Inv-loop μ-loop
+entry l = l .before
+
 loop-holds : tie.Need-loop-holds Inv-loop μ-loop
 unfolding nodesOf
 loop-holds c = (omega arith, refl)
 
 get-requires : tie.Need-get-requires Inv-loop μ-loop
-get-requires c κs =
-    omega (arith, c .loop-test .taken)
+get-requires c κs = omega (arith, c .loop-test .taken)
 
 mul-words : tie.Need-mul-words Inv-loop μ-loop
-mul-words c =
-    omega (arith, c .before .loop-test .taken)
+mul-words c = omega (arith, c .before .loop-test .taken)
 
 array-write-words : tie.Need-array-write-words Inv-loop μ-loop
-array-write-words c =
-    omega (arith, c .before .loop-test .taken)
+array-write-words c = omega (arith, c .before .loop-test .taken)
 
 add-r : tie.Need-add-r Inv-loop μ-loop
-add-r c =
-    omega (arith, c .before .loop-test .taken)
+add-r c = omega (arith, c .before .loop-test .taken)
 
 loop-less : tie.Need-loop-less Inv-loop μ-loop
-loop-less c =
-    omega (arith, c .before .loop-test .taken)
+loop-less c = omega (arith, c .before .loop-test .taken)
 
 loop-again : tie.Need-loop-again Inv-loop μ-loop
 loop-again c =
-    let read = c in
-    let turn = read .before in
+    let turn = c .before in
     let so-far = turn .before in
-    let m = so-far .before .args .map in
+    let m = entry so-far .args .map in
     let r = so-far .loop .r in (
       omega (arith, turn .loop-test .taken),
-      ap (λ (l : List ℕ). set l r (read .get .result .0)) (so-far .loop .inv .1)
-          ∙ ap (λ (x : ℕ). set (sets (replicate 34 0) 0 (nodesOf m 0 r)) r x) (read .get .ensures)
+      ap (λ (l : List ℕ). set l r (c .get .result .0)) (so-far .loop .inv .1)
+          ∙ ap (λ (x : ℕ). set (sets (replicate 34 0) 0 (nodesOf m 0 r)) r x) (c .get .ensures)
           ∙ put-node (replicate 34 0) m r,
     )
 
@@ -62,13 +59,12 @@ array-write-words-3 c = omega arith
 returns : tie.Need-returns Inv-loop μ-loop
 unfolding answerWords
 returns c =
-    let so-far = c .before in
-    let m = so-far .before .args .map in
-    let position = so-far .before .args .position in
-    let all : so-far .loop .r ≡ 32 = omega (arith, so-far .loop .inv .0, c .loop-test .left) in
-    ap (λ (l : List ℕ). set (set l 32 (m .count)) 33 position)
-    (so-far .loop .inv .1 ∙ ap (λ (k : ℕ). sets (replicate 34 0) 0 (nodesOf m 0 k)) all)
-    ∙ put-all m position
+    let end = c .before in
+    let a = entry end .args in
+    let all : end .loop .r ≡ 32 = omega (arith, end .loop .inv .0, c .loop-test .left) in
+    ap (λ (l : List ℕ). set (set l 32 (a .map .count)) 33 (a .position))
+    (end .loop .inv .1 ∙ ap (λ (k : ℕ). sets (replicate 34 0) 0 (nodesOf (a .map) 0 k)) all)
+    ∙ put-all (a .map) (a .position)
 
 pub answer-words-spec : {M : Type 1} → statement M
 answer-words-spec =

@@ -17,6 +17,13 @@ Inv-loop position first words₀ i₀ words i = (i ≤ 34) × (words ≡ sets wo
 abbrev μ-loop : tie.MeasureT-loop
 μ-loop position first words₀ i₀ words i = 34 - i
 
+-- the answer's words, asked for before the loop, and the entry
+abbrev asked : tie.At-loop Inv-loop μ-loop → tie.After-answer-words Inv-loop μ-loop
+asked l = l .before
+
+abbrev entry : tie.At-loop Inv-loop μ-loop → tie.Start Inv-loop μ-loop
+entry l = asked l .before
+
 answer-words-requires : tie.Need-answer-words-requires Inv-loop μ-loop
 answer-words-requires c κs = search needs
 
@@ -44,24 +51,22 @@ loop-less c = omega (arith, c .loop-test .taken)
 loop-again : tie.Need-loop-again Inv-loop μ-loop
 loop-again c =
     let so-far = c .before in
-    let asked = so-far .before in
-    let a = asked .before .args in
-    let first = asked .answer-words .result in
+    let a = entry so-far .args in
+    let first = asked so-far .answer-words .result in
     let i = so-far .loop .i in
-    let long : length first ≡ 34 = ap length (asked .answer-words .ensures) ∙ answer-length (a .map) (a .position) in (
+    let long : length first ≡ 34 = ap length (asked so-far .answer-words .ensures) ∙ answer-length (a .map) (a .position) in (
       omega (arith, c .loop-test .taken),
       ap (λ (l : List ℕ). set l i (getD first i 0)) (so-far .loop .inv .1) ∙ put-word (replicate 35 (a .bit .0)) first i (omega (arith, c .loop-test .taken, long)),
     )
 
 returns : tie.Need-returns Inv-loop μ-loop
 returns c =
-    let so-far = c .before in
-    let asked = so-far .before in
-    let a = asked .before .args in
-    let all : so-far .loop .i ≡ 34 = omega (arith, so-far .loop .inv .0, c .loop-test .left) in
-    so-far .loop .inv .1
-    ∙ ap (λ (k : ℕ). sets (replicate 35 (a .bit .0)) 0 (take k (asked .answer-words .result))) all
-    ∙ ap (λ (l : List ℕ). sets (replicate 35 (a .bit .0)) 0 (take 34 l)) (asked .answer-words .ensures)
+    let end = c .before in
+    let a = entry end .args in
+    let all : end .loop .i ≡ 34 = omega (arith, end .loop .inv .0, c .loop-test .left) in
+    end .loop .inv .1
+    ∙ ap (λ (k : ℕ). sets (replicate 35 (a .bit .0)) 0 (take k (asked end .answer-words .result))) all
+    ∙ ap (λ (l : List ℕ). sets (replicate 35 (a .bit .0)) 0 (take 34 l)) (asked end .answer-words .ensures)
     ∙ put-before (a .map) (a .position) (a .bit .0)
 
 pub flagged-words-spec : {M : Type 1} → statement M
