@@ -39,9 +39,19 @@ sources c =
     let k = coded (a .operation) (a .arrangement) (a .i) 0 (legal (formed-at c)) in
     c .sources-ok .ensures (opAt (a .operation)) (arrangementAt (a .arrangement)) (k .0) (c .before .before .form-code .ensures ∙ k .1) (c .before .is-full .ensures)
 
-sourced : (c : tie.Else3) → let a = entry (checked (formed-at (c .before))) .args in
+abbrev form-past : tie.Else3 → tie.Else2
+form-past c = formed-at (c .before)
+
+sourced : (c : tie.Else3) → let a = entry (checked (form-past c)) .args in
     sourcesOk (a .pool .now) (a .count) (opAt (a .operation)) (arrangementAt (a .arrangement)) (a .d .0) (a .n .0) (a .m .0) ≡ true
 sourced c = sym (sources (c .before)) ∙ not-false (c .before .sources-ok .result) (c .if3 .left)
+
+-- the fourth test finds too little room, or enough
+abbrev cramped : tie.Then4 → tie.Else3
+cramped c = c .before .before
+
+abbrev roomy : tie.Else4 → tie.Else3
+roomy c = c .before .before
 
 -- ---- the calls and the answers
 
@@ -51,17 +61,13 @@ pool-check-requires c κs = search needs
 returns : tie.Need-returns
 returns c =
     let p = c .before in
-    let a = p .before .before .args in
-    number-pool (a .pool .now) (a .count) (a .operation) (a .arrangement) (a .i) (a .d .0) (a .n .0) (a .m .0) (sym (p .pool-check .ensures) ∙ not-true (p .pool-check .result) (c .if1 .taken))
+    number-pool _ _ _ _ _ _ _ _ (sym (p .pool-check .ensures) ∙ not-true _ (c .if1 .taken))
 
 form-number-requires : tie.Need-form-number-requires
 form-number-requires c κs = search needs
 
 returns-2 : tie.Need-returns-2
-returns-2 c =
-    let e = c .before .before in
-    let a = entry e .args in
-    number-form (a .pool .now) (a .count) (a .operation) (a .arrangement) (a .i) (a .d .0) (a .n .0) (a .m .0) (good e) (c .before .form-number .ensures) (c .if2 .taken)
+returns-2 c = number-form _ _ _ _ _ _ _ _ (good (c .before .before)) (c .before .form-number .ensures) (c .if2 .taken)
 
 form-code-requires : tie.Need-form-code-requires
 form-code-requires c κs = search needs
@@ -77,33 +83,27 @@ returns-3 : tie.Need-returns-3
 returns-3 c =
     let s = c .before in
     let f = formed-at s in
-    let a = entry (checked f) .args in
-    number-sources (a .pool .now) (a .count) (a .operation) (a .arrangement) (a .i) (a .d .0) (a .n .0) (a .m .0) (good (checked f)) (legal f)
-    (sym (sources s) ∙ not-true (s .sources-ok .result) (c .if3 .taken))
+    number-sources _ _ _ _ _ _ _ _ (good (checked f)) (legal f) (sym (sources s) ∙ not-true _ (c .if3 .taken))
 
 places-requires : tie.Need-places-requires
 places-requires c κs = search needs
 
 sub-if4 : tie.Need-sub-if4
 sub-if4 c =
-    let e = checked (formed-at (c .before .before)) in
+    let e = checked (form-past (c .before)) in
     omega (arith, c .places .ensures, within-places (entry e .args .pool .now) (entry e .args .count) (good e))
 
 returns-4 : tie.Need-returns-4
 returns-4 c =
-    let e = c .before .before in
-    let f = formed-at (e .before) in
-    let a = entry (checked f) .args in
-    number-room (a .pool .now) (a .count) (a .operation) (a .arrangement) (a .i) (a .d .0) (a .n .0) (a .m .0) (good (checked f)) (legal f)
-    (sourced e) (omega (arith, c .before .places .ensures, c .if4 .taken))
+    let e = cramped c in
+    let f = form-past e in
+    number-room _ _ _ _ _ _ _ _ (good (checked f)) (legal f) (sourced e) (omega (arith, c .before .places .ensures, c .if4 .taken))
 
 returns-5 : tie.Need-returns-5
 returns-5 c =
-    let e = c .before .before in
-    let f = formed-at (e .before) in
-    let a = entry (checked f) .args in
-    number-done (a .pool .now) (a .count) (a .operation) (a .arrangement) (a .i) (a .d .0) (a .n .0) (a .m .0) (good (checked f)) (legal f)
-    (sourced e) (omega (arith, c .before .places .ensures, c .if4 .left))
+    let e = roomy c in
+    let f = form-past e in
+    number-done _ _ _ _ _ _ _ _ (good (checked f)) (legal f) (sourced e) (omega (arith, c .before .places .ensures, c .if4 .left))
 
 pub instruction-number-spec : {M : Type 1} → statement M
 instruction-number-spec =
