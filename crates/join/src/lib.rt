@@ -5,6 +5,7 @@ use pool::push;
 use pool::words::Kind;
 use pool::words::kind_of;
 use pool::words::kind_word;
+use pool::words::kind_word_at;
 use pool::words::set_of;
 use pool_check::check_plain;
 use pool_check::of_width;
@@ -104,7 +105,7 @@ fn move_one(second: &[u64], c: usize, m: Node, out: &mut [u64])
     push(
         out,
         m.0 + c - 32,
-        second[4 * m.0],
+        kind_word_at(second, m),
         moved_word(c as u64, second, m),
         low(second, m),
         high(second, m),

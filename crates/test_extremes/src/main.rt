@@ -4,6 +4,7 @@
 // nodes 1 and 2 are a condition and a register; then kind, width and operands of the nodes of even number, and of
 // those of odd number. `tests/extremes` makes the lines and what is to be written.
 use line_columns::field;
+use pool::words::Kind;
 ghost use Prim.Native.Nat.{_<_};
 
 const NODES: usize = 65535;
@@ -33,7 +34,7 @@ fn put_node(pool: &mut [u64; 262140], n: usize, kind: u64, width: u64, word: u64
     pool[at + 1] = word;
     pool[at + 2] = 0;
     pool[at + 3] = 0;
-    if kind == 16 {
+    if kind == Kind::EXTRACT {
         if 0 < width {
             pool[at + 2] = width - 1;
         }
@@ -44,7 +45,7 @@ fn build(pool: &mut [u64; 262140], case: &[u8]) {
     if case.len() < 32 {
         return;
     }
-    put_node(pool, 0, 1, 128, 0);
+    put_node(pool, 0, Kind::VAR, 128, 0);
     let mut n = 1;
     while n < NODES {
         let at = 8 + n % 2 * 12;
@@ -53,8 +54,8 @@ fn build(pool: &mut [u64; 262140], case: &[u8]) {
         n += 1;
     }
     if field(case, 4) == 1 {
-        put_node(pool, 1, 12, 0, 0);
-        put_node(pool, 2, 1, 128, 0);
+        put_node(pool, 1, Kind::EQ, 0, 0);
+        put_node(pool, 2, Kind::VAR, 128, 0);
     }
 }
 

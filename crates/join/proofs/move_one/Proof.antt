@@ -10,14 +10,8 @@ add-push c = search needs
 sub-push : tie.Need-sub-push
 sub-push c = search needs
 
-mul-push : tie.Need-mul-push
-mul-push c = search needs
-
-mul-push-2 : tie.Need-mul-push-2
-mul-push-2 c = search needs
-
-shared-slice-read-push : tie.Need-shared-slice-read-push
-shared-slice-read-push c = search needs
+kind-word-at-requires : tie.Need-kind-word-at-requires
+kind-word-at-requires c κs = search needs
 
 moved-word-requires : tie.Need-moved-word-requires
 moved-word-requires c κs = search needs
@@ -40,7 +34,7 @@ returns c =
     let high = pushed .before in
     let low = high .before in
     let moved = low .before in
-    rw (moved .moved-word .ensures, low .low .ensures, high .high .ensures) at (pushed .push .ensures .words)
+    rw (moved .before .kind-word-at .ensures, moved .moved-word .ensures, low .low .ensures, high .high .ensures) at (pushed .push .ensures .words)
 
 pub move-one-spec : {M : Type 1} → statement M
 move-one-spec =
@@ -48,9 +42,7 @@ move-one-spec =
     (tie.spec
     add-push
     sub-push
-    mul-push
-    mul-push-2
-    shared-slice-read-push
+    kind-word-at-requires
     moved-word-requires
     low-requires
     high-requires
