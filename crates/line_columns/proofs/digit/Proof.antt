@@ -2,7 +2,7 @@
 use native.Mathlib.Omega.{arith}
 use mathlib.Core.Bool.{true, _&&_}
 use mathlib.Core.Path.{_≡_, sym, _∙_}
-use Prim.Native.Nat.{_≤_}
+use Prim.Native.Nat.{ℕ, _≤_}
 use lib.Dec.{leb}
 use borrow.Author.Tests.{leb-true}
 use Rattle.facts.proofs.Tests.{and-both}
@@ -10,12 +10,15 @@ use borrow.Author.Needs.{needs}
 use Rattle.line_columns.proofs.digit.Statement.{statement}
 use Rattle.line_columns.proofs.digit.Tie as tie
 
-digit-is : (c : tie.Then1) → let b = c .before .before .args .b in (leb 48 b && leb b 57) ≡ true
+abbrev byte : tie.Then1 → ℕ
+byte c = c .before .before .args .b
+
+digit-is : (c : tie.Then1) → (leb 48 (byte c) && leb (byte c) 57) ≡ true
 digit-is c = sym (c .before .is-digit .ensures) ∙ c .if1 .taken
 
-in-range : (c : tie.Then1) → (48 ≤ c .before .before .args .b) × (c .before .before .args .b ≤ 57)
+in-range : (c : tie.Then1) → (48 ≤ byte c) × (byte c ≤ 57)
 in-range c =
-    let b = c .before .before .args .b in
+    let b = byte c in
     let t = and-both (leb 48 b) (leb b 57) (digit-is c) in
     (leb-true 48 b (t .0), leb-true b 57 (t .1))
 
