@@ -8,15 +8,18 @@ use borrow.Author.Needs.{needs}
 use Rattle.text_digits.proofs.put_decimal.Statement.{statement}
 use Rattle.text_digits.proofs.put_decimal.Tie as tie
 
+-- the entry, from the one digit
+abbrev entry : tie.After-decimal-digit → tie.Start
+entry c = c .before .before .before
+
 decimal-digit-requires : tie.Need-decimal-digit-requires
 decimal-digit-requires c κs = search needs
 
 slice-write-buf : tie.Need-slice-write-buf
 unfolding decimal
 slice-write-buf c =
-    let o = c .before in
-    let s = o .before .before in
-    omega (arith, ap length (digits-one 10 (s .args .x) (o .if1 .taken)), s .pre)
+    let s = entry c in
+    omega (arith, ap length (digits-one 10 (s .args .x) (c .before .if1 .taken)), s .pre)
 
 add-result : tie.Need-add-result
 add-result c = search needs
@@ -27,9 +30,8 @@ same-length c = search needs
 returns : tie.Need-returns
 unfolding decimal
 returns c =
-    let o = c .before in
-    let a = o .before .before .args in
-    wrote-one 10 (a .buf .now) (a .at) (a .x) _ (o .if1 .taken) (c .decimal-digit .ensures)
+    let a = entry c .args in
+    wrote-one 10 (a .buf .now) (a .at) (a .x) _ (c .before .if1 .taken) (c .decimal-digit .ensures)
 
 put-tens-requires : tie.Need-put-tens-requires
 put-tens-requires c κs = search needs
