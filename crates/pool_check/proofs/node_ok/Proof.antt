@@ -1,23 +1,61 @@
 -- node_ok is okNode with the rule of Vars: each kind has its rules
-use denote.Ref.{now}
+use mathlib.Core.Bool.{Bool, _&&_}
+use mathlib.Core.List.{List}
 use mathlib.Core.Path.{_≡_, refl, sym, _∙_}
+use Prim.Native.Nat.{ℕ}
 use native.Mathlib.Omega.{arith}
 use Rattle.pool.specs.Node.{kindAt, kinds}
+use Rattle.pool.specs.Rules.{okNode}
+use Rattle.pool_rules.specs.Rule.{okAs}
+use Rattle.pool_check.specs.Plain.{plainAt}
 use Rattle.pool_check.proofs.Nodes.{by-number, extension, no-kind, no-var, a-var}
 use borrow.Author.Needs.{needs}
 use Rattle.pool_check.proofs.node_ok.Statement.{statement}
 use Rattle.pool_check.proofs.node_ok.Tie as tie
 
+-- ---- the kind, and the answer for one that is no Var
+
+module _ (c : tie.After-kind-of) where
+  abbrev entry : tie.Start
+  entry = c .before .before
+
+  abbrev ws : List ℕ
+  ws = entry .args .pool .now
+
+  abbrev plain : ℕ
+  plain = entry .args .plain
+
+  abbrev n : ℕ
+  n = entry .args .n .0
+
+  abbrev kind : ℕ
+  kind = c .kind-of .result
+
+  other : {r : Bool} → (kind ≡ 1 → ⊥) → r ≡ okAs (kindAt kind) ws n → r ≡ (okNode ws n && plainAt ws plain n)
+  other f h = no-var ws plain n (c .kind-of .ensures) f (by-number ws n (c .kind-of .ensures) h)
+
+  named : {k : ℕ} {r : Bool} → kind ≡ k → (k ≡ 1 → ⊥) → r ≡ okAs (kindAt k) ws n → r ≡ (okNode ws n && plainAt ws plain n)
+  named e f h = no-var ws plain n (c .kind-of .ensures) (λ q. f (sym e ∙ q)) (by-number ws n (sym e ∙ c .kind-of .ensures) h)
+
 -- ---- the kind, past the tests
 
-abbrev entry : tie.After-kind-of → tie.Start
-entry k = k .before .before
+abbrev past-const : tie.Else1 → tie.After-kind-of
+past-const c = c .before
+
+abbrev past-extract : tie.Else2 → tie.After-kind-of
+past-extract c = past-const (c .before)
 
 abbrev past-ite : tie.Else3 → tie.After-kind-of
-past-ite c = c .before .before .before
+past-ite c = past-extract (c .before)
+
+abbrev extending : tie.Then4 → tie.After-kind-of
+extending c = past-ite (c .before)
+
+abbrev past-extend : tie.Else4 → tie.After-kind-of
+past-extend c = past-ite (c .before)
 
 abbrev past-concat : tie.Else6 → tie.After-kind-of
-past-concat c = past-ite (c .before .before)
+past-concat c = past-extend (c .before)
 
 -- ---- the calls and the answers
 
@@ -29,36 +67,21 @@ const-ok-requires c κs = search needs
 
 returns : tie.Need-returns
 unfolding kindAt kinds
-returns c =
-    let test = c .before in
-    let k = test .before in
-    let a = entry k .args in
-    no-var (now (a .pool)) (a .plain) (a .n .0) (k .kind-of .ensures) (λ e. omega (arith, e, test .if1 .taken))
-    (by-number (now (a .pool)) (a .n .0) (sym (test .if1 .taken) ∙ k .kind-of .ensures) (c .const-ok .ensures))
+returns c = named (c .before .before) (c .before .if1 .taken) (λ e. omega (arith, e)) (c .const-ok .ensures)
 
 extract-ok-requires : tie.Need-extract-ok-requires
 extract-ok-requires c κs = search needs
 
 returns-2 : tie.Need-returns-2
 unfolding kindAt kinds
-returns-2 c =
-    let test = c .before in
-    let k = test .before .before in
-    let a = entry k .args in
-    no-var (now (a .pool)) (a .plain) (a .n .0) (k .kind-of .ensures) (λ e. omega (arith, e, test .if2 .taken))
-    (by-number (now (a .pool)) (a .n .0) (sym (test .if2 .taken) ∙ k .kind-of .ensures) (c .extract-ok .ensures))
+returns-2 c = named (past-const (c .before .before)) (c .before .if2 .taken) (λ e. omega (arith, e)) (c .extract-ok .ensures)
 
 ite-ok-requires : tie.Need-ite-ok-requires
 ite-ok-requires c κs = search needs
 
 returns-3 : tie.Need-returns-3
 unfolding kindAt kinds
-returns-3 c =
-    let test = c .before in
-    let k = test .before .before .before in
-    let a = entry k .args in
-    no-var (now (a .pool)) (a .plain) (a .n .0) (k .kind-of .ensures) (λ e. omega (arith, e, test .if3 .taken))
-    (by-number (now (a .pool)) (a .n .0) (sym (test .if3 .taken) ∙ k .kind-of .ensures) (c .ite-ok .ensures))
+returns-3 c = named (past-extract (c .before .before)) (c .before .if3 .taken) (λ e. omega (arith, e)) (c .ite-ok .ensures)
 
 extend-ok-requires : tie.Need-extend-ok-requires
 extend-ok-requires c κs = search needs
@@ -67,30 +90,19 @@ returns-4 : tie.Need-returns-4
 returns-4 c =
     let below = c .before in
     let above = below .before in
-    let k = past-ite (above .before) in
-    let a = entry k .args in
-    no-var (now (a .pool)) (a .plain) (a .n .0) (k .kind-of .ensures) (λ e. omega (arith, e, above .if4 .taken))
-    (by-number (now (a .pool)) (a .n .0) (k .kind-of .ensures)
-    (c .extend-ok .ensures ∙ extension (now (a .pool)) (a .n .0) (k .kind-of .result) (above .if4 .taken) (below .if5 .taken)))
+    let k = extending above in
+    other k (λ e. omega (arith, e, above .if4 .taken)) (c .extend-ok .ensures ∙ extension (ws k) (n k) (kind k) (above .if4 .taken) (below .if5 .taken))
 
 returns-5 : tie.Need-returns-5
 returns-5 c =
-    let above = c .before in
-    let k = past-ite (above .before) in
-    let a = entry k .args in
-    no-var (now (a .pool)) (a .plain) (a .n .0) (k .kind-of .ensures) (λ e. omega (arith, e, above .if4 .taken))
-    (by-number (now (a .pool)) (a .n .0) (k .kind-of .ensures) (no-kind (now (a .pool)) (a .n .0) (k .kind-of .result) (c .if5 .left)))
+    let k = extending (c .before) in
+    other k (λ e. omega (arith, e, c .if5 .left)) (no-kind (ws k) (n k) (kind k) (c .if5 .left))
 
 pair-ok-requires : tie.Need-pair-ok-requires
 pair-ok-requires c κs = search needs
 
 returns-6 : tie.Need-returns-6
-returns-6 c =
-    let test = c .before in
-    let k = past-ite (test .before .before) in
-    let a = entry k .args in
-    no-var (now (a .pool)) (a .plain) (a .n .0) (k .kind-of .ensures) (λ e. omega (arith, e, test .if6 .taken))
-    (by-number (now (a .pool)) (a .n .0) (sym (test .if6 .taken) ∙ k .kind-of .ensures) (c .pair-ok .ensures))
+returns-6 c = named (past-extend (c .before .before)) (c .before .if6 .taken) (λ e. omega (arith, e)) (c .pair-ok .ensures)
 
 var-ok-requires : tie.Need-var-ok-requires
 var-ok-requires c κs = search needs
@@ -100,28 +112,17 @@ unfolding kindAt kinds
 returns-7 c =
     let test = c .before .before in
     let k = past-concat (test .before .before) in
-    let a = entry k .args in
-    a-var (now (a .pool)) (a .plain) (a .n .0) (k .kind-of .ensures) (test .if8 .taken)
-    (by-number (now (a .pool)) (a .n .0) (sym (test .if8 .taken) ∙ k .kind-of .ensures) (c .var-ok .ensures))
+    a-var (ws k) (plain k) (n k) (k .kind-of .ensures) (test .if8 .taken) (by-number (ws k) (n k) (sym (test .if8 .taken) ∙ k .kind-of .ensures) (c .var-ok .ensures))
 
 returns-8 : tie.Need-returns-8
 unfolding kindAt kinds
-returns-8 c =
-    let k = past-concat (c .before .before) in
-    let a = entry k .args in
-    let none : k .kind-of .result ≡ 0 = omega arith in
-    no-var (now (a .pool)) (a .plain) (a .n .0) (k .kind-of .ensures) (c .if8 .left) (by-number (now (a .pool)) (a .n .0) (sym none ∙ k .kind-of .ensures) refl)
+returns-8 c = named (past-concat (c .before .before)) {k = 0} (omega arith) (λ e. omega (arith, e)) refl
 
 pair-ok-requires-2 : tie.Need-pair-ok-requires-2
 pair-ok-requires-2 c κs = search needs
 
 returns-9 : tie.Need-returns-9
-returns-9 c =
-    let test = c .before in
-    let k = past-concat (test .before) in
-    let a = entry k .args in
-    no-var (now (a .pool)) (a .plain) (a .n .0) (k .kind-of .ensures) (λ e. omega (arith, e, test .if7 .left))
-    (by-number (now (a .pool)) (a .n .0) (k .kind-of .ensures) (c .pair-ok2 .ensures))
+returns-9 c = other (past-concat (c .before .before)) (λ e. omega (arith, e, c .before .if7 .left)) (c .pair-ok2 .ensures)
 
 pub node-ok-spec : {M : Type 1} → statement M
 node-ok-spec =

@@ -17,6 +17,12 @@ Inv-loop pool count plain n₀ n = (n ≤ count) × (okPool pool n ≡ true) × 
 abbrev μ-loop : tie.MeasureT-loop
 μ-loop pool count plain n₀ n = count - n
 
+abbrev entry : tie.At-loop Inv-loop μ-loop → tie.Start Inv-loop μ-loop
+entry c = c .before .before
+
+abbrev turn : tie.After-node-ok Inv-loop μ-loop → tie.At-loop Inv-loop μ-loop
+turn c = c .before .before
+
 loop-holds : tie.Need-loop-holds Inv-loop μ-loop
 loop-holds c =
     let a = c .before .args in
@@ -29,8 +35,8 @@ returns : tie.Need-returns Inv-loop μ-loop
 returns c =
     let k = c .before in
     let t = k .before in
-    let s = t .before in
-    let a = s .before .before .args in
+    let s = turn k in
+    let a = entry s .args in
     rw (ne-eqb (s .loop .n) (a .count) (λ e. omega (arith, e, t .loop-test .taken)))
     (sym (some-refused (a .pool .now) (a .plain) (s .loop .n) (a .count) (t .loop-test .taken) (sym (k .node-ok .ensures) ∙ not-true _ (c .if1 .taken))))
 
@@ -42,17 +48,16 @@ loop-less c = omega arith
 
 loop-again : tie.Need-loop-again Inv-loop μ-loop
 loop-again c =
-    let k = c .before in
-    let s = k .before .before in
-    let a = s .before .before .args in
+    let s = turn (c .before) in
+    let a = entry s .args in
     let n = s .loop .n in
-    let p = and-both (okNode (a .pool .now) n) (plainAt (a .pool .now) (a .plain) n) (sym (k .node-ok .ensures) ∙ not-false _ (c .if1 .left)) in
+    let p = and-both (okNode (a .pool .now) n) (plainAt (a .pool .now) (a .plain) n) (sym (c .before .node-ok .ensures) ∙ not-false _ (c .if1 .left)) in
     (omega arith, one-more (a .pool .now) n (s .loop .inv .1) (p .0), plain-more (a .pool .now) (a .plain) n (s .loop .inv .2) (p .1))
 
 returns-2 : tie.Need-returns-2 Inv-loop μ-loop
 returns-2 c =
     let s = c .before in
-    let a = s .before .before .args in
+    let a = entry s .args in
     let e : s .loop .n ≡ a .count = omega arith in
     rw (eq-eqb (s .loop .n) (a .count) e, ← e, s .loop .inv .1, s .loop .inv .2)
 
