@@ -8,13 +8,16 @@ use borrow.Author.Needs.{needs}
 use Rattle.pool_rules.proofs.extend_ok.Statement.{statement}
 use Rattle.pool_rules.proofs.extend_ok.Tie as tie
 
+abbrev entry : tie.After-operand-word → tie.Start
+entry c = c .before .before
+
 operand-word-requires : tie.Need-operand-word-requires
 operand-word-requires c κs = search needs
 
 returns : tie.Need-returns
 returns c =
     let l-operand-word = c .before in
-    let st = l-operand-word .before .before in
+    let st = entry l-operand-word in
     extend-late (now (st .args .p)) (st .args .n .0) (omega (arith, l-operand-word .operand-word .ensures, c .if1 .taken))
 
 width-of-requires : tie.Need-width-of-requires
@@ -45,7 +48,7 @@ returns-2 c =
     let l-width-of = l-width-of2 .before in
     let l-if1 = l-width-of .before in
     let l-operand-word = l-if1 .before in
-    let st = l-operand-word .before .before in
+    let st = entry l-operand-word in
     let ws = now (st .args .p) in
     let n = st .args .n .0 in
     let own : Own ws n (l-width-of2 .width-of2 .result) (l-low .low .result) (l-high .high .result) (l-set-of .set-of .result) =

@@ -11,6 +11,9 @@ use borrow.Author.Needs.{needs}
 use Rattle.pool_rules.proofs.pair_ok.Statement.{statement}
 use Rattle.pool_rules.proofs.pair_ok.Tie as tie
 
+abbrev entry : tie.After-first → tie.Start
+entry c = c .before .before
+
 is-pair : (st : tie.Start) → IsPair (st .args .kind)
 is-pair st = let h = st .pre .1 in record { from = h .0; below = h .1; no-ite = h .2; no-extract = h .3 }
 
@@ -23,13 +26,13 @@ operand-word-requires c κs = search needs
 returns : tie.Need-returns
 returns c =
     let l-first = c .before .before .before .before in
-    let st = l-first .before .before in
+    let st = entry l-first in
     late-a (now (st .args .p)) (st .args .n .0) (st .args .kind) (is-pair st) (omega (arith, l-first .first .ensures, c .if1 .taken))
 
 returns-2 : tie.Need-returns-2
 returns-2 c =
     let l-operand-word = c .before .before .before .before in
-    let st = l-operand-word .before .before .before in
+    let st = entry (l-operand-word .before) in
     late-rest (now (st .args .p)) (st .args .n .0) (st .args .kind) (is-pair st) (omega (arith, l-operand-word .operand-word .ensures, c .if2 .taken))
 
 width-of-requires : tie.Need-width-of-requires
@@ -74,7 +77,7 @@ returns-3 c =
     let l-if1 = l-if2 .before in
     let l-operand-word = l-if1 .before .before .before in
     let l-first = l-operand-word .before in
-    let st = l-first .before .before in
+    let st = entry l-first in
     let ws = now (st .args .p) in
     let n = st .args .n .0 in
     let own : Own ws n (l-width-of3 .width-of3 .result) (l-low .low .result) (l-high .high .result) (l-set-of .set-of .result) =
@@ -85,7 +88,7 @@ returns-3 c =
     let no-c : opC ws n ≡ 0 = omega (arith, rest, st .pre .0 .1) in
     let at-b : l-operand-word .operand-word .result / 65536 ≡ opB ws n = omega (arith, word, no-c) in
     let lb : l-operand-word .operand-word .result / 65536 < n = omega (arith, l-if2 .if2 .left) in
-    pair-at ws n (rw (l-first .first .ensures) at la) (rw at-b at lb) no-c (st .args .kind) (is-pair st) own
+    pair-at ws n (omega (arith, l-first .first .ensures, la)) (rw at-b at lb) no-c (st .args .kind) (is-pair st) own
     (width-before ws n (l-first .first .ensures) la (l-width-of .width-of .ensures .0)) (width-before ws n at-b lb (l-width-of2 .width-of2 .ensures .0))
     (set-before ws n (l-first .first .ensures) la (l-set-of2 .set-of2 .ensures .0)) (set-before ws n at-b lb (l-set-of3 .set-of3 .ensures .0)) (l-width-over .width-over .ensures)
 

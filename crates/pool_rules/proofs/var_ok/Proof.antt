@@ -7,13 +7,16 @@ use borrow.Author.Needs.{needs}
 use Rattle.pool_rules.proofs.var_ok.Statement.{statement}
 use Rattle.pool_rules.proofs.var_ok.Tie as tie
 
+abbrev entry : tie.After-low → tie.Start
+entry c = c .before .before
+
 low-requires : tie.Need-low-requires
 low-requires c κs = search needs
 
 returns : tie.Need-returns
 returns c =
     let l-low = c .before in
-    let st = l-low .before .before in
+    let st = entry l-low in
     var-late (now (st .args .p)) (st .args .n .0) (omega (arith, l-low .low .ensures, c .if1 .taken))
 
 width-of-requires : tie.Need-width-of-requires
@@ -39,7 +42,7 @@ returns-2 c =
     let l-width-of = l-operand-word .before in
     let l-if1 = l-width-of .before in
     let l-low = l-if1 .before in
-    let st = l-low .before .before in
+    let st = entry l-low in
     let ws = now (st .args .p) in
     let n = st .args .n .0 in
     let own : Own ws n (l-width-of .width-of .result) (l-low .low .result) (l-high .high .result) (l-set-of .set-of .result) =
