@@ -7,6 +7,13 @@ use borrow.Author.Needs.{needs}
 use Rattle.pool_nodes.proofs.ite.Statement.{statement}
 use Rattle.pool_nodes.proofs.ite.Tie as tie
 
+-- the width is read; before it the registers of the else, and before those of the condition and the then
+abbrev else-set : tie.After-width → tie.After-set-of
+else-set c = c .before .before
+
+abbrev two-sets : tie.After-width → tie.After-union
+two-sets c = else-set c .before .before
+
 union-requires : tie.Need-union-requires
 union-requires c κs = search needs
 
@@ -27,10 +34,7 @@ same-length c = search needs
 
 kind-word-requires : tie.Need-kind-word-requires
 kind-word-requires c κs =
-    let l-width = c in
-    let l-set-of = l-width .before .before in
-    let l-union = l-set-of .before .before in
-    (omega arith, omega (arith, l-width .width .ensures .1), or-lt 32 (l-union .union .result) (l-set-of .set-of .result) (l-union .union .ensures .1) (l-set-of .set-of .ensures .1))
+    (omega arith, omega (arith, c .width .ensures .1), or-lt 32 (two-sets c .union .result) (else-set c .set-of .result) (two-sets c .union .ensures .1) (else-set c .set-of .ensures .1))
 
 returns : tie.Need-returns
 returns c =
@@ -38,10 +42,8 @@ returns c =
     let l-operand-word = l-push .before in
     let l-kind-word = l-operand-word .before .before in
     let l-width = l-kind-word .before in
-    let l-set-of = l-width .before .before in
-    let l-union = l-set-of .before .before in
-    let st = l-union .before .before .before in
-    ite-built (st .pre .0) (st .pre .1 .0) (st .pre .1 .1) (l-width .width .ensures .0) (ap₂ bitOr (l-union .union .ensures .0) (l-set-of .set-of .ensures .0))
+    let s = two-sets l-width .before .before .before in
+    ite-built (s .pre .0) (s .pre .1 .0) (s .pre .1 .1) (l-width .width .ensures .0) (ap₂ bitOr (two-sets l-width .union .ensures .0) (else-set l-width .set-of .ensures .0))
     (l-kind-word .kind-word .ensures) (l-operand-word .operand-word .ensures) (l-push .push .ensures)
 
 pub ite-spec : {M : Type 1} → statement M
