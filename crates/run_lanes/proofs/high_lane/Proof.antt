@@ -40,10 +40,9 @@ returns c =
     let at-join = c .before .before in
     let at-unsigned = at-join .before in
     let at-power = at-unsigned .before in
-    let at-if = at-power .before in
-    let at-sum-of = at-if .before in
-    let s = at-sum-of .before in
-    rw (at-if .if1 .taken, c .power2 .ensures) (ap (λ (t : ℕ). t / 2 ^ (s .args .n))
+    let rounding = at-power .before in
+    let at-sum-of = rounding .before in
+    rw (rounding .if1 .taken, c .power2 .ensures) (ap (λ (t : ℕ). t / 2 ^ (at-sum-of .before .args .n))
     (c .before .keep .ensures 67 _ (at-join .join .ensures 66 _ _ (omega arith) (at-sum-of .sum-of .ensures)
     (rw (at-power .power .ensures) at (fitting {u = 66} (omega arith) (at-unsigned .unsigned .ensures))))))
 
@@ -61,10 +60,9 @@ div-result-2 c = rw (c .power3 .ensures) (pow-pos _)
 
 returns-2 : tie.Need-returns-2
 returns-2 c =
-    let at-if = c .before .before in
-    let at-sum-of = at-if .before in
-    let s = at-sum-of .before in
-    rw (at-if .if1 .left, c .power3 .ensures) (ap (λ (t : ℕ). t / 2 ^ (s .args .n)) (c .before .keep2 .ensures 66 _ (at-sum-of .sum-of .ensures)))
+    let exact = c .before .before in
+    let at-sum-of = exact .before in
+    rw (exact .if1 .left, c .power3 .ensures) (ap (λ (t : ℕ). t / 2 ^ (at-sum-of .before .args .n)) (c .before .keep2 .ensures 66 _ (at-sum-of .sum-of .ensures)))
 
 pub high-lane-spec : {M : Type 1} → statement M
 high-lane-spec =

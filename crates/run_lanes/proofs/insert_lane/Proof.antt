@@ -37,7 +37,10 @@ low c = c .before .before .before
 abbrev right : tie.After-keep2 → tie.Else1
 right c = low c .before
 
-right-kept : (c : tie.After-keep2) → let a = right c .before .args in c .keep2 .result ≡ wrap (a .n) (floor (pos (a .a)) (a .shift))
+abbrev entry : tie.After-keep2 → tie.Start
+entry c = right c .before
+
+right-kept : (c : tie.After-keep2) → let a = entry c .args in c .keep2 .result ≡ wrap (a .n) (floor (pos (a .a)) (a .shift))
 right-kept c =
     let amount = right-amount (right c) in
     c .keep2 .ensures _ _ (c .before .right .ensures 65 _ (omega arith) (c .before .before .unsigned2 .ensures))
@@ -91,7 +94,7 @@ keep-requires-2 c κs = search needs
 
 add-result-2 : tie.Need-add-result-2
 add-result-2 c =
-    let s = right c .before in
+    let s = entry c in
     let a = s .args in
     let within : a .n ≤ 64 = s .pre .1 in
     omega (
@@ -104,9 +107,8 @@ add-result-2 c =
 
 returns-2 : tie.Need-returns-2
 returns-2 c =
-    let s = right c .before in
-    let a = s .args in
-    rw (right c .if1 .left) (ap₂ (λ (x y : ℕ). a .d - x + y) (low c .low-bits2 .ensures) (right-kept c) ∙ right-is (a .n) (a .shift) (a .a) (a .d) (s .pre .1) _)
+    let a = entry c .args in
+    rw (right c .if1 .left) (ap₂ (λ (x y : ℕ). a .d - x + y) (low c .low-bits2 .ensures) (right-kept c) ∙ right-is (a .n) (a .shift) (a .a) (a .d) (entry c .pre .1) _)
 
 pub insert-lane-spec : {M : Type 1} → statement M
 insert-lane-spec =

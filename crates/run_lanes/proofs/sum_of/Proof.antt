@@ -15,9 +15,8 @@ join-requires c κs = search needs
 
 returns : tie.Need-returns
 returns c =
-    let at-unsigned = c .before .before in
-    let at-if = at-unsigned .before in
-    rw (at-if .if1 .taken) (c .join .ensures 65 _ _ (omega arith) (at-unsigned .unsigned .ensures) (c .before .unsigned2 .ensures))
+    let less = c .before .before in
+    rw (less .before .if1 .taken) (c .join .ensures 65 _ _ (omega arith) (less .unsigned .ensures) (c .before .unsigned2 .ensures))
 
 unsigned-requires-3 : tie.Need-unsigned-requires-3
 unsigned-requires-3 c κs = search needs
@@ -30,9 +29,8 @@ join-requires-2 c κs = search needs
 
 returns-2 : tie.Need-returns-2
 returns-2 c =
-    let at-unsigned = c .before .before in
-    let at-if = at-unsigned .before in
-    rw (at-if .if1 .left) (c .join2 .ensures 65 _ _ (omega arith) (at-unsigned .unsigned3 .ensures) (c .before .unsigned4 .ensures))
+    let sum = c .before .before in
+    rw (sum .before .if1 .left) (c .join2 .ensures 65 _ _ (omega arith) (sum .unsigned3 .ensures) (c .before .unsigned4 .ensures))
 
 pub sum-of-spec : {M : Type 1} → statement M
 sum-of-spec =

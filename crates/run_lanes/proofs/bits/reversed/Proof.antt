@@ -54,10 +54,9 @@ loop-less c = omega arith
 
 loop-again : tie.Need-loop-again Inv-loop μ-loop
 loop-again c =
-    let b = c .before .bit in
     let l = turn c .loop in
     let a = turn c .before .args in
-    (omega arith, reversed-more (λ i. bitAt (a .n - 1 - i) (a .a)) (l .j) (l .inv .1) (b .ensures .0) (c .power .ensures), grown c .0)
+    (omega arith, reversed-more (λ i. bitAt (a .n - 1 - i) (a .a)) (l .j) (l .inv .1) (c .before .bit .ensures .0) (c .power .ensures), grown c .0)
 
 returns : tie.Need-returns Inv-loop μ-loop
 returns c =

@@ -13,6 +13,16 @@ Inv-loop t k a r₀ j₀ r j = (j ≤ k) × (equalRun t k a ≡ r + equalRun t j
 abbrev μ-loop : tie.MeasureT-loop
 μ-loop t k a r₀ j₀ r j = j
 
+-- ---- places: the entry, and the loop from where a bit is read
+
+abbrev entry : tie.At-loop Inv-loop μ-loop → tie.Start Inv-loop μ-loop
+entry c = c .before
+
+abbrev top : tie.After-bit Inv-loop μ-loop → tie.At-loop Inv-loop μ-loop
+top c = c .before .before
+
+-- ---- needs
+
 loop-holds : tie.Need-loop-holds Inv-loop μ-loop
 loop-holds c = (omega arith, omega arith, omega arith)
 
@@ -24,14 +34,10 @@ bit-requires c κs = omega arith
 
 returns : tie.Need-returns Inv-loop μ-loop
 returns c =
-    let at-loop = c .before .before .before in
-    let s = at-loop .before in
-    omega (
-      arith,
-      at-loop .loop .inv .1,
-      run-stop (s .args .t) (at-loop .loop .j) (s .args .a) (omega arith) (c .before .bit .ensures .0)
-          (c .if1 .taken),
-    )
+    let other = c .before in
+    let l = top other in
+    let a = entry l .args in
+    omega (arith, l .loop .inv .1, run-stop (a .t) (l .loop .j) (a .a) (omega arith) (other .bit .ensures .0) (c .if1 .taken))
 
 add-r : tie.Need-add-r Inv-loop μ-loop
 add-r c = omega arith
@@ -44,25 +50,21 @@ loop-less c = omega arith
 
 loop-again : tie.Need-loop-again Inv-loop μ-loop
 loop-again c =
-    let at-loop = c .before .before .before in
-    let s = at-loop .before in (
+    let same = c .before in
+    let l = top same in
+    let a = entry l .args in (
       omega arith,
-      omega (
-        arith,
-        at-loop .loop .inv .1,
-        run-more (s .args .t) (at-loop .loop .j) (s .args .a) (omega arith)
-            (c .before .bit .ensures .0) (c .if1 .left),
-      ),
+      omega (arith, l .loop .inv .1, run-more (a .t) (l .loop .j) (a .a) (omega arith) (same .bit .ensures .0) (c .if1 .left)),
       omega arith,
     )
 
 returns-2 : tie.Need-returns-2 Inv-loop μ-loop
 returns-2 c =
-    let at-loop = c .before in
-    let s = at-loop .before in
-    let e : at-loop .loop .j ≡ 0 = omega arith in
-    let z : equalRun (s .args .t) (at-loop .loop .j) (s .args .a) ≡ 0 = ap (λ (x : ℕ). equalRun (s .args .t) x (s .args .a)) e ∙ unfold equalRun in
-    refl in omega (arith, at-loop .loop .inv .1)
+    let l = c .before in
+    let a = entry l .args in
+    let e : l .loop .j ≡ 0 = omega arith in
+    let z : equalRun (a .t) (l .loop .j) (a .a) ≡ 0 = ap (λ (x : ℕ). equalRun (a .t) x (a .a)) e ∙ unfold equalRun in
+    refl in omega (arith, l .loop .inv .1)
 
 pub run-of-spec : {M : Type 1} → statement M
 run-of-spec =
