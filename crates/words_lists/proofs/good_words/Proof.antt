@@ -19,6 +19,23 @@ Inv-loop bytes count j₀ j = (count ≡ length bytes / 4) × (j ≤ count) × (
 abbrev μ-loop : tie.MeasureT-loop
 μ-loop bytes count j₀ j = count - j
 
+-- ---- places: the entry, and the turn whose word is tested
+
+abbrev entry : tie.At-loop Inv-loop μ-loop → tie.Start Inv-loop μ-loop
+entry c = c .before .before
+
+abbrev turn : tie.After-is-record Inv-loop μ-loop → tie.In-loop Inv-loop μ-loop
+turn r = r .before .before
+
+abbrev top : tie.After-is-record Inv-loop μ-loop → tie.At-loop Inv-loop μ-loop
+top r = turn r .before
+
+-- the word of a turn is tested
+tested : (r : tie.After-is-record Inv-loop μ-loop) → let l = top r in isRecord (decode (wordAt (entry l .args .bytes .now) (l .loop .j))) ≡ r .is-record .result
+tested r = ap (λ (x : ℕ). isRecord (decode x)) (sym (r .before .word-at .ensures)) ∙ sym (r .is-record .ensures)
+
+-- ---- needs
+
 loop-holds : tie.Need-loop-holds Inv-loop μ-loop
 loop-holds c =
     (refl, omega arith, λ i h. absurd (omega arith))
@@ -34,33 +51,29 @@ is-record-requires c κs =
 returns : tie.Need-returns Inv-loop μ-loop
 returns c =
     let r = c .before in
-    let w = r .before in
-    let l = w .before .before in
+    let l = top r in
     record {
       most = omega (arith, l .loop .inv .0, l .loop .inv .1);
       before = l .loop .inv .2;
-      first = λ h. ap (λ (x : ℕ). isRecord (decode x)) (sym (w .word-at .ensures)) ∙ sym (r .is-record .ensures) ∙ not-true (r .is-record .result) (c .if1 .taken);
+      first = λ h. tested r ∙ not-true (r .is-record .result) (c .if1 .taken);
     }
 
 add-j : tie.Need-add-j Inv-loop μ-loop
 add-j c =
-    let w = c .before .before in
-    omega (arith, w .before .loop-test .taken, w .before .before .loop .inv .0)
+    let t = turn (c .before) in
+    omega (arith, t .loop-test .taken, t .before .loop .inv .0)
 
 loop-less : tie.Need-loop-less Inv-loop μ-loop
 loop-less c =
-    omega (arith, c .before .before .before .loop-test .taken)
+    omega (arith, turn (c .before) .loop-test .taken)
 
 loop-again : tie.Need-loop-again Inv-loop μ-loop
 loop-again c =
-    let r = c .before in
-    let w = r .before in
-    let l = w .before .before in
-    let bs = l .before .before .args .bytes .now in
-    let same = ap (λ (x : ℕ). isRecord (decode x)) (sym (w .word-at .ensures)) in
-    let good : isRecord (decode (wordAt bs (l .loop .j))) ≡ true = same ∙ sym (r .is-record .ensures) ∙ not-false (r .is-record .result) (c .if1 .left) in (
+    let l = top (c .before) in
+    let bs = entry l .args .bytes .now in
+    let good = tested (c .before) ∙ not-false (c .before .is-record .result) (c .if1 .left) in (
       l .loop .inv .0,
-      omega (arith, w .before .loop-test .taken),
+      omega (arith, turn (c .before) .loop-test .taken),
       λ i h.
           ⊎-elim (λ e. subst (λ (k : ℕ). isRecord (decode (wordAt bs k)) ≡ true) (sym e) good) (λ s. l .loop .inv .2 i s) (eq-or-lt-of-le (let q : i ≤ l .loop .j = omega arith in q)),
     )
@@ -68,7 +81,7 @@ loop-again c =
 returns-2 : tie.Need-returns-2 Inv-loop μ-loop
 returns-2 c =
     let l = c .before in
-    let e : l .loop .j ≡ length (l .before .before .args .bytes .now) / 4 = omega (arith, l .loop .inv .0, l .loop .inv .1, c .loop-test .left) in
+    let e : l .loop .j ≡ length (entry l .args .bytes .now) / 4 = omega (arith, l .loop .inv .0, l .loop .inv .1, c .loop-test .left) in
     record { most = omega arith; before = λ i h. l .loop .inv .2 i (omega (arith, e, h)); first = λ h. absurd (omega arith) }
 
 pub good-words-spec : {M : Type 1} → statement M

@@ -1,7 +1,7 @@
 -- `words_lists::put_records` meets its contract: after each turn the records of the words so far are written.
 use mathlib.Core.List.{List}
 use mathlib.Core.Path.{_≡_, refl, sym, ap, _∙_, subst}
-use Prim.Native.Nat.{ℕ, _-_, _/_, _≤_}
+use Prim.Native.Nat.{ℕ, _-_, _/_, _≤_, _<_}
 use native.Mathlib.Omega.{arith}
 use lib.ListN.{length}
 use Rattle.text_digits.specs.Writing.{Wrote}
@@ -26,42 +26,45 @@ abbrev μ-loop : tie.MeasureT-loop
 abbrev entry : tie.At-loop Inv-loop μ-loop → tie.Start Inv-loop μ-loop
 entry c = c .before .before .before
 
+abbrev turn : tie.After-slice-known2 Inv-loop μ-loop → tie.In-loop Inv-loop μ-loop
+turn c = c .before .before .before .before .before
+
+in-words : (t : tie.In-loop Inv-loop μ-loop) → t .before .loop .j < length (entry (t .before) .args .bytes .now) / 4
+in-words t = omega (arith, t .before .loop .inv .1, t .loop-test .taken)
+
 loop-holds : tie.Need-loop-holds Inv-loop μ-loop
 loop-holds c =
     let a = c .before .before .args in (wrote-first (rows (a .bytes .now)) (a .records .now) 0, refl, omega arith, refl)
 
 word-at-requires : tie.Need-word-at-requires Inv-loop μ-loop
-word-at-requires c κs =
-    omega (arith, c .before .loop .inv .1, c .loop-test .taken)
+word-at-requires c κs = omega (arith, in-words c)
 
 put-record-requires : tie.Need-put-record-requires Inv-loop μ-loop
 unfolding recordsIn
 put-record-requires c κs =
     let w = c .before in
-    let t = w .before in
-    let l = t .before in
-    let st = entry l in
-    let bs = st .args .bytes .now in
+    let l = w .before .before in
+    let s = entry l in
+    let bs = s .args .bytes .now in
     room-as (ap (λ (x : ℕ). flat (decode x)) (sym (w .word-at .ensures)))
-    (room-next (rows bs) (length bs / 4) (l .loop .j) (omega (arith, l .loop .inv .1, t .loop-test .taken)) (st .pre) (l .loop .inv .0))
+    (room-next (rows bs) (length bs / 4) (l .loop .j) (in-words (w .before)) (s .pre) (l .loop .inv .0))
 
 add-j : tie.Need-add-j Inv-loop μ-loop
 add-j c =
-    omega (arith, c .before .before .before .before .before .loop-test .taken, c .before .before .before .before .before .before .loop .inv .1)
+    omega (arith, turn c .loop-test .taken, turn c .before .loop .inv .1)
 
 loop-less : tie.Need-loop-less Inv-loop μ-loop
 loop-less c =
-    omega (arith, c .before .before .before .before .before .loop-test .taken)
+    omega (arith, turn c .loop-test .taken)
 
 loop-again : tie.Need-loop-again Inv-loop μ-loop
 loop-again c =
     let p = c .before .before in
     let w = p .before .before in
-    let t = w .before in
-    let l = t .before in
+    let l = turn c .before in
     let bs = entry l .args .bytes .now in
     let u = wrote-as (ap (λ (x : ℕ). flat (decode x)) (sym (w .word-at .ensures))) (p .put-record .ensures) in
-    (wrote-next (rows bs) (l .loop .j) (l .loop .inv .0) u, l .loop .inv .1, omega (arith, t .loop-test .taken), wrote-length (p .put-record .ensures) ∙ l .loop .inv .3)
+    (wrote-next (rows bs) (l .loop .j) (l .loop .inv .0) u, l .loop .inv .1, omega (arith, turn c .loop-test .taken), wrote-length (p .put-record .ensures) ∙ l .loop .inv .3)
 
 same-length : tie.Need-same-length Inv-loop μ-loop
 same-length c =
@@ -71,7 +74,7 @@ returns : tie.Need-returns Inv-loop μ-loop
 unfolding recordsIn
 returns c =
     let l = c .before .loop in
-    let a = c .before .before .before .before .args in
+    let a = entry (c .before) .args in
     let e : l .j ≡ length (a .bytes .now) / 4 = omega (arith, l .inv .1, l .inv .2, c .loop-test .left) in
     subst (λ (j : ℕ). Wrote (a .records .now) 0 (upTo j (rows (a .bytes .now))) (l .end) (l .records)) e (l .inv .0)
 

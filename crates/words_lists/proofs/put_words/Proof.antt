@@ -1,7 +1,7 @@
 -- `words_lists::put_words` meets its contract: after each turn the words of the records so far are written.
 use mathlib.Core.List.{List}
 use mathlib.Core.Path.{_≡_, refl, sym, ap, _∙_, subst}
-use Prim.Native.Nat.{ℕ, _-_, _/_, _≤_}
+use Prim.Native.Nat.{ℕ, _-_, _/_, _≤_, _<_}
 use native.Mathlib.Omega.{arith}
 use lib.ListN.{length}
 use Rattle.neon.specs.declared.Instruction.{Instruction}
@@ -29,49 +29,50 @@ abbrev μ-loop : tie.MeasureT-loop
 abbrev entry : tie.At-loop Inv-loop μ-loop → tie.Start Inv-loop μ-loop
 entry c = c .before .before .before
 
+abbrev turn : tie.After-slice-known2 Inv-loop μ-loop → tie.In-loop Inv-loop μ-loop
+turn c = c .before .before .before .before .before .before
+
+in-records : (t : tie.In-loop Inv-loop μ-loop) → t .before .loop .j < length (entry (t .before) .args .records .now) / 6
+in-records t = omega (arith, t .before .loop .inv .1, t .loop-test .taken)
+
 loop-holds : tie.Need-loop-holds Inv-loop μ-loop
 loop-holds c =
     let a = c .before .before .args in (wrote-first (rows (a .records .now)) (a .bytes .now) 0, refl, omega arith, refl)
 
 record-at-requires : tie.Need-record-at-requires Inv-loop μ-loop
-record-at-requires c κs =
-    omega (arith, c .before .loop .inv .1, c .loop-test .taken)
+record-at-requires c κs = omega (arith, in-records c)
 
 encode-word-requires : tie.Need-encode-word-requires Inv-loop μ-loop
 encode-word-requires c κs =
     let t = c .before in
-    let l = t .before in
-    let st = entry l in
-    subst (λ (x : Instruction). Legal x) (sym (c .record-at .ensures)) (st .pre .0 (l .loop .j) (omega (arith, l .loop .inv .1, t .loop-test .taken)))
+    subst (λ (x : Instruction). Legal x) (sym (c .record-at .ensures)) (entry (t .before) .pre .0 (t .before .loop .j) (in-records t))
 
 put-word-requires : tie.Need-put-word-requires Inv-loop μ-loop
 unfolding wordsIn
 put-word-requires c κs =
-    let w = c .before in
-    let t = w .before .before in
+    let t = c .before .before .before in
     let l = t .before in
-    let st = entry l in
-    let fs = st .args .records .now in
-    room-next (rows fs) (length fs / 6) (l .loop .j) (omega (arith, l .loop .inv .1, t .loop-test .taken)) (st .pre .1) (l .loop .inv .0) .room
+    let s = entry l in
+    let fs = s .args .records .now in
+    room-next (rows fs) (length fs / 6) (l .loop .j) (in-records t) (s .pre .1) (l .loop .inv .0) .room
 
 add-j : tie.Need-add-j Inv-loop μ-loop
 add-j c =
-    omega (arith, c .before .before .before .before .before .before .loop-test .taken, c .before .before .before .before .before .before .before .loop .inv .1)
+    omega (arith, turn c .loop-test .taken, turn c .before .loop .inv .1)
 
 loop-less : tie.Need-loop-less Inv-loop μ-loop
 loop-less c =
-    omega (arith, c .before .before .before .before .before .before .loop-test .taken)
+    omega (arith, turn c .loop-test .taken)
 
 loop-again : tie.Need-loop-again Inv-loop μ-loop
 loop-again c =
     let p = c .before .before in
     let w = p .before .before in
     let r = w .before in
-    let t = r .before in
-    let l = t .before in
+    let l = r .before .before in
     let fs = entry l .args .records .now in
     let u = wrote-as (ap wordBytes (sym (w .encode-word .ensures ∙ ap encode (r .record-at .ensures)))) (p .put-word .ensures) in
-    (wrote-next (rows fs) (l .loop .j) (l .loop .inv .0) u, l .loop .inv .1, omega (arith, t .loop-test .taken), wrote-length (p .put-word .ensures) ∙ l .loop .inv .3)
+    (wrote-next (rows fs) (l .loop .j) (l .loop .inv .0) u, l .loop .inv .1, omega (arith, turn c .loop-test .taken), wrote-length (p .put-word .ensures) ∙ l .loop .inv .3)
 
 same-length : tie.Need-same-length Inv-loop μ-loop
 same-length c =
@@ -81,7 +82,7 @@ returns : tie.Need-returns Inv-loop μ-loop
 unfolding wordsIn
 returns c =
     let l = c .before .loop in
-    let a = c .before .before .before .before .args in
+    let a = entry (c .before) .args in
     let e : l .j ≡ length (a .records .now) / 6 = omega (arith, l .inv .1, l .inv .2, c .loop-test .left) in
     subst (λ (j : ℕ). Wrote (a .bytes .now) 0 (upTo j (rows (a .records .now))) (l .end) (l .bytes)) e (l .inv .0)
 

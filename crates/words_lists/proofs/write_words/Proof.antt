@@ -1,6 +1,9 @@
 -- `words_lists::write_words` meets its contract: a bad record, too few bytes, or all words.
+use mathlib.Core.Path.{_≡_}
 use native.Mathlib.Omega.{arith}
 use lib.ListN.{length}
+use Rattle.neon.specs.Refusal.{recordsRefusal}
+use Rattle.block_check.specs.Records.{recordsOf}
 use Rattle.words_lists.proofs.Answers.{words-length, all-good, short-bytes, all-fit, record-refused, bytes-refused, words-written}
 use borrow.Author.Needs.{needs}
 use Rattle.words_lists.proofs.write_words.Statement.{statement}
@@ -8,6 +11,13 @@ use Rattle.words_lists.proofs.write_words.Tie as tie
 
 abbrev entry : tie.After-records-refusal → tie.Start
 entry c = c .before .before .before
+
+-- where no record is refused
+abbrev start : tie.Else1 → tie.Start
+start e = entry (e .before)
+
+none : (e : tie.Else1) → recordsRefusal 0 (recordsOf (start e .args .records .now)) .number ≡ 0
+none e = omega (arith, e .before .records-refusal .ensures .0, e .if1 .left)
 
 records-refusal-requires : tie.Need-records-refusal-requires
 records-refusal-requires c κs = search needs
@@ -24,17 +34,14 @@ mul-if2 c = search needs
 returns-2 : tie.Need-returns-2
 returns-2 c =
     let e = c .before in
-    let r = e .before in
-    let a = entry r .args in
-    bytes-refused (a .records .now) (a .bytes .now) (short-bytes (a .records .now) (length (a .bytes .now)) (omega (arith, r .records-refusal .ensures .0, e .if1 .left)) (c .if2 .taken))
+    let a = start e .args in
+    bytes-refused (a .records .now) (a .bytes .now) (short-bytes (a .records .now) (length (a .bytes .now)) (none e) (c .if2 .taken))
 
 put-words-requires : tie.Need-put-words-requires
 put-words-requires c κs =
     let t = c .before in
-    let e = t .before in
-    let r = e .before in
-    let a = entry r .args in
-    (all-good (a .records .now) (omega (arith, r .records-refusal .ensures .0, e .if1 .left)), record { room = omega (arith, words-length (a .records .now), t .if2 .left) })
+    let a = start (t .before) .args in
+    (all-good (a .records .now) (none (t .before)), record { room = omega (arith, words-length (a .records .now), t .if2 .left) })
 
 same-length : tie.Need-same-length
 same-length c = search needs
@@ -44,10 +51,9 @@ returns-3 c =
     let w = c .before .before in
     let t = w .before .before in
     let e = t .before in
-    let r = e .before in
-    let a = entry r .args in
+    let a = start e .args in
     words-written (a .records .now)
-    (all-fit (a .records .now) (length (a .bytes .now)) (omega (arith, r .records-refusal .ensures .0, e .if1 .left)) (t .if2 .left))
+    (all-fit (a .records .now) (length (a .bytes .now)) (none e) (t .if2 .left))
     (omega (arith, words-length (a .records .now), t .if2 .left)) (w .put-words .ensures)
 
 pub write-words-spec : {M : Type 1} → statement M
