@@ -5,6 +5,10 @@ use borrow.Author.Needs.{needs}
 use Rattle.run_exact.proofs.clamp.Statement.{statement}
 use Rattle.run_exact.proofs.clamp.Tie as tie
 
+-- the integer against the low end, from where it is held against the high one
+abbrev lower : tie.After-bv-slt2 → tie.After-bv-slt
+lower c = c .before .before
+
 bv-slt-requires : tie.Need-bv-slt-requires
 bv-slt-requires c κs = search needs
 
@@ -13,9 +17,8 @@ keep-requires c κs = search needs
 
 returns : tie.Need-returns
 returns c =
-    let at-bv-slt = c .before .before in
-    let s = at-bv-slt .before in
-    λ l h z p q u. clamp-low (s .args .n) l h z (sym (less-is (at-bv-slt .bv-slt .ensures) u p) ∙ c .before .if1 .taken) (c .keep .ensures 192 l p)
+    let low = c .before .before in
+    λ l h z p q u. clamp-low (low .before .args .n) l h z (sym (less-is (low .bv-slt .ensures) u p) ∙ c .before .if1 .taken) (c .keep .ensures 192 l p)
 
 bv-slt-requires-2 : tie.Need-bv-slt-requires-2
 bv-slt-requires-2 c κs = search needs
@@ -25,24 +28,22 @@ keep-requires-2 c κs = search needs
 
 returns-2 : tie.Need-returns-2
 returns-2 c =
-    let at-bv-slt = c .before .before in
-    let at-if = at-bv-slt .before in
-    let at-bv-slt2 = at-if .before in
-    let s = at-bv-slt2 .before in
-    λ l h z p q u. clamp-high (s .args .n) l h z (sym (less-is (at-bv-slt2 .bv-slt .ensures) u p) ∙ at-if .if1 .left)
-    (sym (less-is (at-bv-slt .bv-slt2 .ensures) q u) ∙ c .before .if2 .taken) (c .keep2 .ensures 192 h q)
+    let above = c .before in
+    let high = above .before in
+    let low = lower high in
+    λ l h z p q u. clamp-high (low .before .args .n) l h z (sym (less-is (low .bv-slt .ensures) u p) ∙ high .before .if1 .left)
+    (sym (less-is (high .bv-slt2 .ensures) q u) ∙ above .if2 .taken) (c .keep2 .ensures 192 h q)
 
 keep-requires-3 : tie.Need-keep-requires-3
 keep-requires-3 c κs = search needs
 
 returns-3 : tie.Need-returns-3
 returns-3 c =
-    let at-bv-slt = c .before .before in
-    let at-if = at-bv-slt .before in
-    let at-bv-slt2 = at-if .before in
-    let s = at-bv-slt2 .before in
-    λ l h z p q u. clamp-none (s .args .n) l h z (sym (less-is (at-bv-slt2 .bv-slt .ensures) u p) ∙ at-if .if1 .left)
-    (sym (less-is (at-bv-slt .bv-slt2 .ensures) q u) ∙ c .before .if2 .left) (c .keep3 .ensures 192 z u)
+    let within = c .before in
+    let high = within .before in
+    let low = lower high in
+    λ l h z p q u. clamp-none (low .before .args .n) l h z (sym (less-is (low .bv-slt .ensures) u p) ∙ high .before .if1 .left)
+    (sym (less-is (high .bv-slt2 .ensures) q u) ∙ within .if2 .left) (c .keep3 .ensures 192 z u)
 
 pub clamp-spec : {M : Type 1} → statement M
 clamp-spec =

@@ -13,9 +13,9 @@ sub-requires c κs = search needs
 
 returns : tie.Need-returns
 returns c =
-    let at-is-sub = c .before .before in
-    let s = at-is-sub .before in
-    λ w x y hw p q. joined-less (s .args .op) (sym (at-is-sub .is-sub .ensures) ∙ c .before .if1 .taken) x y
+    let less = c .before in
+    let at-is-sub = less .before in
+    λ w x y hw p q. joined-less (at-is-sub .before .args .op) (sym (at-is-sub .is-sub .ensures) ∙ less .if1 .taken) x y
     (less-held (c .sub .ensures) w x y hw p q)
 
 add-requires : tie.Need-add-requires
@@ -23,9 +23,9 @@ add-requires c κs = search needs
 
 returns-2 : tie.Need-returns-2
 returns-2 c =
-    let at-is-sub = c .before .before in
-    let s = at-is-sub .before in
-    λ w x y hw p q. joined-sum (s .args .op) (sym (at-is-sub .is-sub .ensures) ∙ c .before .if1 .left) x y (sum-held (c .add .ensures) w x y hw p q)
+    let sum = c .before in
+    let at-is-sub = sum .before in
+    λ w x y hw p q. joined-sum (at-is-sub .before .args .op) (sym (at-is-sub .is-sub .ensures) ∙ sum .if1 .left) x y (sum-held (c .add .ensures) w x y hw p q)
 
 pub join-spec : {M : Type 1} → statement M
 join-spec = tie.close (tie.spec is-sub-requires sub-requires returns add-requires returns-2)
