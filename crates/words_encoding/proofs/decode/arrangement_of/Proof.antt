@@ -21,9 +21,9 @@ at-most-6-requires c κs = search needs
 
 returns : tie.Need-returns
 returns c =
-    let st = c .before .before .before in
-    let a = st .args in
-    (c .at-most-6 .ensures .0 ∙ arrangement-long (form (opAt (a .operation)) .lanes) (a .q) (a .size) (sym (c .before .before .is-long .ensures) ∙ c .before .if1 .taken), c .at-most-6 .ensures .1)
+    let long = c .before in
+    let a = long .before .before .args in
+    (c .at-most-6 .ensures .0 ∙ arrangement-long (form (opAt (a .operation)) .lanes) (a .q) (a .size) (sym (long .before .is-long .ensures) ∙ long .if1 .taken), c .at-most-6 .ensures .1)
 
 mul-at-most-6-2 : tie.Need-mul-at-most-6-2
 mul-at-most-6-2 c = search needs
@@ -36,9 +36,9 @@ at-most-6-requires-2 c κs = search needs
 
 returns-2 : tie.Need-returns-2
 returns-2 c =
-    let st = c .before .before .before in
-    let a = st .args in
-    (c .at-most-62 .ensures .0 ∙ arrangement-other (form (opAt (a .operation)) .lanes) (a .q) (a .size) (sym (c .before .before .is-long .ensures) ∙ c .before .if1 .left), c .at-most-62 .ensures .1)
+    let other = c .before in
+    let a = other .before .before .args in
+    (c .at-most-62 .ensures .0 ∙ arrangement-other (form (opAt (a .operation)) .lanes) (a .q) (a .size) (sym (other .before .is-long .ensures) ∙ other .if1 .left), c .at-most-62 .ensures .1)
 
 pub arrangement-of-spec : {M : Type 1} → statement M
 arrangement-of-spec =

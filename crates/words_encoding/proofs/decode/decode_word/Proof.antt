@@ -48,7 +48,7 @@ arranged : (c : tie.After-arrangement-of) → let p = operation-at-done c in Arr
 arranged c =
     let z = c .before in
     let e = z .before .before in
-    let p = e .before in
+    let p = operation-at-done c in
     let o = opAt (p .operation-at .result) in
     record {
       some = operation-some e;

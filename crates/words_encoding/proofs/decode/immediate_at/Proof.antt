@@ -27,18 +27,21 @@ returns c =
 
 returns-2 : tie.Need-returns-2
 returns-2 c =
-    let a = c .before .before .args in
-    λ o v h e. at-left (form o .immediate) (a .bits) (a .w) (c .minus-or-zero .result) (c .minus-or-zero .ensures) (sym (parts (a .code) o v h e .row) ∙ c .before .match .keys2)
+    let left = c .before in
+    let a = left .before .args in
+    λ o v h e. at-left (form o .immediate) (a .bits) (a .w) (c .minus-or-zero .result) (c .minus-or-zero .ensures) (sym (parts (a .code) o v h e .row) ∙ left .match .keys2)
 
 returns-3 : tie.Need-returns-3
 returns-3 c =
-    let a = c .before .before .args in
-    λ o v h e. at-right (form o .immediate) (a .bits) (a .w) (c .minus-or-zero2 .result) (c .minus-or-zero2 .ensures) (sym (parts (a .code) o v h e .row) ∙ c .before .match .keys3)
+    let right = c .before in
+    let a = right .before .args in
+    λ o v h e. at-right (form o .immediate) (a .bits) (a .w) (c .minus-or-zero2 .result) (c .minus-or-zero2 .ensures) (sym (parts (a .code) o v h e .row) ∙ right .match .keys3)
 
 returns-4 : tie.Need-returns-4
 returns-4 c =
-    let a = c .before .before .args in
-    let t = c .before .match .rest in
+    let element = c .before in
+    let a = element .before .args in
+    let t = element .match .rest in
     λ o v h e.
     let r = parts (a .code) o v h e .row in
     at-element (form o .immediate) (a .bits) (a .w) (c .element-at .result) (c .element-at .ensures) (omega (arith, r, t)) (omega (arith, r, t)) (omega (arith, r, t))

@@ -39,37 +39,29 @@ add-result-4 : tie.Need-add-result-4
 add-result-4 c = search needs
 
 returns : tie.Need-returns
-returns c =
-    let st = c .before in
-    let a = st .args in
-    (λ o v h e. row-none (form o .immediate) (a .bits) (a .size) (a .i) (a .m) (sym (parts (a .code) o v h e .row) ∙ c .match .keys1), omega (arith, st .pre))
+returns c = (λ o v h e. row-none (form o .immediate) _ _ _ _ (sym (parts _ o v h e .row) ∙ c .match .keys1), omega (arith, c .before .pre))
 
 returns-2 : tie.Need-returns-2
-returns-2 c =
-    let st = c .before in
-    let a = st .args in
-    (λ o v h e. row-left (form o .immediate) (a .bits) (a .size) (a .i) (a .m) (sym (parts (a .code) o v h e .row) ∙ c .match .keys2), omega (arith, st .pre))
+returns-2 c = (λ o v h e. row-left (form o .immediate) _ _ _ _ (sym (parts _ o v h e .row) ∙ c .match .keys2), omega (arith, c .before .pre))
 
 returns-3 : tie.Need-returns-3
 returns-3 c =
-    let st = c .before .before in
-    let a = st .args in
+    let right = c .before in
     let t = c .to-right in (
-      λ o v h e.
-          row-right (form o .immediate) (a .bits) (a .size) (a .i) (a .m) (t .result) (t .ensures .0) (sym (parts (a .code) o v h e .row) ∙ c .before .match .keys3),
-      omega (arith, st .pre, t .ensures .1),
+      λ o v h e. row-right (form o .immediate) _ _ _ _ (t .result) (t .ensures .0) (sym (parts _ o v h e .row) ∙ right .match .keys3),
+      omega (arith, right .before .pre, t .ensures .1),
     )
 
 returns-4 : tie.Need-returns-4
 returns-4 c =
-    let st = c .before .before in
-    let a = st .args in
+    let element = c .before in
+    let a = element .before .args in
     let t = c .element-part in
-    let z = c .before .match .rest in (
+    let z = element .match .rest in (
       λ o v h e.
           let r = parts (a .code) o v h e .row in
           row-element (form o .immediate) (a .bits) (a .size) (a .i) (a .m) (t .result) (t .ensures .0) (omega (arith, r, z)) (omega (arith, r, z)) (omega (arith, r, z)),
-      omega (arith, st .pre, t .ensures .1),
+      omega (arith, element .before .pre, t .ensures .1),
     )
 
 pub place-spec : {M : Type 1} → statement M
