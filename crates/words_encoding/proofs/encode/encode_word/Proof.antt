@@ -26,6 +26,10 @@ asked s = let a = s .args in instruction (a .operation) (a .arrangement) (a .i) 
 legal : (s : tie.Start) → Accepted (asked s)
 legal s = accepted (asked s) (s .pre)
 
+-- the entry, from where all parts of the word are known
+abbrev entry : tie.After-view-part → tie.Start
+entry c = c .before .before .before .before .before .before
+
 form-code-requires : tie.Need-form-code-requires
 form-code-requires c κs = search needs
 
@@ -60,30 +64,28 @@ add-result-2 : tie.Need-add-result-2
 add-result-2 c = search needs
 
 mul-result : tie.Need-mul-result
-mul-result c =
-    omega (arith, legal (c .before .before .before .before .before .before) .at-n)
+mul-result c = omega (arith, legal (entry c) .at-n)
 
 add-result-3 : tie.Need-add-result-3
 add-result-3 c =
-    omega (arith, legal (c .before .before .before .before .before .before) .at-n, c .before .fixed .ensures .1, c .view-part .ensures .1, c .before .before .place .ensures .1)
+    omega (arith, legal (entry c) .at-n, c .before .fixed .ensures .1, c .view-part .ensures .1, c .before .before .place .ensures .1)
 
 add-result-4 : tie.Need-add-result-4
 add-result-4 c =
-    let l = legal (c .before .before .before .before .before .before) in omega (arith, l .at-n, l .at-d, c .before .fixed .ensures .1, c .view-part .ensures .1, c .before .before .place .ensures .1)
+    let l = legal (entry c) in omega (arith, l .at-n, l .at-d, c .before .fixed .ensures .1, c .view-part .ensures .1, c .before .before .place .ensures .1)
 
 returns : tie.Need-returns
 returns c =
     let p = c .before .before in
-    let st = p .before .before .before .before in
-    let r = asked st in
+    let r = asked (entry c) in
     let o = opAt (r .operation) in
     let v = arrangementAt (r .arrangement) in
-    let k = coded (r .operation) (r .arrangement) (r .i) 0 (form-legal r (st .pre)) in
+    let k = coded (r .operation) (r .arrangement) (r .i) 0 (form-legal r (entry c .pre)) in
     let q = p .place .ensures .0 o v (k .0) (p .before .before .before .form-code .ensures ∙ k .1) in
     sum-as (r .n) (r .d) (c .before .fixed .ensures .0) (c .view-part .ensures .0)
     (q ∙ ap (λ (b : ℕ). placePart (form o .immediate) b (p .before .size-part .result) (r .i) (r .m)) (p .before .before .lane-bits .ensures)
     ∙ ap (λ (s : ℕ). placePart (form o .immediate) (laneBits v) s (r .i) (r .m)) (p .before .size-part .ensures .0))
-    ∙ sym (encode-sum r (st .pre))
+    ∙ sym (encode-sum r (entry c .pre))
 
 pub encode-word-spec : {M : Type 1} → statement M
 encode-word-spec =
