@@ -27,9 +27,9 @@ entry l = l .before .before
 -- the next digit has a place
 inside : (c : tie.In-loop Inv-loop μ-loop) → let l = c .before .loop in let b = entry (c .before) .args .buf .now in (l .i < length b) × (length (l .buf) ≡ length b)
 inside c =
-    let l = c .before .loop in
-    let s = entry (c .before) in
-    (omega (arith, l .inv .1, c .loop-test .taken, s .pre .1 .room, binary-length (s .args .width) (wide (s .args .low) (s .args .high))), l .inv .3)
+    let turn = c .before in
+    let s = entry turn in
+    (omega (arith, turn .loop .inv .1, c .loop-test .taken, s .pre .1 .room, binary-length (s .args .width) (wide (s .args .low) (s .args .high))), turn .loop .inv .3)
 
 loop-holds : tie.Need-loop-holds Inv-loop μ-loop
 loop-holds c =
@@ -57,8 +57,9 @@ loop-less c =
 loop-again : tie.Need-loop-again Inv-loop μ-loop
 loop-again c =
     let t = c .before .loop-test .taken in
-    let l = c .before .before .loop in
-    let a = entry (c .before .before) .args in (
+    let turn = c .before .before in
+    let l = turn .loop in
+    let a = entry turn .args in (
       next-bit (l .buf) (l .i) (l .k) (wide (a .low) (a .high)) (c .bit .result) t (c .bit .ensures) ∙ l .inv .0,
       omega (arith, l .inv .1, t),
       omega (arith, l .inv .2, t),
@@ -72,8 +73,9 @@ same-length c =
 returns : tie.Need-returns Inv-loop μ-loop
 unfolding binary
 returns c =
-    let l = c .before .loop in
-    let a = entry (c .before) .args in
+    let done = c .before in
+    let l = done .loop in
+    let a = entry done .args in
     let z : l .k ≡ 0 = omega (arith, c .loop-test .left) in
     record {
       next-is = omega (arith, l .inv .1, z, binary-length (a .width) (wide (a .low) (a .high)));

@@ -50,8 +50,8 @@ width-of-requires c κs = search needs
 
 put-constant-requires : tie.Need-put-constant-requires
 put-constant-requires c κs =
-    let w = c .before in
-    (omega (arith, w .width-of .ensures .0, is-2 w .0), room-as (text-2 w) (entry-2 w .pre .1))
+    let read = c .before in
+    (omega (arith, read .width-of .ensures .0, is-2 read .0), room-as (text-2 read) (entry-2 read .pre .1))
 
 same-length : tie.Need-same-length
 same-length c = search needs
@@ -83,16 +83,16 @@ third-requires c κs = search needs
 
 put-three-requires : tie.Need-put-three-requires
 put-three-requires c κs =
-    let t = c .before in
-    let s = entry-15 t in
+    let three = c .before in
+    let s = entry-15 three in
     let r = s .pre .0 .0 in
-    let h = three-of (pool s) (node s) r (s .args .k) (s .pre .0 .1) (t .before .before .before .if2 .taken) in (
+    let h = three-of (pool s) (node s) r (s .args .k) (s .pre .0 .1) (three .before .before .before .if2 .taken) in (
       (
-        omega (arith, t .before .before .first .ensures, h .0, r .inside),
-        omega (arith, t .before .second .ensures, h .1, r .inside),
-        omega (arith, t .third .ensures, h .2, r .inside),
+        omega (arith, three .before .before .first .ensures, h .0, r .inside),
+        omega (arith, three .before .second .ensures, h .1, r .inside),
+        omega (arith, three .third .ensures, h .2, r .inside),
       ),
-      room-as (text-15 t) (s .pre .1),
+      room-as (text-15 three) (s .pre .1),
     )
 
 same-length-2 : tie.Need-same-length-2
@@ -124,11 +124,11 @@ first-requires-2 c κs = search needs
 
 put-cut-requires : tie.Need-put-cut-requires
 put-cut-requires c κs =
-    let t = c .before in
-    let s = entry-16 t in
+    let cut = c .before in
+    let s = entry-16 cut in
     let r = s .pre .0 .0 in
-    let h = cut-of (pool s) (node s) r (s .args .k) (s .pre .0 .1) (t .before .before .before .if3 .taken) in
-    (omega (arith, t .first2 .ensures, h .0, r .inside), room-as (text-16 t) (s .pre .1))
+    let h = cut-of (pool s) (node s) r (s .args .k) (s .pre .0 .1) (cut .before .before .before .if3 .taken) in
+    (omega (arith, cut .first2 .ensures, h .0, r .inside), room-as (text-16 cut) (s .pre .1))
 
 same-length-3 : tie.Need-same-length-3
 same-length-3 c = search needs
@@ -168,16 +168,16 @@ second-requires-2 c κs = search needs
 
 put-two-requires : tie.Need-put-two-requires
 put-two-requires c κs =
-    let t = c .before in
-    let s = two-entry t in
+    let two = c .before in
+    let s = two-entry two in
     let r = s .pre .0 .0 in (
       (
-        two-from t,
+        two-from two,
         kind-below (pool s) (node s) r (s .args .k) (s .pre .0 .1),
-        omega (arith, t .before .first3 .ensures, two-is t .less-a, r .inside),
-        omega (arith, t .second2 .ensures, two-is t .less-b, r .inside),
+        omega (arith, two .before .first3 .ensures, two-is two .less-a, r .inside),
+        omega (arith, two .second2 .ensures, two-is two .less-b, r .inside),
       ),
-      room-as (two-text t) (s .pre .1),
+      room-as (two-text two) (s .pre .1),
     )
 
 same-length-4 : tie.Need-same-length-4
@@ -194,16 +194,23 @@ entry-18 c = c .before .before .before .before .before .before
 extends : (c : tie.Else4) → let s = entry-18 c in Extends (pool s) (node s) (s .pre .0 .0) (s .args .k) (s .pre .0 .1) (kindAt (s .args .k))
 extends c = let s = entry-18 c in extension-of (pool s) (node s) (s .pre .0 .0) (s .args .k) (s .pre .0 .1) (c .if4 .left)
 
--- the operand, both widths and the operand again are read
-text-18 : (c : tie.After-first5) → let w = c .before in let o = w .before .before in let s = entry-18 (o .before) in
-    due s ≡ show (apply1 (index1 (functionOf (kindAt (s .args .k))) (o .width-of2 .result - w .width-of3 .result)) (nameOf (pool s) (c .first5 .result .0)))
+-- the width is read, then the operand's, then the operand again
+abbrev own : tie.After-width-of3 → tie.After-width-of2
+own c = c .before .before
+
+abbrev entry-19 : tie.After-width-of3 → tie.Start
+entry-19 c = entry-18 (own c .before)
+
+narrow : (c : tie.After-width-of3) → let s = entry-19 c in c .width-of3 .result ≡ widthAt (pool s) (opA (pool s) (node s))
+narrow c = c .width-of3 .ensures .0 ∙ ap (widthAt (pool (entry-19 c))) (c .before .first4 .ensures)
+
+text-18 : (c : tie.After-first5) → let w = c .before in let s = entry-19 w in
+    due s ≡ show (apply1 (index1 (functionOf (kindAt (s .args .k))) (own w .width-of2 .result - w .width-of3 .result)) (nameOf (pool s) (c .first5 .result .0)))
 text-18 c =
     let w = c .before in
-    let o = w .before .before in
-    let s = entry-18 (o .before) in
-    let m = w .width-of3 .ensures .0 ∙ ap (widthAt (pool s)) (w .before .first4 .ensures) in
-    ap show (extension-term (pool s) (node s) (s .pre .0 .0) (s .args .k) (s .pre .0 .1) (o .before .if4 .left)
-    ∙ (λ j. apply1 (index1 (functionOf (kindAt (s .args .k))) (sym (o .width-of2 .ensures .0) j - sym m j)) (nameOf (pool s) (sym (c .first5 .ensures) j))))
+    let s = entry-19 w in
+    ap show (extension-term (pool s) (node s) (s .pre .0 .0) (s .args .k) (s .pre .0 .1) (own w .before .if4 .left)
+    ∙ (λ j. apply1 (index1 (functionOf (kindAt (s .args .k))) (sym (own w .width-of2 .ensures .0) j - sym (narrow w) j)) (nameOf (pool s) (sym (c .first5 .ensures) j))))
 
 width-of-requires-2 : tie.Need-width-of-requires-2
 width-of-requires-2 c κs = search needs
@@ -217,22 +224,19 @@ width-of-requires-3 c κs =
     omega (arith, c .first4 .ensures, extends e .less-a, entry-18 e .pre .0 .0 .inside)
 
 sub-by : tie.Need-sub-by
-sub-by c =
-    let o = c .before .before in
-    let m = c .width-of3 .ensures .0 ∙ ap (widthAt (pool (entry-18 (o .before)))) (c .before .first4 .ensures) in
-    omega (arith, m, o .width-of2 .ensures .0, extends (o .before) .longer)
+sub-by c = omega (arith, narrow c, own c .width-of2 .ensures .0, extends (own c .before) .longer)
 
 first-requires-5 : tie.Need-first-requires-5
 first-requires-5 c κs = search needs
 
 put-extension-requires : tie.Need-put-extension-requires
 put-extension-requires c κs =
-    let t = c .before in
-    let e = t .before .before .before .before in
+    let again = c .before in
+    let e = own (again .before) .before in
     let s = entry-18 e in
     let r = s .pre .0 .0 in (
-      (omega (arith, e .if4 .left), kind-below (pool s) (node s) r (s .args .k) (s .pre .0 .1), omega (arith, t .first5 .ensures, extends e .less-a, r .inside)),
-      room-as (text-18 t) (s .pre .1),
+      (omega (arith, e .if4 .left), kind-below (pool s) (node s) r (s .args .k) (s .pre .0 .1), omega (arith, again .first5 .ensures, extends e .less-a, r .inside)),
+      room-as (text-18 again) (s .pre .1),
     )
 
 same-length-5 : tie.Need-same-length-5
