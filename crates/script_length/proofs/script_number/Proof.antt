@@ -64,9 +64,9 @@ returns-3 c =
 
 returns-4 : tie.Need-returns-4
 returns-4 c =
-    let n = c .before in
-    let a = start (to-first n) .args in
-    sym (good-nodes (a .pool .now) (a .count) (a .a .0) (a .b .0) 0 (valid (to-first n .before)) (first (n .before)) (sym (n .of-width2 .ensures) ∙ not-false _ (c .if3 .left)))
+    let both = c .before in
+    let a = start (to-first both) .args in
+    sym (good-nodes (a .pool .now) (a .count) (a .a .0) (a .b .0) 0 (valid (to-first both .before)) (first (both .before)) (sym (both .of-width2 .ensures) ∙ not-false _ (c .if3 .left)))
 
 pub script-number-spec : {M : Type 1} → statement M
 script-number-spec =

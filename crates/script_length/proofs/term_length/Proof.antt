@@ -97,11 +97,11 @@ three-length-requires c κs =
 
 returns-2 : tie.Need-returns-2
 returns-2 c =
-    let d = c .before in
-    let s = three-entry d in
-    let t = three-of (ws s) (n s) (s .pre .0 .ready) (k s) (s .pre .1) (three d .if2 .taken) in (
-      c .three-length .ensures .0 ∙ (λ j. length (show (apply3 (bytes "ite") (nameOf (ws s) (d .before .before .first .ensures j)) (nameOf (ws s) (d .before .second .ensures j))
-          (nameOf (ws s) (d .third .ensures j))))) ∙ sym (ap (λ (u : Sexp). length (show u)) (t .3)),
+    let all-three = c .before in
+    let s = three-entry all-three in
+    let t = three-of (ws s) (n s) (s .pre .0 .ready) (k s) (s .pre .1) (three all-three .if2 .taken) in (
+      c .three-length .ensures .0 ∙ (λ j. length (show (apply3 (bytes "ite") (nameOf (ws s) (all-three .before .before .first .ensures j)) (nameOf (ws s) (all-three .before .second .ensures j))
+          (nameOf (ws s) (all-three .third .ensures j))))) ∙ sym (ap (λ (u : Sexp). length (show u)) (t .3)),
       c .three-length .ensures .1,
     )
 
@@ -127,11 +127,11 @@ cut-length-requires c κs =
 
 returns-3 : tie.Need-returns-3
 returns-3 c =
-    let d = c .before in
-    let s = cut-entry d in
-    let t = cut-of (ws s) (n s) (s .pre .0 .ready) (k s) (s .pre .1) (cut d .if3 .taken) in (
-      c .cut-length .ensures .0 ∙ (λ j. length (show (apply1 (index2 (bytes "extract") (d .before .before .cut-hi .ensures j) (d .before .cut-lo .ensures j)) (nameOf (ws s)
-          (d .first2 .ensures j))))) ∙ sym (ap (λ (u : Sexp). length (show u)) (t .1)),
+    let bits = c .before in
+    let s = cut-entry bits in
+    let t = cut-of (ws s) (n s) (s .pre .0 .ready) (k s) (s .pre .1) (cut bits .if3 .taken) in (
+      c .cut-length .ensures .0 ∙ (λ j. length (show (apply1 (index2 (bytes "extract") (bits .before .before .cut-hi .ensures j) (bits .before .cut-lo .ensures j)) (nameOf (ws s)
+          (bits .first2 .ensures j))))) ∙ sym (ap (λ (u : Sexp). length (show u)) (t .1)),
       c .cut-length .ensures .1,
     )
 
@@ -151,12 +151,12 @@ two-length-requires c κs =
 
 returns-4 : tie.Need-returns-4
 returns-4 c =
-    let d = c .before in
-    let s = two-entry d in
-    let l = from-three d in
-    let t = two-of (ws s) (n s) (s .pre .0 .ready) (k s) (s .pre .1) l (two d .if4 .taken) (two d .before .before .if2 .left) (two d .before .if3 .left) in (
-      c .two-length .ensures .0 ∙ (λ j. length (show (apply2 (functionOf (kindAt (k s))) (nameOf (ws s) (d .before .first3 .ensures j)) (nameOf (ws s)
-          (d .second2 .ensures j))))) ∙ sym (ap (λ (u : Sexp). length (show u)) (t .term-is)),
+    let both = c .before in
+    let s = two-entry both in
+    let l = from-three both in
+    let t = two-of (ws s) (n s) (s .pre .0 .ready) (k s) (s .pre .1) l (two both .if4 .taken) (two both .before .before .if2 .left) (two both .before .if3 .left) in (
+      c .two-length .ensures .0 ∙ (λ j. length (show (apply2 (functionOf (kindAt (k s))) (nameOf (ws s) (both .before .first3 .ensures j)) (nameOf (ws s)
+          (both .second2 .ensures j))))) ∙ sym (ap (λ (u : Sexp). length (show u)) (t .term-is)),
       c .two-length .ensures .1,
     )
 
@@ -195,12 +195,12 @@ extension-length-requires c κs =
 
 returns-5 : tie.Need-returns-5
 returns-5 c =
-    let d = c .before in
-    let f = d .before .before in
+    let operand = c .before in
+    let f = operand .before .before in
     let s = extension-entry f in
-    let e = d .before .width-of3 .ensures .0 ∙ ap (widthAt (ws s)) (f .first4 .ensures) in
+    let e = operand .before .width-of3 .ensures .0 ∙ ap (widthAt (ws s)) (f .first4 .ensures) in
     let g = widened f .width-of2 .ensures .0 in (
-      c .extension-length .ensures .0 ∙ (λ j. length (show (apply1 (index1 (functionOf (kindAt (k s))) (g j - e j)) (nameOf (ws s) (d .first5 .ensures j))))) ∙ sym (ap
+      c .extension-length .ensures .0 ∙ (λ j. length (show (apply1 (index1 (functionOf (kindAt (k s))) (g j - e j)) (nameOf (ws s) (operand .first5 .ensures j))))) ∙ sym (ap
           (λ (u : Sexp). length (show u)) (extension-term (ws s) (n s) (s .pre .0 .ready) (k s) (s .pre .1) (extension f .if4 .left))),
       c .extension-length .ensures .1,
     )
