@@ -6,6 +6,16 @@ use borrow.Author.Needs.{needs}
 use Rattle.lower_high_narrow.proofs.high_narrow_lane.Statement.{statement}
 use Rattle.lower_high_narrow.proofs.high_narrow_lane.Tie as tie
 
+-- ---- places: the entry, and the half that rounds, from the sum
+
+abbrev entry : tie.After-power → tie.Start
+entry h = h .before .before .before
+
+abbrev half : tie.After-bv → tie.After-power
+half b = b .before .before
+
+-- ---- needs
+
 mul-source-bits : tie.Need-mul-source-bits
 mul-source-bits c = search needs
 
@@ -23,15 +33,14 @@ bv-requires c κs = search needs
 
 plus-if-requires : tie.Need-plus-if-requires
 plus-if-requires c κs =
-    let l-bv = c .before .before .before in
-    let l-power = l-bv .before .before in
-    let st = l-power .before .before .before in (
-      omega (arith, st .pre, l-bv .bv .ensures .sized),
+    let sum = c .before .before .before in
+    let s = entry (half sum) in (
+      omega (arith, s .pre, sum .bv .ensures .sized),
       (
-        omega (arith, st .pre, l-bv .bv .ensures .sized),
-        omega (arith, st .pre),
-        omega (arith, st .pre),
-        rw (l-power .power .ensures) (half-fits (st .args .lane-bits) _ (st .pre .1 .2) (omega arith)),
+        omega (arith, s .pre, sum .bv .ensures .sized),
+        omega (arith, s .pre),
+        omega (arith, s .pre),
+        rw (half sum .power .ensures) (half-fits (s .args .lane-bits) _ (s .pre .1 .2) (omega arith)),
       ),
     )
 
@@ -46,14 +55,13 @@ same-length c = search needs
 
 returns : tie.Need-returns
 returns c =
-    let l-extract = c .before .before in
-    let l-plus-if = l-extract .before .before .before .before in
-    let l-bv = l-plus-if .before .before .before .before in
-    let l-power = l-bv .before .before in
-    let l-sum-op = l-power .before in
-    let st = l-sum-op .before .before in
-    high-lane (st .args .subtract) (st .args .rounding) (st .pre .1 .2) (st .pre .1 .3) (l-sum-op .sum-op .ensures) (l-power .power .ensures) (l-bv .bv .ensures)
-    (l-plus-if .plus-if .ensures) (l-extract .extract .ensures)
+    let upper = c .before .before in
+    let rounded = upper .before .before .before .before in
+    let sum = rounded .before .before .before .before in
+    let h = half sum in
+    let s = entry h in
+    high-lane (s .args .subtract) (s .args .rounding) (s .pre .1 .2) (s .pre .1 .3) (h .before .sum-op .ensures) (h .power .ensures) (sum .bv .ensures)
+    (rounded .plus-if .ensures) (upper .extract .ensures)
 
 pub high-narrow-lane-spec : {M : Type 1} → statement M
 high-narrow-lane-spec =
