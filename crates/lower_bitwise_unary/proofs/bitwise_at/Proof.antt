@@ -7,6 +7,9 @@ use borrow.Author.Needs.{needs}
 use Rattle.lower_bitwise_unary.proofs.bitwise_at.Statement.{statement}
 use Rattle.lower_bitwise_unary.proofs.bitwise_at.Tie as tie
 
+abbrev entry : tie.After-cut-from → tie.Start
+entry f = f .before .before .before .before
+
 -- the lane lies in the source
 lane-in : (s : tie.Start) → s .args .lane-bits * s .args .index .0 + s .args .lane-bits ≤ 128
 lane-in s = lane-fits (s .args .lane-bits) (s .args .index .0) (s .args .lanes) (s .pre .1 .1 .2) (s .pre .1 .1 .3)
@@ -29,7 +32,7 @@ add-t12-2 c = search needs
 bitwise-unary-lane-requires : tie.Need-bitwise-unary-lane-requires
 bitwise-unary-lane-requires c κs =
     let f = c .before .before in
-    let s = f .before .before .before .before in
+    let s = entry f in
     (s .pre .0, (omega (arith, s .pre .1, f .cut-from .ensures .below), s .pre .1 .1 .0, s .pre .1 .1 .1, omega (arith, s .pre .1, f .cut-from .ensures .small)))
 
 same-length : tie.Need-same-length
@@ -39,7 +42,7 @@ returns : tie.Need-returns
 returns c =
     let l = c .before .before in
     let f = l .before .before .before in
-    let s = f .before .before .before .before in
+    let s = entry f in
     bitwise-at (s .args .kind) (s .pre .1 .1 .0) (s .pre .1 .1 .2) (f .cut-from .ensures) (l .bitwise-unary-lane .ensures)
 
 pub bitwise-at-spec : {M : Type 1} → statement M
