@@ -1,7 +1,7 @@
 -- insert_lanes builds the lanes of `shiftInsertLanes` over the amount's node: its loop keeps the lanes so far
 use native.Mathlib.Omega.{arith}
 use native.Mathlib.Nat.{lt-of-lt-of-le}
-use Prim.Native.Nat.{_*_, _-_, _≤_}
+use Prim.Native.Nat.{ℕ, _*_, _-_, _≤_, _<_}
 use mathlib.Core.List.{[], _∷_}
 use Rattle.lower.specs.Builds.{read}
 use Rattle.lower.proofs.Lanes.{LanesTo, LanesKept, lanes-first, lanes-more, lanes-all, room-first, room-lane, room-concat}
@@ -30,6 +30,10 @@ so-far c =
     let lane0 = c .before .before .before in
     c .loop .inv .2 _ (lanes-first _ {m = 7} (lane0 .before .first .ensures) (omega arith) (lane0 .insert-at .ensures))
 
+-- a node of the entry is still one in a turn
+still : (t : tie.In-loop Inv-loop μ-loop) {n : ℕ} → n < entry (t .before) .args .count → n < t .before .loop .acc .count
+still t l = lt-of-lt-of-le l (so-far (t .before) .sized .more)
+
 first-requires : tie.Need-first-requires Inv-loop μ-loop
 first-requires c κs = tt
 
@@ -46,10 +50,9 @@ insert-at-requires-2 : tie.Need-insert-at-requires-2 Inv-loop μ-loop
 insert-at-requires-2 c κs =
     let t = c .before in
     let p = entry (t .before) .pre in
-    let w = p .1 .1 in
-    let s = so-far (t .before) .sized in (
-      room-lane (p .0) (omega arith) (t .loop-test .taken) s,
-      ((lt-of-lt-of-le (p .1 .0 .0) (s .more), lt-of-lt-of-le (p .1 .0 .1) (s .more), lt-of-lt-of-le (p .1 .0 .2) (s .more), p .1 .0 .3), (w .0, w .1, t .loop-test .taken, w .3)),
+    let w = p .1 .1 in (
+      room-lane (p .0) (omega arith) (t .loop-test .taken) (so-far (t .before) .sized),
+      ((still t (p .1 .0 .0), still t (p .1 .0 .1), still t (p .1 .0 .2), p .1 .0 .3), (w .0, w .1, t .loop-test .taken, w .3)),
     )
 
 concat-lanes-requires : tie.Need-concat-lanes-requires Inv-loop μ-loop

@@ -4,14 +4,17 @@ use borrow.Author.Needs.{needs}
 use Rattle.lower_shift_insert.proofs.kept_bits.Statement.{statement}
 use Rattle.lower_shift_insert.proofs.kept_bits.Tie as tie
 
+-- a right shift's entry
+abbrev entry : tie.After-low-bits2 → tie.Start
+entry c = c .before .before .before
+
 low-bits-requires : tie.Need-low-bits-requires
 low-bits-requires c κs = search needs
 
 returns : tie.Need-returns
 returns c =
-    let l-if1 = c .before in
-    let st = l-if1 .before in
-    kept-left (st .args .lane-bits) (st .args .shift) (l-if1 .if1 .taken) (c .low-bits .ensures)
+    let a = c .before .before .args in
+    kept-left (a .lane-bits) (a .shift) (c .before .if1 .taken) (c .low-bits .ensures)
 
 unsigned-max-requires : tie.Need-unsigned-max-requires
 unsigned-max-requires c κs = search needs
@@ -24,16 +27,13 @@ low-bits-requires-2 c κs = search needs
 
 sub-result : tie.Need-sub-result
 sub-result c =
-    let l-unsigned-max = c .before in
-    let st = l-unsigned-max .before .before in
-    low-le (st .args .lane-bits) (st .args .shift) (l-unsigned-max .unsigned-max .ensures) (c .low-bits2 .ensures)
+    let a = entry c .args in
+    low-le (a .lane-bits) (a .shift) (c .before .unsigned-max .ensures) (c .low-bits2 .ensures)
 
 returns-2 : tie.Need-returns-2
 returns-2 c =
-    let l-unsigned-max = c .before in
-    let l-if1 = l-unsigned-max .before in
-    let st = l-if1 .before in
-    kept-right (st .args .lane-bits) (st .args .shift) (l-if1 .if1 .left) (l-unsigned-max .unsigned-max .ensures) (c .low-bits2 .ensures)
+    let a = entry c .args in
+    kept-right (a .lane-bits) (a .shift) (c .before .before .if1 .left) (c .before .unsigned-max .ensures) (c .low-bits2 .ensures)
 
 pub kept-bits-spec : {M : Type 1} → statement M
 kept-bits-spec =
