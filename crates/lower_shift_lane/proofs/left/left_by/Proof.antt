@@ -12,10 +12,9 @@ same-length c = search needs
 
 returns : tie.Need-returns
 returns c =
-    let l-saturating-shift-left = c .before .before in
-    let l-if1 = l-saturating-shift-left .before .before in
-    let st = l-if1 .before .before in
-    by-saturating (st .args .signed) (l-if1 .if1 .taken) (l-saturating-shift-left .saturating-shift-left .ensures)
+    let l = c .before .before in
+    let clamps = l .before .before in
+    by-saturating (clamps .before .before .args .signed) (clamps .if1 .taken) (l .saturating-shift-left .ensures)
 
 bv-requires : tie.Need-bv-requires
 bv-requires c κs = search needs
@@ -25,10 +24,10 @@ same-length-2 c = search needs
 
 returns-2 : tie.Need-returns-2
 returns-2 c =
-    let l-bv = c .before .before in
-    let l-if1 = l-bv .before .before in
-    let st = l-if1 .before .before in
-    by-wrapping (st .args .signed) (l-if1 .if1 .left) (st .pre .1 .2) (st .pre .1 .3) (l-bv .bv .ensures)
+    let shift = c .before .before in
+    let wraps = shift .before .before in
+    let s = wraps .before .before in
+    by-wrapping (s .args .signed) (wraps .if1 .left) (s .pre .1 .2) (s .pre .1 .3) (shift .bv .ensures)
 
 pub left-by-spec : {M : Type 1} → statement M
 left-by-spec =

@@ -13,10 +13,10 @@ same-length c = search needs
 
 returns : tie.Need-returns
 returns c =
-    let l-shift-right-rounding = c .before .before in
-    let l-if1 = l-shift-right-rounding .before .before in
-    let st = l-if1 .before .before in
-    right-rounding (st .args .signed) (st .args .max-shift) (l-if1 .if1 .taken) (l-shift-right-rounding .shift-right-rounding .ensures)
+    let l = c .before .before in
+    let rounds = l .before .before in
+    let a = rounds .before .before .args in
+    right-rounding (a .signed) (a .max-shift) (rounds .if1 .taken) (l .shift-right-rounding .ensures)
 
 shift-op-requires : tie.Need-shift-op-requires
 shift-op-requires c κs = search needs
@@ -29,11 +29,11 @@ same-length-2 c = search needs
 
 returns-2 : tie.Need-returns-2
 returns-2 c =
-    let l-bv = c .before .before in
-    let l-shift-op = l-bv .before .before in
-    let l-if1 = l-shift-op .before in
-    let st = l-if1 .before .before in
-    right-plain (st .args .signed) (st .args .rounding) (st .args .max-shift) (st .pre .1 .2) (st .pre .1 .3) (l-if1 .if1 .left) (l-shift-op .shift-op .ensures) (l-bv .bv .ensures)
+    let shift = c .before .before in
+    let op = shift .before .before in
+    let plain = op .before in
+    let s = plain .before .before in
+    right-plain (s .args .signed) (s .args .rounding) (s .args .max-shift) (s .pre .1 .2) (s .pre .1 .3) (plain .if1 .left) (op .shift-op .ensures) (shift .bv .ensures)
 
 pub shift-right-spec : {M : Type 1} → statement M
 shift-right-spec =
