@@ -1,9 +1,10 @@
 -- reverse_bits builds the reversed lane: its loop keeps the bits so far, from the top down
 use native.Mathlib.Omega.{arith}
 use native.Mathlib.Nat.{lt-of-lt-of-le, le-refl}
-use Prim.Native.Nat.{ℕ, _+_, _-_, _≤_}
+use Prim.Native.Nat.{ℕ, _+_, _*_, _-_, _≤_}
 use mathlib.Core.Path.{refl}
 use mathlib.Core.List.{[], _∷_}
+use Rattle.pool_nodes.specs.Builders.{Takes}
 use Rattle.lower.specs.Builds.{read, unread}
 use Rattle.lower.proofs.Lanes.{LanesTo, LanesKept, lanes-first, lanes-more, room-lane, room-concat}
 use Rattle.lower_bitwise_unary_lane.specs.Layers.{reversedFrom}
@@ -31,6 +32,10 @@ so-far c wa h =
     let bit0 = c .before .before .before in
     c .loop .inv .2 wa h _ (lanes-first _ {m = 2} refl (omega arith) (reversed-bit wa (s .args .base .0) (s .args .lane-bits) 0 (s .pre .1 .1) h (omega arith) (bit0 .extract .ensures)))
 
+-- the nodes that they take
+sized : (c : tie.At-loop Inv-loop μ-loop) → let a = entry c .args in Takes (a .pool .now) (a .count) (c .loop .pool) (c .loop .acc) (2 * c .loop .i)
+sized c = so-far c _ (le-refl _) .sized
+
 sub-top : tie.Need-sub-top Inv-loop μ-loop
 sub-top c = c .before .pre .1 .1
 
@@ -53,16 +58,16 @@ extract-requires-2 : tie.Need-extract-requires-2 Inv-loop μ-loop
 extract-requires-2 c κs =
     let t = c .before .before in
     let p = entry (t .before) .pre in
-    let s = so-far (t .before) _ (le-refl _) .sized in
+    let s = sized (t .before) in
     (room-lane (p .0) (omega arith) (t .loop-test .taken) s, (lt-of-lt-of-le (p .1 .0) (s .more), omega arith, omega (arith, p .1)))
 
 concat-lanes-requires : tie.Need-concat-lanes-requires Inv-loop μ-loop
 concat-lanes-requires c κs =
     let l = c .before .before .before in
     let t = l .before .before .before in
-    let s = so-far (t .before) _ (le-refl _) .sized in
+    let b = t .before in
     let n = l .extract2 .ensures .sized in
-    (room-concat (entry (t .before) .pre .0) (omega arith) (t .loop-test .taken) s n, (n .under, lt-of-lt-of-le (s .under) (n .more)))
+    (room-concat (entry b .pre .0) (omega arith) (t .loop-test .taken) (sized b) n, (n .under, lt-of-lt-of-le (sized b .under) (n .more)))
 
 abbrev turn : tie.After-slice-known4 Inv-loop μ-loop → tie.In-loop Inv-loop μ-loop
 turn c = c .before .before .before .before .before .before .before .before .before
@@ -88,7 +93,7 @@ loop-again c =
     )
 
 same-length : tie.Need-same-length Inv-loop μ-loop
-same-length c = so-far (c .before) _ (le-refl _) .sized .long
+same-length c = sized (c .before) .long
 
 returns : tie.Need-returns Inv-loop μ-loop
 returns c = reversed-all (entry (c .before) .pre .1 .1) (omega (arith, c .before .loop .inv .1, c .loop-test .left)) (so-far (c .before))
