@@ -15,19 +15,17 @@ join-requires c κs = search needs
 
 shift-down-requires : tie.Need-shift-down-requires
 shift-down-requires c κs =
-    let l-join = c .before .before .before in
-    let st = l-join .before .before .before in
-    omega (arith, st .pre, l-join .join .ensures .sized, small 1 1 (st .args .lane-bits + 1) (omega arith) (omega arith))
+    let sum = c .before .before .before in
+    let s = sum .before .before .before in
+    omega (arith, s .pre, sum .join .ensures .sized, small 1 1 (s .args .lane-bits + 1) (omega arith) (omega arith))
 
 same-length : tie.Need-same-length
 same-length c = search needs
 
 returns : tie.Need-returns
 returns c =
-    let l-shift-down = c .before .before in
-    let l-join = l-shift-down .before .before .before .before in
-    let st = l-join .before .before .before in
-    then2 (l-join .join .ensures) (l-shift-down .shift-down .ensures)
+    let down = c .before .before in
+    then2 (down .before .before .before .before .join .ensures) (down .shift-down .ensures)
 
 pub exact-half-spec : {M : Type 1} → statement M
 exact-half-spec =

@@ -8,37 +8,37 @@ use borrow.Author.Needs.{needs}
 use Rattle.lower_exact.proofs.exact_lane.Statement.{statement}
 use Rattle.lower_exact.proofs.exact_lane.Tie as tie
 
--- ---- places: the entry from where an arm's kind is known, and that place from the arm's answer
+-- ---- places: the entry from where an arm's kind is known, and that place from the arm's arguments
 
 abbrev add-sub : tie.After-kind → tie.Start
 add-sub k = k .before .before .before
 
-abbrev add-sub-kind : tie.After-join → tie.After-kind
-add-sub-kind l = l .before .before .before
+abbrev add-sub-kind : tie.After-join-arg → tie.After-kind
+add-sub-kind c = c .before .before
 
 abbrev halving : tie.After-kind2 → tie.Start
 halving k = k .before .before .before
 
-abbrev halving-kind : tie.After-exact-half → tie.After-kind2
-halving-kind l = l .before .before .before
+abbrev halving-kind : tie.After-exact-half-arg → tie.After-kind2
+halving-kind c = c .before .before
 
 abbrev shift-narrow : tie.After-kind3 → tie.Start
 shift-narrow k = k .before .before .before
 
-abbrev shift-narrow-kind : tie.After-exact-narrow → tie.After-kind3
-shift-narrow-kind l = l .before .before .before
+abbrev shift-narrow-kind : tie.After-exact-narrow-arg → tie.After-kind3
+shift-narrow-kind c = c .before .before
 
 abbrev unary : tie.After-kind4 → tie.Start
 unary k = k .before .before .before
 
-abbrev unary-kind : tie.After-exact-unary → tie.After-kind4
-unary-kind l = l .before .before .before
+abbrev unary-kind : tie.After-exact-unary-arg → tie.After-kind4
+unary-kind c = c .before .before
 
 abbrev multiply-high : tie.After-kind5 → tie.Start
 multiply-high k = k .before .before .before
 
-abbrev multiply-high-kind : tie.After-exact-high → tie.After-kind5
-multiply-high-kind l = l .before .before .before
+abbrev multiply-high-kind : tie.After-exact-high-arg → tie.After-kind5
+multiply-high-kind c = c .before .before
 
 -- what the kind asks of the lane, once it is known to be kind
 in-kind : (s : tie.Start) {kind : SaturatingKind} → s .args .kind ≡ kind → KindIn kind (s .args .lane-bits)
@@ -51,21 +51,21 @@ enum-known-kind c = search needs
 
 add-join : tie.Need-add-join
 add-join c =
-    let s = add-sub (c .before .before) in
-    omega (arith, s .pre, in-kind s (c .before .before .kind .given .1))
+    let k = add-sub-kind c in
+    omega (arith, add-sub k .pre, in-kind (add-sub k) (k .kind .given .1))
 
 join-requires : tie.Need-join-requires
 join-requires c κs =
-    let s = add-sub (c .before .before) in
-    omega (arith, s .pre, in-kind s (c .before .before .kind .given .1))
+    let k = add-sub-kind c in
+    omega (arith, add-sub k .pre, in-kind (add-sub k) (k .kind .given .1))
 
 enum-known-kind-2 : tie.Need-enum-known-kind-2
 enum-known-kind-2 c = search needs
 
 exact-half-requires : tie.Need-exact-half-requires
 exact-half-requires c κs =
-    let s = halving (c .before .before) in
-    omega (arith, s .pre, in-kind s (c .before .before .kind2 .given .1))
+    let k = halving-kind c in
+    omega (arith, halving k .pre, in-kind (halving k) (k .kind2 .given .1))
 
 enum-told : tie.Need-enum-told
 enum-told c = search needs
@@ -75,31 +75,31 @@ enum-known-kind-3 c = search needs
 
 exact-narrow-requires : tie.Need-exact-narrow-requires
 exact-narrow-requires c κs =
-    let s = shift-narrow (c .before .before) in
-    omega (arith, s .pre, in-kind s (c .before .before .kind3 .given .1))
+    let k = shift-narrow-kind c in
+    omega (arith, shift-narrow k .pre, in-kind (shift-narrow k) (k .kind3 .given .1))
 
 enum-known-kind-4 : tie.Need-enum-known-kind-4
 enum-known-kind-4 c = search needs
 
 exact-unary-requires : tie.Need-exact-unary-requires
 exact-unary-requires c κs =
-    let s = unary (c .before .before) in
-    omega (arith, s .pre, in-kind s (c .before .before .kind4 .given .1))
+    let k = unary-kind c in
+    omega (arith, unary k .pre, in-kind (unary k) (k .kind4 .given .1))
 
 enum-known-kind-5 : tie.Need-enum-known-kind-5
 enum-known-kind-5 c = search needs
 
 exact-high-requires : tie.Need-exact-high-requires
 exact-high-requires c κs =
-    let s = multiply-high (c .before .before) in
-    omega (arith, s .pre, in-kind s (c .before .before .kind5 .given .1))
+    let k = multiply-high-kind c in
+    omega (arith, multiply-high k .pre, in-kind (multiply-high k) (k .kind5 .given .1))
 
 same-length : tie.Need-same-length
 same-length c = search needs
 
 returns : tie.Need-returns
 returns c =
-    let k = add-sub-kind (c .before .before) in
+    let k = add-sub-kind (c .before .before .before) in
     let s = add-sub k .args in
     is-add-sub (s .lane-bits) (s .signed-sources) (k .kind .given .1) (c .before .before .join .ensures)
 
@@ -108,7 +108,7 @@ same-length-2 c = search needs
 
 returns-2 : tie.Need-returns-2
 returns-2 c =
-    let k = halving-kind (c .before .before) in
+    let k = halving-kind (c .before .before .before) in
     let s = halving k .args in
     is-halving (s .lane-bits) (s .signed-sources) (k .kind2 .given .1) (c .before .before .exact-half .ensures)
 
@@ -122,7 +122,7 @@ same-length-3 c = search needs
 
 returns-4 : tie.Need-returns-4
 returns-4 c =
-    let k = shift-narrow-kind (c .before .before) in
+    let k = shift-narrow-kind (c .before .before .before) in
     let s = shift-narrow k .args in
     is-shift-narrow (s .lane-bits) (s .signed-sources) (k .kind3 .given .1) (c .before .before .exact-narrow .ensures)
 
@@ -131,7 +131,7 @@ same-length-4 c = search needs
 
 returns-5 : tie.Need-returns-5
 returns-5 c =
-    let k = unary-kind (c .before .before) in
+    let k = unary-kind (c .before .before .before) in
     let s = unary k .args in
     is-unary (s .lane-bits) (s .signed-sources) (k .kind4 .given .1) (c .before .before .exact-unary .ensures)
 
@@ -140,7 +140,7 @@ same-length-5 c = search needs
 
 returns-6 : tie.Need-returns-6
 returns-6 c =
-    let k = multiply-high-kind (c .before .before) in
+    let k = multiply-high-kind (c .before .before .before) in
     let s = multiply-high k .args in
     is-multiply-high (s .lane-bits) (s .signed-sources) (k .kind5 .given .1) (c .before .before .exact-high .ensures)
 

@@ -7,6 +7,16 @@ use borrow.Author.Needs.{needs}
 use Rattle.lower_exact.proofs.exact_narrow.Statement.{statement}
 use Rattle.lower_exact.proofs.exact_narrow.Tie as tie
 
+-- ---- places: the entry, and the half that rounds, from the extended lane
+
+abbrev entry : tie.After-power → tie.Start
+entry h = h .before .before
+
+abbrev half : tie.After-extend → tie.After-power
+half e = e .before .before
+
+-- ---- needs
+
 mul-wide : tie.Need-mul-wide
 mul-wide c = search needs
 
@@ -24,17 +34,15 @@ extend-requires c κs = search needs
 
 shift-down-requires : tie.Need-shift-down-requires
 shift-down-requires c κs =
-    let l-extend = c .before .before .before in
-    let l-power = l-extend .before .before in
-    let st = l-power .before .before in
+    let e = c .before .before .before in
+    let s = entry (half e) in
     omega (
       arith,
-      st .pre,
-      l-extend .extend .ensures .sized,
-      l-power .power .ensures,
-      half-fits (st .args .shift) (st .args .lane-bits * 2 + 1) (st .pre .1 .1) (omega (arith, st .pre)),
-      small (st .args .lane-bits) (st .args .shift) (st .args .lane-bits * 2 + 1)
-          (st .pre .1 .2) (omega arith),
+      s .pre,
+      e .extend .ensures .sized,
+      half e .power .ensures,
+      half-fits (s .args .shift) (s .args .lane-bits * 2 + 1) (s .pre .1 .1) (omega (arith, s .pre)),
+      small (s .args .lane-bits) (s .args .shift) (s .args .lane-bits * 2 + 1) (s .pre .1 .2) (omega arith),
     )
 
 same-length : tie.Need-same-length
@@ -42,12 +50,11 @@ same-length c = search needs
 
 returns : tie.Need-returns
 returns c =
-    let l-shift-down = c .before .before in
-    let l-extend = l-shift-down .before .before .before .before in
-    let l-power = l-extend .before .before in
-    let st = l-power .before .before in
-    narrow (st .args .shift) (st .args .lane-bits) (st .args .signed) (st .args .rounding) (st .args .to) (omega (arith, st .pre)) (st .pre .1 .3) (l-power .power .ensures)
-    (l-extend .extend .ensures) (l-shift-down .shift-down .ensures)
+    let down = c .before .before in
+    let e = down .before .before .before .before in
+    let s = entry (half e) in
+    narrow (s .args .shift) (s .args .lane-bits) (s .args .signed) (s .args .rounding) (s .args .to) (omega (arith, s .pre)) (s .pre .1 .3) (half e .power .ensures)
+    (e .extend .ensures) (down .shift-down .ensures)
 
 pub exact-narrow-spec : {M : Type 1} → statement M
 exact-narrow-spec =

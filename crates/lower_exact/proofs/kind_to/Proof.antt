@@ -23,40 +23,22 @@ enum-told-3 : tie.Need-enum-told-3
 enum-told-3 c = search needs
 
 returns : tie.Need-returns
-returns c =
-    let l-known-told = c in
-    let l-kind = l-known-told .before in
-    let l-match = l-kind .before in
-    let st = l-match .before in
-    rw (l-kind .kind .given .1) refl
+returns c = rw (c .before .kind .given .1) refl
 
 returns-2 : tie.Need-returns-2
 returns-2 c = search needs
 
 returns-3 : tie.Need-returns-3
-returns-3 c =
-    let l-known-told2 = c in
-    let l-kind2 = l-known-told2 .before in
-    let l-match = l-kind2 .before in
-    let st = l-match .before in
-    rw (l-kind2 .kind2 .given .1) refl
+returns-3 c = rw (c .before .kind2 .given .1) refl
 
 returns-4 : tie.Need-returns-4
 returns-4 c = search needs
 
 returns-5 : tie.Need-returns-5
-returns-5 c =
-    let l-enum-told2 = c in
-    let l-match = l-enum-told2 .before in
-    let st = l-match .before in
-    rw (l-enum-told2 .enum-told2 .given .1) refl
+returns-5 c = rw (c .enum-told2 .given .1) refl
 
 returns-6 : tie.Need-returns-6
-returns-6 c =
-    let l-enum-told3 = c in
-    let l-match = l-enum-told3 .before in
-    let st = l-match .before in
-    rw (l-enum-told3 .enum-told3 .given .1) refl
+returns-6 c = rw (c .enum-told3 .given .1) refl
 
 pub kind-to-spec : {M : Type 1} → statement M
 kind-to-spec =

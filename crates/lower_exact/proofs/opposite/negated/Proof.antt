@@ -4,6 +4,19 @@ use borrow.Author.Needs.{needs}
 use Rattle.lower_exact.proofs.opposite.negated.Statement.{statement}
 use Rattle.lower_exact.proofs.opposite.negated.Tie as tie
 
+-- ---- places: the difference from 0, that 0 and the entry
+
+abbrev difference : tie.After-slice-known3 → tie.After-bv
+difference c = c .before .before
+
+abbrev zero : tie.After-bv → tie.After-konst
+zero d = d .before .before .before .before
+
+abbrev entry : tie.After-bv → tie.Start
+entry d = zero d .before .before .before
+
+-- ---- needs
+
 konst-requires : tie.Need-konst-requires
 konst-requires c κs = search needs
 
@@ -15,11 +28,9 @@ same-length c = search needs
 
 returns : tie.Need-returns
 returns c =
-    let l-if1 = c in
-    let l-bv = l-if1 .before .before .before in
-    let l-konst = l-bv .before .before .before .before in
-    let st = l-konst .before .before .before in
-    opposite (st .pre .1 .1) (st .pre .1 .2) (l-if1 .if1 .taken) (l-konst .konst .ensures) (l-bv .bv .ensures)
+    let d = difference (c .before) in
+    let p = entry d .pre .1 in
+    opposite (p .1) (p .2) (c .if1 .taken) (zero d .konst .ensures) (d .bv .ensures)
 
 compare-requires : tie.Need-compare-requires
 compare-requires c κs = search needs
@@ -32,13 +43,12 @@ same-length-2 c = search needs
 
 returns-2 : tie.Need-returns-2
 returns-2 c =
-    let l-ite = c .before .before in
-    let l-compare = l-ite .before .before .before .before in
-    let l-if1 = l-compare .before .before in
-    let l-bv = l-if1 .before .before .before in
-    let l-konst = l-bv .before .before .before .before in
-    let st = l-konst .before .before .before in
-    absolute (st .pre .1 .1) (st .pre .1 .2) (l-if1 .if1 .left) (l-konst .konst .ensures) (l-bv .bv .ensures) (l-compare .compare .ensures) (l-ite .ite .ensures)
+    let choice = c .before .before in
+    let below = choice .before .before .before .before in
+    let i = below .before .before in
+    let d = difference (i .before) in
+    let p = entry d .pre .1 in
+    absolute (p .1) (p .2) (i .if1 .left) (zero d .konst .ensures) (d .bv .ensures) (below .compare .ensures) (choice .ite .ensures)
 
 pub negated-spec : {M : Type 1} → statement M
 negated-spec =

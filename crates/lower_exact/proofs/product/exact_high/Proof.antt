@@ -6,6 +6,16 @@ use borrow.Author.Needs.{needs}
 use Rattle.lower_exact.proofs.product.exact_high.Statement.{statement}
 use Rattle.lower_exact.proofs.product.exact_high.Tie as tie
 
+-- ---- places: the entry, and the half that rounds, from the doubled product
+
+abbrev entry : tie.After-power → tie.Start
+entry h = h .before .before
+
+abbrev half : tie.After-double → tie.After-power
+half d = d .before .before
+
+-- ---- needs
+
 mul-wide : tie.Need-mul-wide
 mul-wide c = search needs
 
@@ -23,17 +33,16 @@ double-requires c κs = search needs
 
 shift-down-requires : tie.Need-shift-down-requires
 shift-down-requires c κs =
-    let l-double = c .before .before .before in
-    let l-power = l-double .before .before in
-    let st = l-power .before .before in
-    let n = st .args .lane-bits in (
-      omega (arith, st .pre, l-double .double .ensures .sized),
+    let d = c .before .before .before in
+    let s = entry (half d) in
+    let n = s .args .lane-bits in (
+      omega (arith, s .pre, d .double .ensures .sized),
       (
-        l-double .double .ensures .sized .under,
-        omega (arith, st .pre),
-        omega (arith, st .pre),
-        rw (l-power .power .ensures) (half-fits n _ (st .pre .1 .2) (omega (arith, st .pre))),
-        small n n _ (omega arith) (omega (arith, st .pre)),
+        d .double .ensures .sized .under,
+        omega (arith, s .pre),
+        omega (arith, s .pre),
+        rw (half d .power .ensures) (half-fits n _ (s .pre .1 .2) (omega (arith, s .pre))),
+        small n n _ (omega arith) (omega (arith, s .pre)),
       ),
     )
 
@@ -42,11 +51,10 @@ same-length c = search needs
 
 returns : tie.Need-returns
 returns c =
-    let l-shift-down = c .before .before in
-    let l-double = l-shift-down .before .before .before .before in
-    let l-power = l-double .before .before in
-    let st = l-power .before .before in
-    high (st .args .lane-bits) (st .args .rounding) (l-power .power .ensures) (l-double .double .ensures) (l-shift-down .shift-down .ensures)
+    let down = c .before .before in
+    let d = down .before .before .before .before in
+    let a = entry (half d) .args in
+    high (a .lane-bits) (a .rounding) (half d .power .ensures) (d .double .ensures) (down .shift-down .ensures)
 
 pub exact-high-spec : {M : Type 1} → statement M
 exact-high-spec =
