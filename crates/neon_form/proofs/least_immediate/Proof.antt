@@ -6,14 +6,10 @@ use Rattle.neon_form.proofs.least_immediate.Statement.{statement}
 use Rattle.neon_form.proofs.least_immediate.Tie as tie
 
 returns : tie.Need-returns
-returns c =
-    let st = c .before in
-    λ o v h e. least-right (form o .immediate) (sym (parts (st .args .code) o v h e .row) ∙ c .if1 .taken)
+returns c o v h e = least-right (form o .immediate) (sym (parts (c .before .args .code) o v h e .row) ∙ c .if1 .taken)
 
 returns-2 : tie.Need-returns-2
-returns-2 c =
-    let st = c .before in
-    λ o v h e. least-other (form o .immediate) (λ q. c .if1 .left (parts (st .args .code) o v h e .row ∙ q))
+returns-2 c o v h e = least-other (form o .immediate) (λ q. c .if1 .left (parts (c .before .args .code) o v h e .row ∙ q))
 
 pub least-immediate-spec : {M : Type 1} → statement M
 least-immediate-spec = tie.close (tie.spec returns returns-2)

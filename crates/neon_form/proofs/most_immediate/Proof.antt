@@ -14,31 +14,21 @@ div-result : tie.Need-div-result
 div-result c = search needs
 
 sub-result-2 : tie.Need-sub-result-2
-sub-result-2 c =
-    let st = c .before in
-    omega (arith, quotient (st .args .bits) (st .pre .0) (st .pre .1))
+sub-result-2 c = let s = c .before in omega (arith, quotient (s .args .bits) (s .pre .0) (s .pre .1))
 
 returns : tie.Need-returns
-returns c =
-    let st = c .before in
-    λ o v h e. most-none (form o .immediate) (st .args .bits) (sym (parts (st .args .code) o v h e .row) ∙ c .match .keys1)
+returns c o v h e = most-none (form o .immediate) (c .before .args .bits) (sym (parts (c .before .args .code) o v h e .row) ∙ c .match .keys1)
 
 returns-2 : tie.Need-returns-2
-returns-2 c =
-    let st = c .before in
-    λ o v h e. most-left (form o .immediate) (st .args .bits) (sym (parts (st .args .code) o v h e .row) ∙ c .match .keys2)
+returns-2 c o v h e = most-left (form o .immediate) (c .before .args .bits) (sym (parts (c .before .args .code) o v h e .row) ∙ c .match .keys2)
 
 returns-3 : tie.Need-returns-3
-returns-3 c =
-    let st = c .before in
-    λ o v h e. most-right (form o .immediate) (st .args .bits) (sym (parts (st .args .code) o v h e .row) ∙ c .match .keys3)
+returns-3 c o v h e = most-right (form o .immediate) (c .before .args .bits) (sym (parts (c .before .args .code) o v h e .row) ∙ c .match .keys3)
 
 returns-4 : tie.Need-returns-4
-returns-4 c =
-    let st = c .before in
-    λ o v h e.
-    let r = parts (st .args .code) o v h e .row in
-    most-element (form o .immediate) (st .args .bits) (omega (arith, r, c .match .rest)) (omega (arith, r, c .match .rest)) (omega (arith, r, c .match .rest))
+returns-4 c o v h e =
+    let r = parts (c .before .args .code) o v h e .row in
+    most-element (form o .immediate) (c .before .args .bits) (omega (arith, r, c .match .rest)) (omega (arith, r, c .match .rest)) (omega (arith, r, c .match .rest))
 
 pub most-immediate-spec : {M : Type 1} → statement M
 most-immediate-spec =
