@@ -21,17 +21,14 @@ made-bits-requires c κs = search needs
 
 div-t8 : tie.Need-div-t8
 div-t8 c =
-    let l-lane-bits = c .before in
-    let st = l-lane-bits .before .before .before in
-    omega (arith, l-lane-bits .lane-bits .ensures, sized (arrangementAt (st .args .arrangement)) .eight)
+    let s = c .before .before .before .before in
+    omega (arith, c .before .lane-bits .ensures, sized (arrangementAt (s .args .arrangement)) .eight)
 
 returns : tie.Need-returns
 returns c =
-    let l-lane-bits = c .before in
-    let l-neon-op = l-lane-bits .before in
-    let l-is-full = l-neon-op .before in
-    let st = l-is-full .before in
-    rw (c .made-bits .ensures, l-neon-op .neon-op .ensures, l-is-full .is-full .ensures, l-lane-bits .lane-bits .ensures) refl
+    let bits = c .before in
+    let op = bits .before in
+    rw (c .made-bits .ensures, op .neon-op .ensures, op .before .is-full .ensures, bits .lane-bits .ensures) refl
 
 pub shape-spec : {M : Type 1} → statement M
 shape-spec =
