@@ -31,13 +31,23 @@ roomy c = c .before .before
 in-columns : (c : tie.Else3) → inColumns (entry (roomy c) .args .line .now) ≡ true
 in-columns c = sym (c .before .in-columns .ensures) ∙ not-false _ (c .if3 .left)
 
+abbrev read : tie.After-lower-block → tie.After-fields-of
+read c = c .before .before .before
+
 abbrev ordered : tie.After-lower-block → tie.Else3
-ordered c = c .before .before .before .before
+ordered c = read c .before
+
+abbrev asked : tie.After-lower-block → tie.Start
+asked c = entry (roomy (ordered c))
 
 -- the block of one is answered
-one : (c : tie.After-lower-block) → let a = entry (roomy (ordered c)) .args in
+one : (c : tie.After-lower-block) → let a = asked c .args in
     Answered (a .pool .now) (recordOf (a .line .now) ∷ []) (c .lower-block .last .0) (c .lower-block .result)
-one c = answered-one (entry (roomy (ordered c)) .args .line .now) (c .before .before .before .fields-of .ensures) (c .lower-block .ensures)
+one c = answered-one (asked c .args .line .now) (read c .fields-of .ensures) (c .lower-block .ensures)
+
+-- it is refused
+abbrev unlowered : tie.Then4 → tie.After-lower-block
+unlowered c = c .before .before .before .before
 
 -- it is accepted, and the fourth of the line's numbers is d
 abbrev lowered : tie.Else4 → tie.After-lower-block
@@ -46,12 +56,15 @@ lowered c = c .before .before .before .before
 accepted : (c : tie.Else4) → lowered c .lower-block .result .number ≡ 0
 accepted c = omega (arith, c .if4 .left)
 
-d-is : (c : tie.After-lower-block) → getD (c .before .before .before .fields-of .result) 3 0 ≡ recordOf (entry (roomy (ordered c)) .args .line .now) .d
-d-is c = ap (λ (z : List ℕ). getD z 3 0) (c .before .before .before .fields-of .ensures)
+abbrev accepted-at : tie.After-get → tie.Else4
+accepted-at c = c .before .before
 
-node-is : (c : tie.After-get) → let l = lowered (c .before .before) in
-    c .get .result .0 ≡ nodeOf (l .lower-block .result .map) (recordOf (entry (roomy (ordered l)) .args .line .now) .d)
-node-is c = let l = lowered (c .before .before) in c .get .ensures ∙ ap (nodeOf (l .lower-block .result .map)) (d-is l)
+d-is : (c : tie.After-lower-block) → getD (read c .fields-of .result) 3 0 ≡ recordOf (asked c .args .line .now) .d
+d-is c = ap (λ (z : List ℕ). getD z 3 0) (read c .fields-of .ensures)
+
+node-is : (c : tie.After-get) → let l = lowered (accepted-at c) in
+    c .get .result .0 ≡ nodeOf (l .lower-block .result .map) (recordOf (asked l .args .line .now) .d)
+node-is c = let l = lowered (accepted-at c) in c .get .ensures ∙ ap (nodeOf (l .lower-block .result .map)) (d-is l)
 
 returns : tie.Need-returns
 returns c =
@@ -81,12 +94,12 @@ same-length c = search needs
 
 returns-3 : tie.Need-returns-3
 returns-3 c =
-    let p = c .before .before in
-    let t = p .before .before in
-    let n = t .before in
+    let told = c .before .before in
+    let uneven = told .before .before in
+    let n = uneven .before in
     let a = entry (n .before) .args in
-    let bad = sym (n .in-columns .ensures) ∙ not-true _ (t .if3 .taken) in
-    let w = other (a .pool .now) (a .line .now) (a .out .now) (a .at) (n .before .if2 .left) bad (p .put-number .ensures) in
+    let bad = sym (n .in-columns .ensures) ∙ not-true _ (uneven .if3 .taken) in
+    let w = other (a .pool .now) (a .line .now) (a .out .now) (a .at) (n .before .if2 .left) bad (told .put-number .ensures) in
     let same = left-other (a .pool .now) (a .line .now) (a .out .now) (a .at) (n .before .if2 .left) bad in
     (w, (same, inside (places (a .pool .now)) (a .line .now) w))
 
@@ -101,8 +114,8 @@ lower-block-requires c κs = search needs
 
 put-number-requires-2 : tie.Need-put-number-requires-2
 put-number-requires-2 c κs =
-    let l = c .before .before .before .before .before in
-    let a = entry (roomy (ordered l)) .args in
+    let l = unlowered (c .before) in
+    let a = asked l .args in
     (omega (arith, one l .number, block-low (places (a .pool .now)) (recordOf (a .line .now))), room (roomy (ordered l)))
 
 same-length-2 : tie.Need-same-length-2
@@ -113,12 +126,12 @@ same-length-3 c = search needs
 
 returns-4 : tie.Need-returns-4
 returns-4 c =
-    let p = c .before .before in
-    let t = p .before .before in
-    let l = t .before .before .before .before in
+    let number = c .before .before in
+    let refusal = number .before .before in
+    let l = unlowered refusal in
     let q = ordered l in
-    let a = entry (roomy q) .args in
-    let w = refused (a .pool .now) (a .line .now) (a .out .now) (a .at) (roomy q .if2 .left) (in-columns q) (one l) (t .if4 .taken) (p .put-number2 .ensures) in
+    let a = asked l .args in
+    let w = refused (a .pool .now) (a .line .now) (a .out .now) (a .at) (roomy q .if2 .left) (in-columns q) (one l) (refusal .if4 .taken) (number .put-number2 .ensures) in
     (w, (lowered-one (a .pool .now) (a .line .now) (a .out .now) (a .at) (roomy q .if2 .left) (in-columns q) (one l), inside (places (a .pool .now)) (a .line .now) w))
 
 array-read-get : tie.Need-array-read-get
@@ -127,14 +140,14 @@ array-read-get c = search needs
 get-requires : tie.Need-get-requires
 get-requires c κs =
     let l = lowered (c .before) in
-    omega (arith, low-d (entry (roomy (ordered l)) .args .line .now) (one l) (accepted (c .before)), d-is l)
+    omega (arith, low-d (asked l .args .line .now) (one l) (accepted (c .before)), d-is l)
 
 put-term-requires : tie.Need-put-term-requires
 put-term-requires c κs =
     let g = c .before .before in
-    let l = lowered (g .before .before) in
-    let z = accepted (g .before .before) in
-    let line = entry (roomy (ordered l)) .args .line .now in
+    let l = lowered (accepted-at g) in
+    let z = accepted (accepted-at g) in
+    let line = asked l .args .line .now in
     (one l .accepted z .checked, ((omega (arith, node-is g, node-under line (one l) z), registers line (one l) z), room (roomy (ordered l))))
 
 same-length-4 : tie.Need-same-length-4
@@ -145,12 +158,12 @@ same-length-5 c = search needs
 
 returns-5 : tie.Need-returns-5
 returns-5 c =
-    let p = c .before .before in
-    let g = p .before .before .before in
-    let l = lowered (g .before .before) in
+    let term = c .before .before in
+    let g = term .before .before .before in
+    let l = lowered (accepted-at g) in
     let q = ordered l in
-    let a = entry (roomy q) .args in
-    let w = done (a .pool .now) (a .line .now) (a .out .now) (a .at) _ (roomy q .if2 .left) (in-columns q) (one l) (accepted (g .before .before)) (node-is g) (p .put-term .ensures) in
+    let a = asked l .args in
+    let w = done (a .pool .now) (a .line .now) (a .out .now) (a .at) _ (roomy q .if2 .left) (in-columns q) (one l) (accepted (accepted-at g)) (node-is g) (term .put-term .ensures) in
     (w, (lowered-one (a .pool .now) (a .line .now) (a .out .now) (a .at) (roomy q .if2 .left) (in-columns q) (one l), inside (places (a .pool .now)) (a .line .now) w))
 
 pub answer-line-spec : {M : Type 1} → statement M
