@@ -12,21 +12,18 @@ start-pool-requires c κs = search needs
 
 konst-requires : tie.Need-konst-requires
 konst-requires c κs =
-    let l-start-pool = c .before .before .before in
-    let st = l-start-pool .before .before .before in
-    let e : l-start-pool .start-pool .result .count ≡ 32 = ap (λ (m : RegisterMap). m .count) (l-start-pool .start-pool .ensures .1) in
-    omega (arith, st .pre, e, l-start-pool .start-pool .ensures .0 .grown .long)
+    let p = c .before .before .before in
+    let e : p .start-pool .result .count ≡ 32 = ap (λ (m : RegisterMap). m .count) (p .start-pool .ensures .1) in
+    omega (arith, p .before .before .before .pre, e, p .start-pool .ensures .0 .grown .long)
 
 same-length : tie.Need-same-length
 same-length c = search needs
 
 returns : tie.Need-returns
 returns c =
-    let l-node = c in
-    let l-konst = l-node .before .before .before in
-    let l-start-pool = l-konst .before .before .before .before in
-    let st = l-start-pool .before .before .before in
-    started (l-start-pool .start-pool .ensures .0) (l-start-pool .start-pool .ensures .1) (l-konst .konst .ensures)
+    let zero = c .before .before .before in
+    let first = zero .before .before .before .before .start-pool .ensures in
+    started (first .0) (first .1) (zero .konst .ensures)
 
 pub start-flagged-spec : {M : Type 1} → statement M
 start-flagged-spec = tie.close (tie.spec start-pool-requires konst-requires same-length returns)
