@@ -16,18 +16,18 @@ slice-aggregate-put c = search needs
 
 put-requires : tie.Need-put-requires
 put-requires c κs =
-    let l-put-columns = c .before .before .before .before in
-    let st = l-put-columns .before .before .before in
-    record { room = omega (arith, st .pre .1, length-columns (st .args .number) (st .pre .0), l-put-columns .put-columns .ensures .next-is, wrote-length (l-put-columns .put-columns .ensures)) }
+    let p = c .before .before .before .before in
+    let st = p .before .before .before in
+    let w = p .put-columns .ensures in
+    record { room = omega (arith, st .pre .1, length-columns (st .args .number) (st .pre .0), w .next-is, wrote-length w) }
 
 same-length : tie.Need-same-length
 same-length c = search needs
 
 returns : tie.Need-returns
 returns c =
-    let l-put = c .before .before in
-    let l-put-columns = l-put .before .before .before .before .before in
-    wrote-then (l-put-columns .put-columns .ensures) (l-put .put .ensures)
+    let end = c .before .before in
+    wrote-then (end .before .before .before .before .before .put-columns .ensures) (end .put .ensures)
 
 pub put-number-spec : {M : Type 1} → statement M
 put-number-spec =

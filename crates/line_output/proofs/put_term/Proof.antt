@@ -17,6 +17,17 @@ whole s = let a = s .args in ready (a .pool .now) (a .count) (a .node) (s .pre .
 abbrev start : tie.Else1 → tie.Start
 start c = c .before .before .before .before
 
+-- ---- from each write past the test back to the one before it
+
+abbrev fitting : tie.After-put-columns → tie.Else1
+fitting p = p .before .before
+
+abbrev numbered : tie.After-put → tie.After-put-columns
+numbered q = q .before .before .before .before .before
+
+abbrev spaced : tie.After-write-known → tie.After-put
+spaced t = t .before .before .before .before
+
 -- past the test the text has room
 roomy : (c : tie.Else1) → let a = start c .args in length (text (a .pool .now) (a .node)) ≤ textRoom
 roomy c = omega (arith, c .before .length-in-block .ensures, c .if1 .left)
@@ -32,11 +43,11 @@ same-length c = search needs
 
 returns : tie.Need-returns
 returns c =
-    let p = c .before .before in
-    let i = p .before .before in
-    let f = i .before in
+    let told = c .before .before in
+    let long = told .before .before in
+    let f = long .before in
     let a = f .before .before .before .args in
-    term-refused (text (a .pool .now) (a .node)) (omega (arith, f .length-in-block .ensures, i .if1 .taken)) (p .put-number .ensures)
+    term-refused (text (a .pool .now) (a .node)) (omega (arith, f .length-in-block .ensures, long .if1 .taken)) (told .put-number .ensures)
 
 put-columns-requires : tie.Need-put-columns-requires
 put-columns-requires c κs =
@@ -49,15 +60,15 @@ slice-aggregate-put c = search needs
 put-requires : tie.Need-put-requires
 put-requires c κs =
     let p = c .before .before .before .before in
-    let s = start (p .before .before) in
+    let s = start (fitting p) in
     let w = p .put-columns .ensures in
     record { room = omega (arith, s .pre .1 .1, length-columns 0 (omega arith), w .next-is, wrote-length w) }
 
 write-known-requires : tie.Need-write-known-requires
 write-known-requires c κs =
     let q = c .before .before .before in
-    let p = q .before .before .before .before .before in
-    let i = p .before .before in
+    let p = numbered q in
+    let i = fitting p in
     let s = start i in
     let w = p .put-columns .ensures in
     let v = q .put .ensures in (
@@ -71,9 +82,9 @@ slice-aggregate-put-2 c = search needs
 put-requires-2 : tie.Need-put-requires-2
 put-requires-2 c κs =
     let t = c .before .before .before .before in
-    let q = t .before .before .before .before in
-    let p = q .before .before .before .before .before in
-    let i = p .before .before in
+    let q = spaced t in
+    let p = numbered q in
+    let i = fitting p in
     let s = start i in
     let w = p .put-columns .ensures in
     let v = q .put .ensures in
@@ -87,9 +98,9 @@ returns-2 : tie.Need-returns-2
 returns-2 c =
     let e = c .before .before in
     let t = e .before .before .before .before .before in
-    let q = t .before .before .before .before in
-    let p = q .before .before .before .before .before in
-    let i = p .before .before in
+    let q = spaced t in
+    let p = numbered q in
+    let i = fitting p in
     let a = start i .args in
     term-done (text (a .pool .now) (a .node)) (roomy i) (p .put-columns .ensures) (q .put .ensures) (t .write-known .ensures) (e .put2 .ensures)
 
