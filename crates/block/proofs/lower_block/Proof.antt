@@ -14,6 +14,17 @@ entry c = c .before .before .before .before .before
 accepted : (c : tie.Else1) → Fits (entry c .args .pool .now) (entry c .args .records .now)
 accepted c = let a = entry c .args in fits (a .pool .now) (a .records .now) (c .before .block-refusal .ensures .0) (c .if1 .left)
 
+-- ---- from the answer back to the run, to its start and to the test
+
+abbrev run : tie.After-slice-known3 → tie.After-run-records
+run c = c .before .before
+
+abbrev started : tie.After-run-records → tie.After-start-pool
+started r = r .before .before .before .before
+
+abbrev tested : tie.After-start-pool → tie.Else1
+tested p = p .before .before
+
 block-refusal-requires : tie.Need-block-refusal-requires
 block-refusal-requires c κs = search needs
 
@@ -40,20 +51,20 @@ start-pool-requires c κs = omega (arith, accepted (c .before) .room)
 run-records-requires : tie.Need-run-records-requires
 run-records-requires c κs =
     let p = c .before .before .before in
-    let f = accepted (p .before .before) in
+    let f = accepted (tested p) in
     let e : p .start-pool .result .count ≡ 32 = ap (λ (m : RegisterMap). m .count) (p .start-pool .ensures .1) in
     (omega (arith, f .room, e, p .start-pool .ensures .0 .grown .long), (rw (p .start-pool .ensures .1) first-ok, f .legal))
 
 same-length-2 : tie.Need-same-length-2
 same-length-2 c =
-    let r = c .before .before in
-    omega (arith, r .before .before .before .before .start-pool .ensures .0 .grown .long, r .run-records .ensures .long)
+    let r = run c in
+    omega (arith, started r .start-pool .ensures .0 .grown .long, r .run-records .ensures .long)
 
 returns-2 : tie.Need-returns-2
 returns-2 c =
-    let r = c .before .before in
-    let p = r .before .before .before .before in
-    let e = p .before .before in
+    let r = run c in
+    let p = started r in
+    let e = tested p in
     record {
       number = e .before .block-refusal .ensures .0;
       position = e .before .block-refusal .ensures .1;

@@ -44,8 +44,7 @@ lower-record-requires c κs =
     let r = c .before in
     let t = r .before in
     let s = entry (t .before) in
-    let l = t .before .loop in
-    (room t, (l .inv .2 .map-ok, rw (r .record-at .ensures) (legal-here (s .args .records .now) _ (s .pre .1 .1) (omega (arith, in-records t)))))
+    (room t, (t .before .loop .inv .2 .map-ok, rw (r .record-at .ensures) (legal-here (s .args .records .now) _ (s .pre .1 .1) (in-records t))))
 
 abbrev turn : tie.After-slice-known2 Inv-loop μ-loop → tie.In-loop Inv-loop μ-loop
 turn c = c .before .before .before .before .before
@@ -60,7 +59,7 @@ loop-again : tie.Need-loop-again Inv-loop μ-loop
 loop-again c =
     let n = c .before .before in
     let r = n .before .before in
-    let t = r .before in
+    let t = turn c in
     let l = t .before .loop in (
       l .inv .0,
       omega (arith, t .loop-test .taken),
@@ -72,8 +71,8 @@ same-length c = omega (arith, c .before .loop .inv .2 .long)
 
 returns : tie.Need-returns Inv-loop μ-loop
 returns c =
-    let l = c .before .loop in
-    runs-all (entry (c .before) .args .records .now) (l .j) (omega (arith, l .inv .0, l .inv .1, c .loop-test .left)) (l .inv .2)
+    let end = c .before .loop in
+    runs-all (entry (c .before) .args .records .now) (end .j) (omega (arith, end .inv .0, end .inv .1, c .loop-test .left)) (end .inv .2)
 
 pub run-records-spec : {M : Type 1} → statement M
 run-records-spec =
