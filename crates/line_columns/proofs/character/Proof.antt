@@ -13,16 +13,12 @@ cast-result : tie.Need-cast-result
 cast-result c = search needs
 
 returns : tie.Need-returns
-returns c =
-    let l-if1 = c in
-    let st = l-if1 .before in
-    sym (rw (eq-eqb (st .args .above) 0 (l-if1 .if1 .taken)))
+returns c = sym (rw (eq-eqb (c .before .args .above) 0 (c .if1 .taken)))
 
 returns-2 : tie.Need-returns-2
 returns-2 c =
-    let l-if1 = c in
-    let st = l-if1 .before in
-    rw (ne-eqb (st .args .above) 0 (l-if1 .if1 .left)) (ap (λ (d : ℕ). 48 + d) (st .pre))
+    let s = c .before in
+    rw (ne-eqb (s .args .above) 0 (c .if1 .left)) (ap (λ (d : ℕ). 48 + d) (s .pre))
 
 pub character-spec : {M : Type 1} → statement M
 character-spec = tie.close (tie.spec add-result cast-result returns returns-2)

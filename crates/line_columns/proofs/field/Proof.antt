@@ -59,12 +59,11 @@ add-result-3 c = search needs
 returns : tie.Need-returns
 unfolding fieldAt
 returns c =
-    let l-digit4 = c in
-    let l-digit3 = l-digit4 .before .before in
-    let l-digit2 = l-digit3 .before .before in
-    let l-digit = l-digit2 .before .before in (
-      cc (l-digit .digit .ensures .0, l-digit2 .digit2 .ensures .0, l-digit3 .digit3 .ensures .0, l-digit4 .digit4 .ensures .0),
-      omega (arith, l-digit .digit .ensures .1, l-digit2 .digit2 .ensures .1, l-digit3 .digit3 .ensures .1, l-digit4 .digit4 .ensures .1),
+    let third = c .before .before in
+    let second = third .before .before in
+    let first = second .before .before in (
+      cc (first .digit .ensures .0, second .digit2 .ensures .0, third .digit3 .ensures .0, c .digit4 .ensures .0),
+      omega (arith, first .digit .ensures .1, second .digit2 .ensures .1, third .digit3 .ensures .1, c .digit4 .ensures .1),
     )
 
 pub field-spec : {M : Type 1} → statement M

@@ -13,18 +13,16 @@ slice-aggregate-put c = search needs
 
 put-requires : tie.Need-put-requires
 put-requires c κs =
-    let l-written = c .before .before in
-    let st = l-written .before .before in
-    room-as (sym (l-written .written .ensures)) (st .pre .1)
+    let four = c .before .before in
+    room-as (sym (four .written .ensures)) (four .before .before .pre .1)
 
 same-length : tie.Need-same-length
 same-length c = search needs
 
 returns : tie.Need-returns
 returns c =
-    let l-put = c .before .before in
-    let l-written = l-put .before .before .before in
-    wrote-as (sym (l-written .written .ensures)) (l-put .put .ensures)
+    let p = c .before .before in
+    wrote-as (sym (p .before .before .before .written .ensures)) (p .put .ensures)
 
 pub put-columns-spec : {M : Type 1} → statement M
 put-columns-spec =
