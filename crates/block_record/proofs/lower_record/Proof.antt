@@ -50,6 +50,9 @@ old c = c .before .before .before .before
 abbrev result : tie.After-widen → tie.After-lower-form
 result c = c .before .before .before .before
 
+abbrev widened : tie.After-set → tie.After-widen
+widened c = c .before .before .before
+
 -- ---- what the form code says holds of the form
 
 legal : (c : tie.After-form-code) → let a = entry c .args in formNumber (a .operation) (a .arrangement) (a .i) 0 ≡ 0
@@ -148,7 +151,7 @@ set-requires c κs = omega (arith, registers (entry (code (first (second (old (r
 
 same-length : tie.Need-same-length
 same-length c =
-    let w = c .before .before .before in
+    let w = widened c in
     let r = result w in
     let o = old r in
     let s = second o in
@@ -156,7 +159,7 @@ same-length c =
 
 returns : tie.Need-returns
 returns c =
-    let w = c .before .before .before in
+    let w = widened c in
     let r = result w in
     let o = old r in
     let s = second o in
