@@ -25,6 +25,9 @@ entry c = c .before .before
 abbrev turn : tie.After-record-number Inv-loop μ-loop → tie.In-loop Inv-loop μ-loop
 turn c = c .before .before
 
+abbrev passed : tie.Else1 Inv-loop μ-loop → tie.In-loop Inv-loop μ-loop
+passed c = turn (c .before)
+
 number-is : (c : tie.After-record-number Inv-loop μ-loop) → let l = turn c .before in
     c .record-number .result ≡ recordNumber (recordAt (entry l .args .records .now) (l .loop .j))
 number-is c = rw (c .before .record-at .ensures) at (c .record-number .ensures)
@@ -51,19 +54,18 @@ returns c =
     (n ∙ sym (ap (λ (x : Refusal). x .number) e), sym (ap (λ (x : Refusal). x .position) e))
 
 add-j : tie.Need-add-j Inv-loop μ-loop
-add-j c = omega (arith, turn (c .before) .before .loop .inv .0, turn (c .before) .loop-test .taken)
+add-j c = omega (arith, passed c .before .loop .inv .0, passed c .loop-test .taken)
 
 loop-less : tie.Need-loop-less Inv-loop μ-loop
-loop-less c = omega (arith, turn (c .before) .loop-test .taken)
+loop-less c = omega (arith, passed c .loop-test .taken)
 
 loop-again : tie.Need-loop-again Inv-loop μ-loop
 loop-again c =
-    let t = turn (c .before) in
-    let n = number-is (c .before) in
+    let t = passed c in
     let l = t .before .loop in (
       l .inv .0,
       omega (arith, t .loop-test .taken),
-      sym (passed-here (entry (t .before) .args .records .now) (l .j) _ (t .loop-test .taken) (omega (arith, n, c .if1 .left))) ∙ l .inv .2,
+      sym (passed-here (entry (t .before) .args .records .now) (l .j) _ (t .loop-test .taken) (omega (arith, number-is (c .before), c .if1 .left))) ∙ l .inv .2,
     )
 
 returns-2 : tie.Need-returns-2 Inv-loop μ-loop

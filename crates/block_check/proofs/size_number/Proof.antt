@@ -6,9 +6,7 @@ use Rattle.block_check.proofs.size_number.Statement.{statement}
 use Rattle.block_check.proofs.size_number.Tie as tie
 
 returns : tie.Need-returns
-returns c =
-    let st = c .before in
-    too-long (st .args .words) (st .args .count) (c .if1 .taken)
+returns c = too-long _ _ (c .if1 .taken)
 
 mul-if2 : tie.Need-mul-if2
 mul-if2 c = search needs
@@ -17,14 +15,10 @@ add-if2 : tie.Need-add-if2
 add-if2 c = search needs
 
 returns-2 : tie.Need-returns-2
-returns-2 c =
-    let st = c .before .before in
-    no-room (st .args .words) (st .args .count) (c .before .if1 .left) (omega (arith, c .if2 .taken))
+returns-2 c = no-room _ _ (c .before .if1 .left) (omega (arith, c .if2 .taken))
 
 returns-3 : tie.Need-returns-3
-returns-3 c =
-    let st = c .before .before in
-    has-room (st .args .words) (st .args .count) (c .before .if1 .left) (omega (arith, c .if2 .left))
+returns-3 c = has-room _ _ (c .before .if1 .left) (omega (arith, c .if2 .left))
 
 pub size-number-spec : {M : Type 1} → statement M
 size-number-spec = tie.close (tie.spec returns mul-if2 add-if2 returns-2 returns-3)
