@@ -7,38 +7,31 @@ use borrow.Author.Needs.{needs}
 use Rattle.block_reads.proofs.read_if.Statement.{statement}
 use Rattle.block_reads.proofs.read_if.Tie as tie
 
+abbrev entry : tie.Else1 → tie.Start
+entry c = c .before .before
+
 none-requires : tie.Need-none-requires
 none-requires c κs = search needs
 
 returns : tie.Need-returns
-returns c =
-    let l-if1 = c .before in
-    let st = l-if1 .before .before in
-    read-none refl (not-true (st .args .used) (l-if1 .if1 .taken))
+returns c = read-none refl (not-true _ (c .before .if1 .taken))
 
 returns-2 : tie.Need-returns-2
-returns-2 c =
-    let l-if2 = c in
-    let st = l-if2 .before .before .before in
-    read-whole refl (l-if2 .if2 .taken) refl (st .pre .1)
+returns-2 c = read-whole refl (c .if2 .taken) refl (entry (c .before) .pre .1)
 
 extract-collapsing-requires : tie.Need-extract-collapsing-requires
 extract-collapsing-requires c κs =
-    let st = c .before .before .before .before in
-    (st .pre .0, (st .pre .1, omega arith, omega arith))
+    let p = entry (c .before .before) .pre in
+    (p .0, (p .1, omega arith, omega arith))
 
 same-length : tie.Need-same-length
-same-length c =
-    let cut = c .before .before in
-    omega (arith, cut .extract-collapsing .ensures .sized)
+same-length c = omega (arith, c .before .before .extract-collapsing .ensures .sized)
 
 returns-3 : tie.Need-returns-3
 returns-3 c =
     let cut = c .before .before in
-    let l-if2 = cut .before .before in
-    let l-if1 = l-if2 .before in
-    let st = l-if1 .before .before in
-    read-half (not-false (st .args .used) (l-if1 .if1 .left)) (l-if2 .if2 .left) (cut .extract-collapsing .ensures)
+    let half = cut .before .before in
+    read-half (not-false _ (half .before .if1 .left)) (half .if2 .left) (cut .extract-collapsing .ensures)
 
 pub read-if-spec : {M : Type 1} → statement M
 read-if-spec =

@@ -6,26 +6,20 @@ use Rattle.block_reads.proofs.widen.Statement.{statement}
 use Rattle.block_reads.proofs.widen.Tie as tie
 
 returns : tie.Need-returns
-returns c =
-    let l-if1 = c in
-    let st = l-if1 .before .before in
-    widen-none (l-if1 .if1 .taken) (st .pre .1) refl refl
+returns c = widen-none (c .if1 .taken) (c .before .before .pre .1) refl refl
 
 zero-ext-requires : tie.Need-zero-ext-requires
 zero-ext-requires c κs =
-    let st = c .before .before .before in
-    (st .pre .0, (st .pre .1, omega arith))
+    let p = c .before .before .before .pre in
+    (p .0, (p .1, omega arith))
 
 same-length : tie.Need-same-length
-same-length c =
-    let l-zero-ext = c .before .before in
-    omega (arith, l-zero-ext .zero-ext .ensures .sized)
+same-length c = omega (arith, c .before .before .zero-ext .ensures .sized)
 
 returns-2 : tie.Need-returns-2
 returns-2 c =
-    let l-zero-ext = c .before .before in
-    let l-if1 = l-zero-ext .before .before in
-    widen-some (l-if1 .if1 .left) (l-zero-ext .zero-ext .ensures)
+    let extended = c .before .before in
+    widen-some (extended .before .before .if1 .left) (extended .zero-ext .ensures)
 
 pub widen-spec : {M : Type 1} → statement M
 widen-spec = tie.close (tie.spec returns zero-ext-requires same-length returns-2)
