@@ -25,40 +25,28 @@ loop-holds : tie.Need-loop-holds Inv-loop μ-loop
 loop-holds c = (refl, omega arith, λ i h. absurd (not-suc-le-zero h))
 
 mul-nodes : tie.Need-mul-nodes Inv-loop μ-loop
-mul-nodes c =
-    let l-loop-test = c in
-    omega (arith, l-loop-test .loop-test .taken)
+mul-nodes c = omega (arith, c .loop-test .taken)
 
 array-set-from-nodes : tie.Need-array-set-from-nodes Inv-loop μ-loop
-array-set-from-nodes c =
-    let l-loop-test = c in
-    let l-loop = l-loop-test .before in
-    omega (arith, l-loop .loop .inv .0, l-loop-test .loop-test .taken)
+array-set-from-nodes c = omega (arith, c .before .loop .inv .0, c .loop-test .taken)
 
 add-r : tie.Need-add-r Inv-loop μ-loop
-add-r c =
-    let l-loop-test = c in
-    omega (arith, l-loop-test .loop-test .taken)
+add-r c = omega (arith, c .loop-test .taken)
 
 loop-less : tie.Need-loop-less Inv-loop μ-loop
-loop-less c =
-    let l-loop-test = c in
-    omega (arith, l-loop-test .loop-test .taken)
+loop-less c = omega (arith, c .loop-test .taken)
 
 loop-again : tie.Need-loop-again Inv-loop μ-loop
 loop-again c =
-    let l-loop-test = c in
-    let l-loop = l-loop-test .before in
-    let turn = l-loop .loop in
-    (length-set (turn .nodes) _ _ ∙ turn .inv .0, omega (arith, l-loop-test .loop-test .taken), one-more (turn .nodes) (turn .r) (turn .inv .0) (l-loop-test .loop-test .taken) (turn .inv .2))
+    let so-far = c .before .loop in
+    (length-set (so-far .nodes) _ _ ∙ so-far .inv .0, omega (arith, c .loop-test .taken), one-more (so-far .nodes) (so-far .r) (so-far .inv .0) (c .loop-test .taken) (so-far .inv .2))
 
 returns : tie.Need-returns Inv-loop μ-loop
 unfolding record-of
 returns c =
-    let l-loop-test = c in
-    let l-loop = l-loop-test .before in
-    let e : l-loop .loop .r ≡ 32 = omega (arith, l-loop .loop .inv .1, l-loop-test .loop-test .left) in
-    ap (λ (l : List Node). record-of l 32) (is-first (l-loop .loop .nodes) (l-loop .loop .inv .0) (λ i h. l-loop .loop .inv .2 i (omega (arith, h, e))))
+    let end = c .before .loop in
+    let e : end .r ≡ 32 = omega (arith, end .inv .1, c .loop-test .left) in
+    ap (λ (l : List Node). record-of l 32) (is-first (end .nodes) (end .inv .0) (λ i h. end .inv .2 i (omega (arith, h, e))))
 
 pub initial-spec : {M : Type 1} → statement M
 initial-spec =

@@ -7,9 +7,7 @@ none-requires : tie.Need-none-requires
 none-requires c κs = search needs
 
 returns : tie.Need-returns
-returns c =
-    let l-none = c in
-    rw (l-none .none .ensures)
+returns c = rw (c .none .ensures)
 
 pub refused-spec : {M : Type 1} → statement M
 refused-spec = tie.close (tie.spec none-requires returns)
