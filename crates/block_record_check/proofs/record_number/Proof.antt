@@ -19,8 +19,11 @@ use Rattle.block_record_check.proofs.record_number.Tie as tie
 abbrev asked : tie.Start → Instruction
 asked s = let a = s .args in instruction (a .operation) (a .arrangement) (a .i) (a .d) (a .n) (a .m)
 
+abbrev entry : tie.Else1 → tie.Start
+entry c = c .before .before
+
 -- past the first test its form is accepted
-form-ok : (c : tie.Else1) → let a = c .before .before .args in 0 ≡ formNumber (a .operation) (a .arrangement) (a .i) 0
+form-ok : (c : tie.Else1) → let a = entry c .args in 0 ≡ formNumber (a .operation) (a .arrangement) (a .i) 0
 form-ok c = omega (arith, c .if1 .left, c .before .form-number .ensures)
 
 -- the place past the first test, seen from most_m's answer
@@ -28,10 +31,10 @@ abbrev formed-at : tie.After-most-m → tie.Else1
 formed-at c = c .before .before .before
 
 -- the second test is that of the registers
-registers-are : (c : tie.After-most-m) → let r = asked (formed-at c .before .before) in
+registers-are : (c : tie.After-most-m) → let r = asked (entry (formed-at c)) in
     registersOk r ≡ (leb (r .d) 31 && leb (r .n) 31 && leb (r .m) (c .most-m .result))
 registers-are c =
-    let r = asked (formed-at c .before .before) in
+    let r = asked (entry (formed-at c)) in
     let bits = c .before in
     let k = coded (r .operation) (r .arrangement) (r .i) 0 (sym (form-ok (formed-at c))) in
     let code = bits .before .form-code .ensures ∙ k .1 in
@@ -42,28 +45,24 @@ form-number-requires : tie.Need-form-number-requires
 form-number-requires c κs = search needs
 
 returns : tie.Need-returns
-returns c = by-form (asked (c .before .before)) (c .before .form-number .result) (c .if1 .taken) (c .before .form-number .ensures)
+returns c = by-form _ (c .before .form-number .result) (c .if1 .taken) (c .before .form-number .ensures)
 
 form-code-requires : tie.Need-form-code-requires
 form-code-requires c κs = search needs
 
 lane-bits-requires : tie.Need-lane-bits-requires
 lane-bits-requires c κs =
-    let r = asked (c .before .before .before) in
+    let r = asked (entry (c .before)) in
     formed (r .operation) (r .arrangement) (r .i) 0 (sym (form-ok (c .before))) .0 .arranged
 
 most-m-requires : tie.Need-most-m-requires
 most-m-requires c κs = search needs
 
 returns-2 : tie.Need-returns-2
-returns-2 c =
-    let form = formed-at (c .before) in
-    by-registers (asked (form .before .before)) 0 true (form-ok form) (registers-are (c .before) ∙ c .if2 .taken) refl
+returns-2 c = by-registers _ 0 true (form-ok (formed-at (c .before))) (registers-are (c .before) ∙ c .if2 .taken) refl
 
 returns-3 : tie.Need-returns-3
-returns-3 c =
-    let form = formed-at (c .before) in
-    by-registers (asked (form .before .before)) 7 false (form-ok form) (registers-are (c .before) ∙ c .if2 .left) refl
+returns-3 c = by-registers _ 7 false (form-ok (formed-at (c .before))) (registers-are (c .before) ∙ c .if2 .left) refl
 
 pub record-number-spec : {M : Type 1} → statement M
 record-number-spec =
