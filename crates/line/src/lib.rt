@@ -40,5 +40,5 @@ pub fn answer_line(pool: &mut [u64], line: &[u8], out: &mut [u8], at: usize) -> 
     }
     let map = answer.map;
     let node = map.get(numbers[3]);
-    put_term(pool, map.count, node.0, out, at)
+    put_term(pool, map.count, node, out, at)
 }

@@ -31,18 +31,18 @@ pub fn put_number(number: u64, out: &mut [u8], at: usize) -> usize
 
 // Writes the answer of an accepted record: 0 and the text of a node, or 9. The length is asked for, then the text is written. The pool begins
 // with the registers.
-pub fn put_term(pool: &[u64], count: usize, node: usize, out: &mut [u8], at: usize) -> usize
+pub fn put_term(pool: &[u64], count: usize, node: Node, out: &mut [u8], at: usize) -> usize
     requires { ⌜ poolOk (now pool) count ≡ true ⌝ }
-    requires { ⌜ (node < count) × Registers (now pool) ⌝ }
+    requires { ⌜ (node .0 < count) × Registers (now pool) ⌝ }
     requires { ⌜ at + answerRoom ≤ length (now out) ⌝ }
-    ensures { λ r. ⌜ Wrote (now (out .entry)) at (written (roomNumber (text (now (pool .entry)) node)) (text (now (pool .entry)) node)) r (now (out .exit)) ⌝ }
+    ensures { λ r. ⌜ Wrote (now (out .entry)) at (written (roomNumber (text (now (pool .entry)) (node .0))) (text (now (pool .entry)) (node .0))) r (now (out .exit)) ⌝ }
 {
-    let length = length_in_block(pool, Node(node), 65536);
+    let length = length_in_block(pool, node, 65536);
     if 65536 < length {
         return put_number(9, out, at);
     }
     let i = put_columns(0, out, at);
     let from = put(b" ", out, i);
-    let end = write_known(pool, Node(node), out, from);
+    let end = write_known(pool, node, out, from);
     put(b"\n", out, end)
 }

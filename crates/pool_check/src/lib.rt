@@ -35,7 +35,7 @@ fn node_ok(pool: &[u64], n: Node, plain: usize) -> bool
         return ite_ok(pool, n);
     }
     if Kind::ZERO_EXTEND <= kind {
-        if kind < 20 {
+        if kind <= Kind::SIGN_EXTEND {
             return extend_ok(pool, n);
         }
         return false;

@@ -21,9 +21,9 @@ ghost use Rattle.script_lane_meaning.specs.LaneScript.{laneScriptOf};
 ghost use Rattle.script_lane_text.specs.Lines.{constantLine, equationLine, linesAt, laneLines};
 
 // The line that declares the constant of a node of so many bits.
-fn put_declared(n: u64, width: u64, buf: &mut [u8], at: usize) -> usize
-    requires { ⌜ Room (now buf) at (constantLine n width) ⌝ }
-    ensures { λ e. ⌜ Wrote (now (buf .entry)) at (constantLine n width) e (now (buf .exit)) ⌝ }
+fn put_declared(n: Node, width: u64, buf: &mut [u8], at: usize) -> usize
+    requires { ⌜ Room (now buf) at (constantLine (n .0) width) ⌝ }
+    ensures { λ e. ⌜ Wrote (now (buf .entry)) at (constantLine (n .0) width) e (now (buf .exit)) ⌝ }
 {
     let i = put(b"(declare-const ", buf, at);
     let j = put_node_name(n, buf, i);
@@ -39,7 +39,7 @@ fn put_equation(p: &[u64], n: Node, k: u64, buf: &mut [u8], at: usize) -> usize
     ensures { λ e. ⌜ Wrote (now (buf .entry)) at (equationLine (now (p .entry)) (n .0)) e (now (buf .exit)) ⌝ }
 {
     let i = put(b"(assert (= ", buf, at);
-    let j = put_node_name(n.0 as u64, buf, i);
+    let j = put_node_name(n, buf, i);
     let l = put(b" ", buf, j);
     let m = put_term(p, n, k, buf, l);
     put(b"))\n", buf, m)
@@ -56,7 +56,7 @@ fn put_node(p: &[u64], n: Node, buf: &mut [u8], at: usize) -> usize
         return at;
     }
     let w = width_of(p, n);
-    let i = put_declared(n.0 as u64, w, buf, at);
+    let i = put_declared(n, w, buf, at);
     put_equation(p, n, k, buf, i)
 }
 

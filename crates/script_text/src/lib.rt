@@ -31,7 +31,7 @@ pub fn put_definition(p: &[u64], n: Node, buf: &mut [u8], at: usize) -> usize
     }
     let w = width_of(p, n);
     let i = put(b"(define-fun ", buf, at);
-    let j = put_node_name(n.0 as u64, buf, i);
+    let j = put_node_name(n, buf, i);
     let l = put(b" () ", buf, j);
     let m = put_sort(w, buf, l);
     let o = put(b" ", buf, m);

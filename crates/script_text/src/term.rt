@@ -54,12 +54,12 @@ fn put_binary(low: u64, high: u64, width: u64, buf: &mut [u8], at: usize) -> usi
 }
 
 // A node's own name, and a register's.
-pub fn put_node_name(n: u64, buf: &mut [u8], at: usize) -> usize
-    requires { ⌜ Room (now buf) at (nodeName n) ⌝ }
-    ensures { λ r. ⌜ Wrote (now (buf .entry)) at (nodeName n) r (now (buf .exit)) ⌝ }
+pub fn put_node_name(n: Node, buf: &mut [u8], at: usize) -> usize
+    requires { ⌜ Room (now buf) at (nodeName (n .0)) ⌝ }
+    ensures { λ r. ⌜ Wrote (now (buf .entry)) at (nodeName (n .0)) r (now (buf .exit)) ⌝ }
 {
     let i = put(b"n", buf, at);
-    put_number(n, buf, i)
+    put_number(n.0 as u64, buf, i)
 }
 
 // Bool, or (_ BitVec w).
@@ -92,7 +92,7 @@ pub fn put_name(p: &[u64], n: Node, buf: &mut [u8], at: usize) -> usize
     if kind_of(p, n) == Kind::VAR {
         return put_register_name(low(p, n), buf, at);
     }
-    put_node_name(n.0 as u64, buf, at)
+    put_node_name(n, buf, at)
 }
 
 // The function of a kind from 3 on.

@@ -11,8 +11,8 @@ use borrow.Author.Needs.{needs}
 use Rattle.line_output.proofs.put_term.Statement.{statement}
 use Rattle.line_output.proofs.put_term.Tie as tie
 
-whole : (s : tie.Start) → let a = s .args in Ready (a .pool .now) (a .node)
-whole s = let a = s .args in ready (a .pool .now) (a .count) (a .node) (s .pre .0) (s .pre .1 .0 .0)
+whole : (s : tie.Start) → let a = s .args in Ready (a .pool .now) (a .node .0)
+whole s = let a = s .args in ready (a .pool .now) (a .count) (a .node .0) (s .pre .0) (s .pre .1 .0 .0)
 
 abbrev start : tie.Else1 → tie.Start
 start c = c .before .before .before .before
@@ -29,7 +29,7 @@ abbrev spaced : tie.After-write-known → tie.After-put
 spaced t = t .before .before .before .before
 
 -- past the test the text has room
-roomy : (c : tie.Else1) → let a = start c .args in length (text (a .pool .now) (a .node)) ≤ textRoom
+roomy : (c : tie.Else1) → let a = start c .args in length (text (a .pool .now) (a .node .0)) ≤ textRoom
 roomy c = omega (arith, c .before .length-in-block .ensures, c .if1 .left)
 
 length-in-block-requires : tie.Need-length-in-block-requires
@@ -47,7 +47,7 @@ returns c =
     let long = told .before .before in
     let f = long .before in
     let a = f .before .before .before .args in
-    term-refused (text (a .pool .now) (a .node)) (omega (arith, f .length-in-block .ensures, long .if1 .taken)) (told .put-number .ensures)
+    term-refused (text (a .pool .now) (a .node .0)) (omega (arith, f .length-in-block .ensures, long .if1 .taken)) (told .put-number .ensures)
 
 put-columns-requires : tie.Need-put-columns-requires
 put-columns-requires c κs =
@@ -102,7 +102,7 @@ returns-2 c =
     let p = numbered q in
     let i = fitting p in
     let a = start i .args in
-    term-done (text (a .pool .now) (a .node)) (roomy i) (p .put-columns .ensures) (q .put .ensures) (t .write-known .ensures) (e .put2 .ensures)
+    term-done (text (a .pool .now) (a .node .0)) (roomy i) (p .put-columns .ensures) (q .put .ensures) (t .write-known .ensures) (e .put2 .ensures)
 
 pub put-term-spec : {M : Type 1} → statement M
 put-term-spec =

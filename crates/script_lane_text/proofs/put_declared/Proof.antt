@@ -41,10 +41,10 @@ before-5 c = c .before .before .before .before .before
 -- ---- the texts, and room for those that are left
 
 abbrev texts : tie.Start → List (List ℕ)
-texts s = bytes "(declare-const " ∷ nodeName (s .args .n) ∷ bytes " " ∷ show (sortBy (s .args .width)) ∷ bytes ")\n" ∷ []
+texts s = bytes "(declare-const " ∷ nodeName (s .args .n .0) ∷ bytes " " ∷ show (sortBy (s .args .width)) ∷ bytes ")\n" ∷ []
 
 room : (s : tie.Start) → Room (s .args .buf .now) (s .args .at) (together (texts s))
-room s = room-as (constant-is (s .args .n) (s .args .width)) (s .pre)
+room s = room-as (constant-is (s .args .n .0) (s .args .width)) (s .pre)
 
 room-1 : (c : tie.After-put) → Room (c .put .last .1 .0) (c .put .result) (left 1 (texts (entry-1 c)))
 room-1 c = room-step (c .put .ensures) (room (entry-1 c))
@@ -95,7 +95,7 @@ returns c =
     let w2 = before-3 w3 in
     let w1 = before-2 w2 in
     let s = entry-1 w1 in
-    wrote-as (constant-is (s .args .n) (s .args .width))
+    wrote-as (constant-is (s .args .n .0) (s .args .width))
     (wrote-then (w1 .put .ensures) (wrote-then (w2 .put-node-name .ensures) (wrote-then (w3 .put2 .ensures)
     (wrote-then (w4 .put-sort .ensures) (w5 .put3 .ensures)))))
 
