@@ -6,6 +6,10 @@ use borrow.Author.Needs.{needs}
 use Rattle.lower.proofs.arith.keep_lower.Statement.{statement}
 use Rattle.lower.proofs.arith.keep_lower.Tie as tie
 
+-- the entry, where the lower half is kept
+abbrev entry : tie.Then1 → tie.Start
+entry i = i .before .before
+
 mul-t12 : tie.Need-mul-t12
 mul-t12 c = search needs
 
@@ -14,9 +18,8 @@ sub-t13 c = search needs
 
 extract-collapsing-requires : tie.Need-extract-collapsing-requires
 extract-collapsing-requires c κs =
-    let l-if1 = c .before in
-    let st = l-if1 .before .before in
-    omega (arith, st .pre, st .pre .1 .1 (l-if1 .if1 .taken))
+    let p = entry (c .before) .pre in
+    omega (arith, p, p .1 .1 (c .before .if1 .taken))
 
 concat-requires : tie.Need-concat-requires
 concat-requires c κs = search needs
@@ -26,16 +29,16 @@ same-length c = search needs
 
 returns : tie.Need-returns
 returns c =
-    let l-concat = c .before .before in
-    let cut = l-concat .before .before .before .before in
-    let l-if1 = cut .before .before in
-    let st = l-if1 .before .before in
-    keep-yes (st .args .lane-bits) (st .args .lanes) (st .pre .1 .2) (st .pre .1 .3) (l-if1 .if1 .taken) (cut .extract-collapsing .ensures) (l-concat .concat .ensures)
+    let l = c .before .before in
+    let cut = l .before .before .before .before in
+    let keeps = cut .before .before in
+    let s = entry keeps in
+    keep-yes (s .args .lane-bits) (s .args .lanes) (s .pre .1 .2) (s .pre .1 .3) (keeps .if1 .taken) (cut .extract-collapsing .ensures) (l .concat .ensures)
 
 returns-2 : tie.Need-returns-2
 returns-2 c =
-    let st = c .before .before in
-    keep-no (st .args .lane-bits) (st .args .lanes) (c .if1 .left) (st .pre .1 .0) refl refl
+    let s = c .before .before in
+    keep-no (s .args .lane-bits) (s .args .lanes) (c .if1 .left) (s .pre .1 .0) refl refl
 
 pub keep-lower-spec : {M : Type 1} → statement M
 keep-lower-spec =
