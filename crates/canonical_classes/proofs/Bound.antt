@@ -8,22 +8,19 @@ use lib.Dec.{ltb}
 use lib.ListN.{getD}
 use lib.Pow.{mod-pow-add}
 use borrow.Author.Tests.{ltb-true, ltb-false, lt-ltb, le-ltb}
-use Rattle.pool.specs.Node.{aOf, bOf, cOf, wordAt, kindNumber}
+use Rattle.pool.specs.Node.{kindNumber}
+use Rattle.pool_fields.specs.Fields.{opA, opB, opC}
 use Rattle.pool_operands.specs.Operands.{hasA, hasB, hasC}
 use Rattle.canonical_classes.specs.declared.Key.{Key}
-use Rattle.canonical_classes.specs.Key.{classIf, keyOf, bucketOf, wayOf, rowOf, under, nextOf}
+use Rattle.canonical_classes.specs.Key.{classIf, keyOf, wayOf, rowOf, nextOf}
 use Rattle.canonical_classes.specs.Class.{Comes, Once, Kept, Bounded}
-use Rattle.canonical_classes.proofs.Search.{way-less, next-first, next-later}
+use Rattle.canonical_classes.proofs.Search.{bucket-less, way-less, next-first, next-later}
 
 -- ---- two keys that come to one slot
 
 pub record Agree (k k′ : Key) (level level′ : ℕ) : Type 0 where
   pub same : level ≡ level′
   pub ways : (i : ℕ) → 0 < i → i < level → wayOf k i ≡ wayOf k′ i
-
-bucket-less : (k : Key) → bucketOf k < 65536
-unfolding bucketOf
-bucket-less k = omega arith
 
 -- where a slot stands tells the level
 first-slot : (k : Key) (m l : ℕ) → l ≡ 0 → (65536 ≤ nextOf k m l) × (nextOf k m l < 131072)
@@ -155,12 +152,11 @@ key-small : (ws class : List ℕ) (m : ℕ) → ((i : ℕ) → getD ws i 0 < 184
 unfolding keyOf
 key-small ws class m words shorts =
     let kind = kindNumber ws m in
-    let w1 = wordAt ws m 1 in
     record {
       word-less = words (4 * m);
-      a-less = small-if (hasA kind) class (aOf w1) shorts;
-      b-less = small-if (hasB kind) class (bOf w1) shorts;
-      c-less = small-if (hasC kind) class (cOf w1 % 65536) shorts;
+      a-less = small-if (hasA kind) class (opA ws m) shorts;
+      b-less = small-if (hasB kind) class (opB ws m) shorts;
+      c-less = small-if (hasC kind) class (opC ws m) shorts;
       x-less = words (4 * m + 2);
       y-less = words (4 * m + 3);
     }

@@ -3,7 +3,7 @@ use mathlib.Core.Path.{_≡_, refl, sym, ap, _∙_, subst}
 use mathlib.Core.Bool.{Bool, true, false, _&&_, false≢true}
 use mathlib.Core.List.{List, []}
 use mathlib.Core.Logic.{⊎-elim}
-use Prim.Native.Nat.{ℕ, _+_, _*_, _%_, _≤_, _<_}
+use Prim.Native.Nat.{ℕ, _+_, _*_, _≤_, _<_}
 use native.Mathlib.Omega.{arith}
 use lib.Dec.{ltb, leb, eqb}
 use lib.ListN.{getD}
@@ -11,7 +11,7 @@ use borrow.Author.Tests.{lt-ltb, eqb-true}
 use Rattle.facts.proofs.Tests.{and-both}
 use Rattle.terms.specs.Expr.{Expr, width}
 use Rattle.terms.specs.Registers.{registers}
-use Rattle.pool.specs.Node.{Kind, bad, var, const, bv, compare, ite, extract, concat, zext, sext, kindAt, codeOf, Cell, cellAt, wide, widthAt, setAt, kindWord, kindNumber}
+use Rattle.pool.specs.Node.{Kind, bad, var, const, bv, compare, ite, extract, concat, zext, sext, kindAt, codeOf, Cell, cellAt, widthAt, setAt, kindWord, kindNumber}
 use Rattle.pool.specs.Rules.{wideOk, okKind, widthBefore, Valid}
 use Rattle.pool.specs.Unfold.{shapeOf, unfoldAt}
 use Rattle.pool.proofs.Facts.{kind-code, valid-node}
@@ -137,7 +137,7 @@ module _ (ws : List ℕ) (count : ℕ) (v : Valid ws count) (words : (i : ℕ) �
 
   -- ---- keys over the classes of the nodes before N
 
-  module _ (N : ℕ) (class : List ℕ) (C : Classes ws N class) (count≤ : count ≤ 65535) where
+  module _ (N : ℕ) (class : List ℕ) (C : Classes ws N class) where
     -- an operand's class goes by its tree
     class-tree : (p q : ℕ) → p < N → q < N → getD class p 0 ≡ getD class q 0 → unfoldAt ws p ≡ unfoldAt ws q
     class-tree p q f g e = sym (C .tree p f) ∙ ap (unfoldAt ws) e ∙ C .tree q g
@@ -149,9 +149,6 @@ module _ (ws : List ℕ) (count : ℕ) (v : Valid ws count) (words : (i : ℕ) �
     both-if : (b : Bool) (p q : ℕ) → (b ≡ true → getD class p 0 ≡ getD class q 0) → classIf b class p ≡ classIf b class q
     both-if true p q e = e refl
     both-if false p q e = refl
-
-    small : (c : ℕ) → c < 65536 → c % 65536 ≡ c
-    small c h = omega arith
 
     -- m and n may have operands below N only
     pub key-tree : (m n : ℕ) → m < count → n < count → m ≤ N → n ≤ N → keyOf ws class m ≡ keyOf ws class n → unfoldAt ws m ≡ unfoldAt ws n
@@ -166,7 +163,7 @@ module _ (ws : List ℕ) (count : ℕ) (v : Valid ws count) (words : (i : ℕ) �
         let κ : kindIn ws m ≡ kindIn ws n = ap kindAt kn in
         let ea : classIf (hasA (kindNumber ws m)) class (k .a) ≡ classIf (hasA (kindNumber ws n)) class (l .a) = ap (λ (k : Key). k .a) e in
         let eb : classIf (hasB (kindNumber ws m)) class (k .b) ≡ classIf (hasB (kindNumber ws n)) class (l .b) = ap (λ (k : Key). k .b) e in
-        let ec : classIf (hasC (kindNumber ws m)) class (k .c % 65536) ≡ classIf (hasC (kindNumber ws n)) class (l .c % 65536) = ap (λ (k : Key). k .c) e in
+        let ec : classIf (hasC (kindNumber ws m)) class (k .c) ≡ classIf (hasC (kindNumber ws n)) class (l .c) = ap (λ (k : Key). k .c) e in
         let less : Earlier (kindIn ws n) m k = subst (λ (κ : Kind). Earlier κ m k) κ (rm .less) in
         let oa : (h : hasA (codeOf (kindIn ws n)) ≡ true) → unfoldAt ws (k .a) ≡ unfoldAt ws (l .a) = λ h.
         let am : k .a < m = less .a-less h in
@@ -179,8 +176,7 @@ module _ (ws : List ℕ) (count : ℕ) (v : Valid ws count) (words : (i : ℕ) �
         let oc : (h : hasC (codeOf (kindIn ws n)) ≡ true) → unfoldAt ws (k .c) ≡ unfoldAt ws (l .c) = λ h.
         let am : k .c < m = less .c-less h in
         let an : l .c < n = rn .less .c-less h in
-        class-tree (k .c) (l .c) (omega arith) (omega arith)
-        (if-both (hasC (kindNumber ws n)) (k .c) (l .c) (rw (kn, small (k .c) (omega arith), small (l .c) (omega arith)) at ec) (rw (rn .code) h)) in
+        class-tree (k .c) (l .c) (omega arith) (omega arith) (if-both (hasC (kindNumber ws n)) (k .c) (l .c) (rw kn at ec) (rw (rn .code) h)) in
         let ww : k .width ≡ l .width = rw w in
         let xx : k .x ≡ l .x = ap (λ (k : Key). k .x) e in
         let yy : k .y ≡ l .y = ap (λ (k : Key). k .y) e in
@@ -222,15 +218,14 @@ module _ (ws : List ℕ) (count : ℕ) (v : Valid ws count) (words : (i : ℕ) �
         let am : k .b < m = less .b-less g in
         let an : l .b < n = rn .less .b-less g in
         C .one (k .b) (l .b) (omega arith) (omega arith) (sym (pm .b-is g) ∙ ap (λ (t : Expr). at (parts t) 1) e ∙ pn .b-is g))) in
-        let fc : classIf (hasC (kindNumber ws m)) class (k .c % 65536) ≡ classIf (hasC (kindNumber ws n)) class (l .c % 65536) =
+        let fc : classIf (hasC (kindNumber ws m)) class (k .c) ≡ classIf (hasC (kindNumber ws n)) class (l .c) =
         rw kn
-        (both-if (hasC (kindNumber ws n)) (k .c % 65536) (l .c % 65536)
+        (both-if (hasC (kindNumber ws n)) (k .c) (l .c)
         (λ h.
         let g : hasC (codeOf (kindIn ws n)) ≡ true = rw (rn .code) at h in
         let am : k .c < m = less .c-less g in
         let an : l .c < n = rn .less .c-less g in
-        rw (small (k .c) (omega arith), small (l .c) (omega arith))
-        (C .one (k .c) (l .c) (omega arith) (omega arith) (sym (pm .c-is g) ∙ ap (λ (t : Expr). at (parts t) 2) e ∙ pn .c-is g)))) in
+        C .one (k .c) (l .c) (omega arith) (omega arith) (sym (pm .c-is g) ∙ ap (λ (t : Expr). at (parts t) 2) e ∙ pn .c-is g))) in
         let xx : k .x ≡ l .x = rm .x-is ∙ ap (λ (t : Expr). cellIn [] t .x) e ∙ sym (rn .x-is) in
         let yy : k .y ≡ l .y = rm .y-is ∙ ap (λ (t : Expr). cellIn [] t .y) e ∙ sym (rn .y-is) in
         λ i. record { word = w i; a = fa i; b = fb i; c = fc i; x = xx i; y = yy i }

@@ -2,7 +2,7 @@
 use mathlib.Core.Path.{_≡_, refl, sym, ap, _∙_, subst}
 use mathlib.Core.Bool.{Bool, true, false, false≢true}
 use mathlib.Core.List.{List}
-use Prim.Native.Nat.{ℕ, zero, suc, _+_, _-_, _*_, _%_, _≤_, _<_}
+use Prim.Native.Nat.{ℕ, zero, suc, _+_, _-_, _*_, _≤_, _<_}
 use native.Mathlib.Omega.{arith}
 use native.Mathlib.Numerals.{add-one}
 use lib.ListN.{getD}
@@ -10,9 +10,10 @@ use lib.Dec.{ltb}
 use borrow.Author.Tests.{eqb-true, eq-eqb, ne-eqb, ltb-true, ltb-false}
 use Rattle.facts.proofs.Tests.{and-both}
 use Rattle.canonical_classes.specs.declared.Key.{Key}
-use Rattle.pool.specs.Node.{wordAt, kindNumber, aOf, bOf, cOf}
+use Rattle.pool.specs.Node.{wordAt, kindNumber}
+use Rattle.pool_fields.specs.Fields.{opA, opB, opC}
 use Rattle.pool_operands.specs.Operands.{hasA, hasB, hasC}
-use Rattle.canonical_classes.specs.Key.{classIf, keyOf, sameKey, bucketOf, wayOf, spreadOf, under, nextOf}
+use Rattle.canonical_classes.specs.Key.{classIf, keyOf, sameKey, bucketOf, wayOf, under, nextOf}
 use Rattle.canonical_classes.specs.Class.{On, Comes, Holds, Low, Rises}
 
 -- ---- keys
@@ -48,8 +49,8 @@ keys-differ k l h e = false≢true (sym h ∙ ap (sameKey k) (sym e) ∙ same-se
 
 -- a key from its parts
 pub key-made : (ws class : List ℕ) (n kind a b c ca cb cc x y : ℕ) (p q r : Bool) → kind ≡ kindNumber ws n → p ≡ hasA kind → q ≡ hasB kind → r ≡ hasC kind
-    → a ≡ aOf (wordAt ws n 1) → b ≡ bOf (wordAt ws n 1) → c ≡ cOf (wordAt ws n 1)
-    → ca ≡ classIf p class a → cb ≡ classIf q class b → cc ≡ classIf r class (c % 65536)
+    → a ≡ opA ws n → b ≡ opB ws n → c ≡ opC ws n
+    → ca ≡ classIf p class a → cb ≡ classIf q class b → cc ≡ classIf r class c
     → x ≡ wordAt ws n 2 → y ≡ wordAt ws n 3
     → _≡_ {A = Key} (record { word = getD ws (4 * n) 0; a = ca; b = cb; c = cc; x = x; y = y }) (keyOf ws class n)
 unfolding keyOf
@@ -59,10 +60,14 @@ key-made ws class n kind a b c ca cb cc x y p q r ek ep eq er ea eb ec fa fb fc 
     let hr : r ≡ hasC (kindNumber ws n) = er ∙ ap hasC ek in
     let ga = fa ∙ (λ i. classIf (hp i) class (ea i)) in
     let gb = fb ∙ (λ i. classIf (hq i) class (eb i)) in
-    let gc = fc ∙ (λ i. classIf (hr i) class (ec i % 65536)) in
+    let gc = fc ∙ (λ i. classIf (hr i) class (ec i)) in
     λ i. record { word = getD ws (4 * n) 0; a = ga i; b = gb i; c = gc i; x = ex i; y = ey i }
 
 -- ---- the slots of a key
+
+pub bucket-less : (k : Key) → bucketOf k < 65536
+unfolding bucketOf
+bucket-less k = omega arith
 
 pub way-less : (k : Key) (level : ℕ) → wayOf k level < 2
 unfolding wayOf
@@ -104,28 +109,30 @@ pub comes-holds : (slots new : List ℕ) (k : Key) → Holds slots new → {s le
 comes-holds slots new k h (Comes.start e z) = Comes.start e z
 comes-holds slots new k h (Comes.on {t = t} {m = m} c d e z) = Comes.on (comes-holds slots new k h c) (h t m d) e z
 
+-- no slot past those of the nodes with a link
+pub comes-less : (slots : List ℕ) (n : ℕ) → Low slots n → (k : Key) {s level : ℕ} → Comes slots k s level → s < 131072 + 2 * n
+comes-less slots n low k (Comes.start e z) = omega (arith, e, bucket-less k)
+comes-less slots n low k (Comes.on {t = t} {l = l} {m = m} c d e z) = omega (arith, e, next-less k m l, low t, d)
+
 -- where the search for k stands: all that it has to meet is yet to come, and what is met from here on is met from the bucket
-pub record Searching (ws class slots : List ℕ) (n : ℕ) (k : Key) (slot level : ℕ) : Type 0 where
-  pub slot-less : slot < 131072 + 2 * n
+pub record Searching (ws class slots : List ℕ) (k : Key) (slot level : ℕ) : Type 0 where
   pub deeper : 0 < getD slots slot 0 → level ≤ getD slots slot 0
   pub comes : Comes slots k slot level
   pub left : (j : ℕ) → On slots k (bucketOf k) 0 j → keyOf ws class j ≡ k → On slots k slot level j
   pub back : (new : List ℕ) → Holds slots new → (j : ℕ) → On new k slot level j → On new k (bucketOf k) 0 j
 
-pub search-first : (ws class slots : List ℕ) (n : ℕ) (k : Key) → bucketOf k < 65536 → Searching ws class slots n k (bucketOf k) 0
-search-first ws class slots n k h =
-    record { slot-less = omega arith; deeper = λ p. omega arith; comes = Comes.start refl refl; left = λ j o e. o; back = λ new g j o. o }
+pub search-first : (ws class slots : List ℕ) (k : Key) → Searching ws class slots k (bucketOf k) 0
+search-first ws class slots k =
+    record { deeper = λ p. omega arith; comes = Comes.start refl refl; left = λ j o e. o; back = λ new g j o. o }
 
-module _ (ws class slots : List ℕ) (n : ℕ) (k : Key) where
+module _ (ws class slots : List ℕ) (k : Key) where
   -- past node m, which has another key
-  pub search-next : Low slots n → Rises slots → (slot level m : ℕ) → getD slots slot 0 ≡ suc m → sameKey (keyOf ws class m) k ≡ false
-      → Searching ws class slots n k slot level
-      → Searching ws class slots n k (nextOf k m level) (level + 1)
-  search-next low rises slot level m e d S =
-      let l : suc m ≤ n = rw e at (low slot) in
+  pub search-next : Rises slots → (slot level m : ℕ) → getD slots slot 0 ≡ suc m → sameKey (keyOf ws class m) k ≡ false
+      → Searching ws class slots k slot level
+      → Searching ws class slots k (nextOf k m level) (level + 1)
+  search-next rises slot level m e d S =
       let z : level + 1 ≡ suc level = add-one level in
       record {
-        slot-less = omega (arith, next-less k m level, l);
         deeper = λ p. deep (ltb 0 level) refl p;
         comes = Comes.on (S .comes) e refl z;
         left = λ j o f.
@@ -137,7 +144,7 @@ module _ (ws class slots : List ℕ) (n : ℕ) (k : Key) where
       deep true h p = omega (arith, next-rises slots rises k m level (ltb-true 0 level h) p, S .deeper (omega (arith, e)), e)
       deep false h p = omega (arith, ltb-false 0 level h, p)
 
-  pub search-none : (slot level : ℕ) → getD slots slot 0 ≡ 0 → Searching ws class slots n k slot level → (j : ℕ) → On slots k (bucketOf k) 0 j → keyOf ws class j ≡ k → ⊥
+  pub search-none : (slot level : ℕ) → getD slots slot 0 ≡ 0 → Searching ws class slots k slot level → (j : ℕ) → On slots k (bucketOf k) 0 j → keyOf ws class j ≡ k → ⊥
   search-none slot level z S j o e = on-free slots k slot level j z (S .left j o e)
 
 -- what falls: from the first table to the second, and then links rise, of which there are no more than 65,535

@@ -2,7 +2,7 @@
 use mathlib.Core.Path.{_≡_, refl, sym, ap, _∙_, subst}
 use mathlib.Core.Bool.{Bool, true, false}
 use mathlib.Core.List.{List}
-use Prim.Native.Nat.{ℕ, zero, suc, _+_, _*_, _%_, _≤_, _<_}
+use Prim.Native.Nat.{ℕ, zero, suc, _+_, _*_, _≤_, _<_}
 use native.Mathlib.Omega.{arith}
 use native.Mathlib.Numerals.{add-one}
 use lib.Dec.{ltb, eqb}
@@ -74,8 +74,8 @@ module _ (ws : List ℕ) (count : ℕ) (v : Valid ws count) (words : (i : ℕ) �
         (λ e. let l : k .a < m = r .less .a-less (rw (r .code) at e) in getD-set-other class n (k .a) x 0 (omega arith)) in
         let fb = if-same (hasB (kindNumber ws m)) (set class n x) class (k .b)
         (λ e. let l : k .b < m = r .less .b-less (rw (r .code) at e) in getD-set-other class n (k .b) x 0 (omega arith)) in
-        let fc = if-same (hasC (kindNumber ws m)) (set class n x) class (k .c % 65536)
-        (λ e. let l : k .c < m = r .less .c-less (rw (r .code) at e) in getD-set-other class n (k .c % 65536) x 0 (omega arith)) in
+        let fc = if-same (hasC (kindNumber ws m)) (set class n x) class (k .c)
+        (λ e. let l : k .c < m = r .less .c-less (rw (r .code) at e) in getD-set-other class n (k .c) x 0 (omega arith)) in
         λ i. record { word = getD ws (4 * m) 0; a = fa i; b = fb i; c = fc i; x = k .x; y = k .y }
 
     at-n : (x : ℕ) → getD (set class n x) n 0 ≡ x
@@ -111,7 +111,7 @@ module _ (ws : List ℕ) (count : ℕ) (v : Valid ws count) (words : (i : ℕ) �
     kept-old q h e =
         let c = getD class q 0 in
         let le : c ≤ q = K .classes .first q h in
-        let same : unfoldAt ws q ≡ unfoldAt ws n = key-tree ws count v words n class (K .classes) count≤ q n (omega arith) here (omega arith) (omega arith) e in
+        let same : unfoldAt ws q ≡ unfoldAt ws n = key-tree ws count v words n class (K .classes) q n (omega arith) here (omega arith) (omega arith) e in
         record {
           class-long = simp length-set (K .class-long);
           slots-long = K .slots-long;
@@ -139,7 +139,7 @@ module _ (ws : List ℕ) (count : ℕ) (v : Valid ws count) (words : (i : ℕ) �
         let q = getD class p 0 in
         let lq : q ≤ p = K .classes .first p l in
         let kq : keyOf ws class q ≡ keyOf ws class n =
-        tree-key ws count v words n class (K .classes) count≤ q n (omega arith) here (omega arith) (omega arith) (K .classes .tree p l ∙ e) in
+        tree-key ws count v words n class (K .classes) q n (omega arith) here (omega arith) (omega arith) (K .classes .tree p l ∙ e) in
         F .missed z q (rw (← kq) (K .ways q (omega arith) (own-class p l))) kq in
         let comes : (s m : ℕ) → m ≤ n → Reached slots (keyOf ws class m) s → Reached slots′ (keyOf ws (set class n n) m) s = λ s m l r.
         rw (key-stays n m l) (r .0, comes-holds slots slots′ (keyOf ws class m) holds (r .1)) in

@@ -4,7 +4,8 @@ use mathlib.Core.List.{List}
 use Prim.Native.Nat.{ℕ, _+_, _*_, _/_, _%_, _^_}
 use lib.Dec.{ltb, eqb}
 use lib.ListN.{getD}
-use Rattle.pool.specs.Node.{aOf, bOf, cOf, wordAt, kindNumber}
+use Rattle.pool.specs.Node.{wordAt, kindNumber}
+use Rattle.pool_fields.specs.Fields.{opA, opB, opC}
 use Rattle.pool_operands.specs.Operands.{hasA, hasB, hasC}
 use Rattle.canonical_classes.specs.declared.Key.{Key}
 
@@ -13,13 +14,12 @@ classIf there class m = cond there (getD class m 0) 0
 
 unfoldable pub keyOf : List ℕ → List ℕ → ℕ → Key
 keyOf ws class n =
-    let w1 = wordAt ws n 1 in
     let kind = kindNumber ws n in
     record {
       word = getD ws (4 * n) 0;
-      a = classIf (hasA kind) class (aOf w1);
-      b = classIf (hasB kind) class (bOf w1);
-      c = classIf (hasC kind) class (cOf w1 % 65536);
+      a = classIf (hasA kind) class (opA ws n);
+      b = classIf (hasB kind) class (opB ws n);
+      c = classIf (hasC kind) class (opC ws n);
       x = wordAt ws n 2;
       y = wordAt ws n 3;
     }

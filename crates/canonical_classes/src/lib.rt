@@ -13,6 +13,7 @@ ghost use mathlib.Core.Path.{_≡_};
 ghost use Prim.Native.Nat.{_+_, _*_, _≤_, _<_};
 ghost use lib.ListN.{length, getD};
 ghost use Rattle.pool.specs.Rules.{Valid};
+ghost use Rattle.pool_fields.specs.Fields.{opC};
 ghost use Rattle.canonical_classes.specs.Key.{classIf, keyOf, sameKey, mixOf, bucketOf, otherMixOf, spreadOf, rowOf, wayOf, nextOf};
 ghost use Rattle.canonical_classes.specs.Class.{Empty, Low, Rises, Found, Classes, Long, Laid, Linked, Kept, slotsOf};
 
@@ -52,19 +53,17 @@ fn class_if(there: bool, class: &[u16; 65536], m: Node) -> u64
 }
 
 fn key_of(pool: &[u64], class: &[u16; 65536], n: Node) -> Key
-    requires { ⌜ 4 * n .0 + 3 < length (now pool) ⌝ }
+    requires { ⌜ (4 * n .0 + 3 < length (now pool)) × (opC (now pool) (n .0) < 65536) ⌝ }
     ensures { λ r. ⌜ (r ≡ keyOf (now (pool .entry)) (now (class .entry)) (n .0)) × (r .a < 65536) × (r .b < 65536) × (r .c < 65536) ⌝ }
 {
     let at = 4 * n.0;
     let word = pool[at];
     let kind = kind_of(pool, n);
-    // the third operand of a valid pool's node is below 65,536
-    let m = Node(third(pool, n).0 % 65536);
     Key {
         word,
         a: class_if(has_a(kind), class, first(pool, n)),
         b: class_if(has_b(kind), class, second(pool, n)),
-        c: class_if(has_c(kind), class, m),
+        c: class_if(has_c(kind), class, third(pool, n)),
         x: low(pool, n),
         y: high(pool, n),
     }
@@ -137,14 +136,14 @@ fn way(k: Key, spread: u64, level: u64) -> usize
 }
 
 // The slot to go on to from node m, which has another key.
-fn next(k: Key, spread: u64, m: usize, level: u64) -> usize
-    requires { ⌜ (k .a < 65536) × (k .b < 65536) × (k .c < 65536) × (spread ≡ spreadOf k) × (m < 65535) ⌝ }
-    ensures { λ r. ⌜ (r ≡ nextOf k m level) × (r < 131072 + 2 * (m + 1)) ⌝ }
+fn next(k: Key, spread: u64, m: Node, level: u64) -> usize
+    requires { ⌜ (k .a < 65536) × (k .b < 65536) × (k .c < 65536) × (spread ≡ spreadOf k) × (m .0 < 65535) ⌝ }
+    ensures { λ r. ⌜ (r ≡ nextOf k (m .0) level) × (r < 131072 + 2 * (m .0 + 1)) ⌝ }
 {
     if level == 0 {
         return 65536 + (spread / 1048576 % 65536) as usize;
     }
-    131072 + 2 * m + way(k, spread, level)
+    131072 + 2 * m.0 + way(k, spread, level)
 }
 
 // The link in a slot.
@@ -167,12 +166,12 @@ fn set_link(
     second: &mut [u16; 65536],
     ways: &mut [u16; 131072],
     slot: usize,
-    n: usize,
+    n: Node,
 )
-    requires { ⌜ Laid (now first) (now second) (now ways) × (slot < 262144) × (n < 65535) ⌝ }
-    ensures { λ r. ⌜ Linked (now (first .entry)) (now (second .entry)) (now (ways .entry)) slot n (now (first .exit)) (now (second .exit)) (now (ways .exit)) ⌝ }
+    requires { ⌜ Laid (now first) (now second) (now ways) × (slot < 262144) × (n .0 < 65535) ⌝ }
+    ensures { λ r. ⌜ Linked (now (first .entry)) (now (second .entry)) (now (ways .entry)) slot (n .0) (now (first .exit)) (now (second .exit)) (now (ways .exit)) ⌝ }
 {
-    let link = (n + 1) as u16;
+    let link = (n.0 + 1) as u16;
     if slot < 65536 {
         first[slot] = link;
         return;
@@ -198,20 +197,20 @@ fn find(
     first: &[u16; 65536],
     second: &[u16; 65536],
     ways: &[u16; 131072],
-    n: usize,
+    n: Node,
 ) -> Place
-    requires { ⌜ (4 * (n + 1) ≤ length (now pool)) × (n < 65535) × Laid (now first) (now second) (now ways) ⌝ }
-    requires { ⌜ Low (slotsOf (now first) (now second) (now ways)) n × Rises (slotsOf (now first) (now second) (now ways)) ⌝ }
-    ensures { λ r. ⌜ Found (now (pool .entry)) (now (class .entry)) (slotsOf (now (first .entry)) (now (second .entry)) (now (ways .entry))) n r ⌝ }
+    requires { ⌜ (Valid (now pool) (n .0 + 1)) × (4 * (n .0 + 1) ≤ length (now pool)) × (n .0 < 65535) × Laid (now first) (now second) (now ways) ⌝ }
+    requires { ⌜ Low (slotsOf (now first) (now second) (now ways)) (n .0) × Rises (slotsOf (now first) (now second) (now ways)) ⌝ }
+    ensures { λ r. ⌜ Found (now (pool .entry)) (now (class .entry)) (slotsOf (now (first .entry)) (now (second .entry)) (now (ways .entry))) (n .0) r ⌝ }
 {
-    let k = key_of(pool, class, Node(n));
+    let k = key_of(pool, class, n);
     let spread = spread(k);
     let mut slot = bucket(k);
     let mut level = 0;
     let mut link = link_at(first, second, ways, slot);
     while 0 < link {
-        let m = link - 1;
-        if same(key_of(pool, class, Node(m)), k) {
+        let m = Node(link - 1);
+        if same(key_of(pool, class, m), k) {
             return Place { link, slot };
         }
         slot = next(k, spread, m, level);
@@ -224,25 +223,26 @@ fn find(
 // The class of node n, the nodes below it having theirs.
 fn class_one(
     pool: &[u64],
-    n: usize,
+    n: Node,
     class: &mut [u16; 65536],
     first: &mut [u16; 65536],
     second: &mut [u16; 65536],
     ways: &mut [u16; 131072],
 )
-    requires { ⌜ (Valid (now pool) (n + 1)) × (4 * (n + 1) ≤ length (now pool)) × (n < 65535) × Laid (now first) (now second) (now ways) ⌝ }
-    requires { ⌜ Kept (now pool) n (now class) (slotsOf (now first) (now second) (now ways)) ⌝ }
+    requires { ⌜ (Valid (now pool) (n .0 + 1)) × (4 * (n .0 + 1) ≤ length (now pool)) × (n .0 < 65535) × Laid (now first) (now second) (now ways) ⌝ }
+    requires { ⌜ Kept (now pool) (n .0) (now class) (slotsOf (now first) (now second) (now ways)) ⌝ }
     ensures { λ r. ⌜ Laid (now (first .exit)) (now (second .exit)) (now (ways .exit)) ⌝ }
-    ensures { λ r. ⌜ Kept (now (pool .entry)) (n + 1) (now (class .exit)) (slotsOf (now (first .exit)) (now (second .exit)) (now (ways .exit))) ⌝ }
+    ensures { λ r. ⌜ Kept (now (pool .entry)) (n .0 + 1) (now (class .exit)) (slotsOf (now (first .exit)) (now (second .exit)) (now (ways .exit))) ⌝ }
 {
+    let at = n.0;
     let place = find(pool, class, first, second, ways, n);
     let link = place.link;
     let slot = place.slot;
     if 0 < link {
-        class[n] = class[link - 1];
+        class[at] = class[link - 1];
         return;
     }
-    class[n] = n as u16;
+    class[at] = at as u16;
     set_link(first, second, ways, slot, n);
 }
 
@@ -262,7 +262,7 @@ pub fn classes(
 {
     let mut n = 0;
     while n < count {
-        class_one(pool, n, class, first, second, ways);
+        class_one(pool, Node(n), class, first, second, ways);
         n += 1;
     }
 }

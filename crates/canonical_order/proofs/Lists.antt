@@ -2,14 +2,15 @@
 use mathlib.Core.Path.{_≡_, refl, sym, ap, _∙_}
 use mathlib.Core.Bool.{Bool, true, false, cond}
 use mathlib.Core.List.{List, [], _∷_, _++_}
-use Prim.Native.Nat.{ℕ, zero, suc, _+_, _%_, _≤_, _<_}
+use Prim.Native.Nat.{ℕ, zero, suc, _+_, _≤_, _<_}
 use native.Mathlib.Omega.{arith}
 use lib.Dec.{eqb, ltb}
 use lib.ListN.{length, getD, set, length-append, List·getD-append}
 use lib.Seq.{getD-set-same, getD-set-other}
 use borrow.Author.Tests.{eq-eqb, eqb-true, eqb-false, ltb-true, ltb-false}
 use Rattle.terms.specs.Expr.{Expr, Var}
-use Rattle.pool.specs.Node.{aOf, bOf, cOf, wordAt, kindNumber}
+use Rattle.pool.specs.Node.{kindNumber, none}
+use Rattle.pool_fields.specs.Fields.{opA, opB, opC}
 use Rattle.pool.specs.Unfold.{unfoldAt}
 use Rattle.pool_operands.specs.Operands.{hasA, hasB, hasC}
 use Rattle.canonical.specs.Order.{walk, addAll}
@@ -118,23 +119,24 @@ none-some number (suc n) m h e = go (λ g. none-some number n m g e) (eqb m n) r
     go r false q = let p : m ≡ n → ⊥ = eqb-false m n q in omega (arith, r (omega arith))
 
 -- ---- the first operand without a number, from its parts
-pub open-made : (ws class number : List ℕ) (n kind : ℕ) (p q r : Bool) (a b c ca cb cc x y z : ℕ) → kind ≡ kindNumber ws n → p ≡ hasA kind → q ≡ hasB kind → r ≡ hasC kind
-    → a ≡ aOf (wordAt ws n 1)
-    → b ≡ bOf (wordAt ws n 1)
-    → c ≡ cOf (wordAt ws n 1)
+pub open-made : (ws class number : List ℕ) (n kind : ℕ) (p q r : Bool) (a b c ca cb cc w x y z : ℕ) → kind ≡ kindNumber ws n → p ≡ hasA kind → q ≡ hasB kind → r ≡ hasC kind
+    → a ≡ opA ws n
+    → b ≡ opB ws n
+    → c ≡ opC ws n
     → ca ≡ getD class a 0
     → cb ≡ getD class b 0
-    → cc ≡ getD class (c % 65536) 0
-    → x ≡ pick r cc number 65535
+    → cc ≡ getD class c 0
+    → w ≡ none
+    → x ≡ pick r cc number w
     → y ≡ pick q cb number x
     → z ≡ pick p ca number y
     → z ≡ nextOpen ws class number n
 unfolding nextOpen
-open-made ws class number n kind p q r a b c ca cb cc x y z ek ep eq er ea eb ec ga gb gc ex ey ez =
+open-made ws class number n kind p q r a b c ca cb cc w x y z ek ep eq er ea eb ec ga gb gc ew ex ey ez =
     let ha : p ≡ hasA (kindNumber ws n) = ep ∙ ap hasA ek in
     let hb : q ≡ hasB (kindNumber ws n) = eq ∙ ap hasB ek in
     let hc : r ≡ hasC (kindNumber ws n) = er ∙ ap hasC ek in
     let fa : ca ≡ classA ws class n = ga ∙ (λ i. getD class (ea i) 0) in
     let fb : cb ≡ classB ws class n = gb ∙ (λ i. getD class (eb i) 0) in
-    let fc : cc ≡ classC ws class n = gc ∙ (λ i. getD class (ec i % 65536) 0) in
-    ez ∙ (λ i. pick (ha i) (fa i) number ((ey ∙ (λ i. pick (hb i) (fb i) number ((ex ∙ (λ i. pick (hc i) (fc i) number 65535)) i))) i))
+    let fc : cc ≡ classC ws class n = gc ∙ (λ i. getD class (ec i) 0) in
+    ez ∙ (λ i. pick (ha i) (fa i) number ((ey ∙ (λ i. pick (hb i) (fb i) number ((ex ∙ (λ i. pick (hc i) (fc i) number (ew i))) i))) i))

@@ -3,7 +3,7 @@ use mathlib.Core.Path.{_≡_, refl, sym, ap, _∙_, subst}
 use mathlib.Core.Bool.{Bool, true, false, cond, false≢true}
 use mathlib.Core.List.{List, [], _∷_, _++_}
 use mathlib.Core.Logic.{_⊎_, inl, inr, ⊎-elim}
-use Prim.Native.Nat.{ℕ, _+_, _%_, _≤_, _<_}
+use Prim.Native.Nat.{ℕ, _+_, _≤_, _<_}
 use native.Mathlib.Omega.{arith}
 use lib.Dec.{eqb}
 use lib.ListN.{getD}
@@ -149,7 +149,7 @@ pub record Opens (ws class number : List ℕ) (l : List Expr) (n m : ℕ) : Type
 abbrev pub Turned : (ws class number : List ℕ) → List Expr → (n m : ℕ) → Type 0
 Turned ws class number l n m = (Ready ws class number n × (m ≡ 65535)) ⊎ Opens ws class number l n m
 
-module _ (ws class number : List ℕ) (root : ℕ) (C : Classes ws (root + 1) class) (small : root < 65535) (l : List Expr)
+module _ (ws class number : List ℕ) (root : ℕ) (C : Classes ws (root + 1) class) (l : List Expr)
     (done : (m : ℕ) → m ≤ root → Set number m → Beneath l (unfoldAt ws m)) (n : ℕ) (here : n ≤ root) (r : NodeRead ws n) where
   own-class : (p : ℕ) → p < n → getD class (getD class p 0) 0 ≡ getD class p 0
   own-class p h = C .one (getD class p 0) p (omega (arith, C .first p (omega arith))) (omega arith) (C .tree p (omega arith))
@@ -178,7 +178,6 @@ module _ (ws class number : List ℕ) (root : ℕ) (C : Classes ws (root + 1) cl
       let B = unfoldAt ws (k .b) in
       let E = unfoldAt ws (k .c) in
       let code : (f : ℕ → Bool) → f kn ≡ true → f (codeOf κ) ≡ true = λ f e. rw (← r .code) e in
-      let small-c : k .c < n → k .c % 65536 ≡ k .c = λ h. omega arith in
       let pc = pick (hasC kn) (classC ws class n) number 65535 in
       let pb = pick (hasB kn) (classB ws class n) number pc in
       ⊎-elim
@@ -202,11 +201,9 @@ module _ (ws class number : List ℕ) (root : ℕ) (C : Classes ws (root + 1) cl
       let hb : hasB (codeOf κ) ≡ true = b-of-c κ h in
       let ha : hasA (codeOf κ) ≡ true = a-of-b κ hb in
       let ps = parts-c κ k A B E h in
-      let lc : k .c < n = r .less .c-less h in
-      let same : classC ws class n ≡ getD class (k .c) 0 = ap (λ (i : ℕ). getD class i 0) (small-c lc) in
       inr
-      (subst (Opens ws class number l n) (sym (a .1 ∙ b .1 ∙ e .2 ∙ same))
-      (opens (k .c) lc (rw same at (e .1)) (A ∷ B ∷ []) (ps .0) (ap parts (r .tree) ∙ ps .1)
+      (subst (Opens ws class number l n) (sym (a .1 ∙ b .1 ∙ e .2))
+      (opens (k .c) (r .less .c-less h) (e .1) (A ∷ B ∷ []) (ps .0) (ap parts (r .tree) ∙ ps .1)
       (settled (k .a) (r .less .a-less ha) (a .0 (rw (r .code) ha)), (settled (k .b) (r .less .b-less hb) (b .0 (rw (r .code) hb)), tt)))))
       (λ e. inl (record { a-set = a .0; b-set = b .0; c-set = e .0 }, a .1 ∙ b .1 ∙ e .1))
       (picked (hasC kn) (classC ws class n) number 65535))
@@ -221,7 +218,4 @@ module _ (ws class number : List ℕ) (root : ℕ) (C : Classes ws (root + 1) cl
       (parts-all (Beneath l) (kindIn ws n) k (unfoldAt ws (k .a)) (unfoldAt ws (k .b)) (unfoldAt ws (k .c))
       (λ e. settled (k .a) (r .less .a-less e) (d .a-set (rw (r .code) e)))
       (λ e. settled (k .b) (r .less .b-less e) (d .b-set (rw (r .code) e)))
-      (λ e.
-      let lc : k .c < n = r .less .c-less e in
-      let same : k .c % 65536 ≡ k .c = omega arith in
-      settled (k .c) lc (subst (λ (i : ℕ). Set number (getD class i 0)) same (d .c-set (rw (r .code) e)))))
+      (λ e. settled (k .c) (r .less .c-less e) (d .c-set (rw (r .code) e))))

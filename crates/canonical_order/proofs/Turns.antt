@@ -95,7 +95,7 @@ module _ (ws class : List ℕ) (root : ℕ) (C : Classes ws (root + 1) class) (s
     visited =
         visit-step L (unfoldAt ws n)
         ∙ ap (λ (m : List Expr). add m (unfoldAt ws n))
-        (visits-old L (parts (unfoldAt ws n)) (ready-parts ws class number root C small L beneath-all n (omega (arith, n-le)) r ready))
+        (visits-old L (parts (unfoldAt ws n)) (ready-parts ws class number root C L beneath-all n (omega (arith, n-le)) r ready))
         ∙ add-new L (unfoldAt ws n) fresh
 
     listed′ : listed ws order′ (k + 1) ≡ L′
@@ -244,7 +244,7 @@ module _ (ws class : List ℕ) (root : ℕ) (C : Classes ws (root + 1) class) (s
 
   turned-top : Turned ws class number (listed ws order k) (getD stack (depth - 1) 0) (nextOpen ws class number (getD stack (depth - 1) 0))
   turned-top =
-      turned ws class number root C small (listed ws order k) (λ m g s. W .done m g s .beneath) (getD stack (depth - 1) 0) (omega (arith, top-le-root)) at-top-read
+      turned ws class number root C (listed ws order k) (λ m g s. W .done m g s .beneath) (getD stack (depth - 1) 0) (omega (arith, top-le-root)) at-top-read
 
   abbrev Next : (number order : List ℕ) (k : ℕ) (stack : List ℕ) (d : ℕ) → Type 0
   Next number₂ order₂ k₂ stack₂ d₂ = Stepped ws class root number stack depth number₂ order₂ k₂ stack₂ d₂

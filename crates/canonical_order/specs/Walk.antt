@@ -1,13 +1,14 @@
 -- A walk over the classes beneath a root: what is numbered, what waits.
-use mathlib.Core.Bool.{Bool, true, false, cond, _&&_}
+use mathlib.Core.Bool.{Bool, true, cond, _&&_}
 use mathlib.Core.List.{List, [], _∷_, _++_}
 use mathlib.Core.Path.{_≡_}
-use Prim.Native.Nat.{ℕ, zero, suc, _+_, _*_, _%_, _≤_, _<_}
+use Prim.Native.Nat.{ℕ, zero, suc, _+_, _*_, _≤_, _<_}
 use lib.Dec.{eqb}
 use lib.ListN.{length, getD}
-use Rattle.terms.specs.Expr.{Expr, Var}
-use Rattle.pool.specs.Node.{Cell, cellAt, aOf, bOf, cOf, wordAt, kindNumber, none}
+use Rattle.terms.specs.Expr.{Expr}
+use Rattle.pool.specs.Node.{kindNumber, none}
 use Rattle.pool.specs.Unfold.{unfoldAt}
+use Rattle.pool_fields.specs.Fields.{opA, opB, opC}
 use Rattle.canonical.specs.Order.{walk, place, addAll, postorder, AllIn}
 use Rattle.pool_operands.specs.Operands.{hasA, hasB, hasC}
 use Rattle.canonical_classes.specs.Class.{Long}
@@ -17,18 +18,18 @@ pick there m number rest = cond (there && eqb (getD number m 0) 65535) m rest
 
 -- the classes of a node's operands
 abbrev pub classA : List ℕ → List ℕ → ℕ → ℕ
-classA ws class n = getD class (aOf (wordAt ws n 1)) 0
+classA ws class n = getD class (opA ws n) 0
 
 abbrev pub classB : List ℕ → List ℕ → ℕ → ℕ
-classB ws class n = getD class (bOf (wordAt ws n 1)) 0
+classB ws class n = getD class (opB ws n) 0
 
 abbrev pub classC : List ℕ → List ℕ → ℕ → ℕ
-classC ws class n = getD class (cOf (wordAt ws n 1) % 65536) 0
+classC ws class n = getD class (opC ws n) 0
 
 unfoldable pub nextOpen : List ℕ → List ℕ → List ℕ → ℕ → ℕ
 nextOpen ws class number n =
     let k = kindNumber ws n in
-    pick (hasA k) (classA ws class n) number (pick (hasB k) (classB ws class n) number (pick (hasC k) (classC ws class n) number 65535))
+    pick (hasA k) (classA ws class n) number (pick (hasB k) (classB ws class n) number (pick (hasC k) (classC ws class n) number none))
 
 abbrev pub AllNone : List ℕ → Type 0
 AllNone number = (m : ℕ) → m < 65536 → getD number m 0 ≡ 65535

@@ -11,6 +11,7 @@ ghost use mathlib.Core.Path.{_≡_};
 ghost use Prim.Native.Nat.{_+_, _*_, _≤_, _<_};
 ghost use lib.ListN.{length, getD};
 ghost use Rattle.pool.specs.Rules.{Valid};
+ghost use Rattle.pool_fields.specs.Fields.{opC};
 ghost use Rattle.canonical_classes.specs.Class.{Classes, Long};
 ghost use Rattle.canonical_order.specs.Walk.{pick, nextOpen, AllNone, Walking, Stepped, Numbered};
 
@@ -20,34 +21,39 @@ fn wide(x: u16) -> usize
     x as usize
 }
 
-fn class_of(class: &[u16; 65536], m: Node) -> usize
+// The first node with the tree of node m.
+fn class_of(class: &[u16; 65536], m: Node) -> Node
     requires { ⌜ m .0 < 65536 ⌝ }
-    ensures { λ r. ⌜ (r ≡ getD (now (class .entry)) (m .0) 0) × (r < 65536) ⌝ }
+    ensures { λ r. ⌜ (r .0 ≡ getD (now (class .entry)) (m .0) 0) × (r .0 < 65536) ⌝ }
 {
     let at = m.0;
-    wide(class[at])
+    Node(wide(class[at]))
 }
 
 // m where it is an operand that has no number yet, else what was found before.
-fn pick(there: bool, m: usize, number: &[u16; 65536], rest: usize) -> usize
-    requires { ⌜ m < 65536 ⌝ }
-    ensures { λ r. ⌜ r ≡ pick there m (now (number .entry)) rest ⌝ }
+fn pick(there: bool, m: Node, number: &[u16; 65536], rest: Node) -> Node
+    requires { ⌜ m .0 < 65536 ⌝ }
+    ensures { λ r. ⌜ r .0 ≡ pick there (m .0) (now (number .entry)) (rest .0) ⌝ }
 {
-    if there & (wide(number[m]) == 65535) {
+    let at = m.0;
+    if there & (wide(number[at]) == 65535) {
         return m;
     }
     rest
 }
 
-// The first operand's class of node n that has no number yet; 65,535 where each has one.
-fn next_open(pool: &[u64], class: &[u16; 65536], number: &[u16; 65536], n: Node) -> usize
-    requires { ⌜ 4 * n .0 + 3 < length (now pool) ⌝ }
-    ensures { λ r. ⌜ r ≡ nextOpen (now (pool .entry)) (now (class .entry)) (now (number .entry)) (n .0) ⌝ }
+// The first operand's class of node n that has no number yet; none where each has one.
+fn next_open(pool: &[u64], class: &[u16; 65536], number: &[u16; 65536], n: Node) -> Node
+    requires { ⌜ (4 * n .0 + 3 < length (now pool)) × (opC (now pool) (n .0) < 65536) ⌝ }
+    ensures { λ r. ⌜ r .0 ≡ nextOpen (now (pool .entry)) (now (class .entry)) (now (number .entry)) (n .0) ⌝ }
 {
     let kind = kind_of(pool, n);
-    // the third operand of a valid pool's node is below 65,536
-    let m = Node(third(pool, n).0 % 65536);
-    let c = pick(has_c(kind), class_of(class, m), number, 65535);
+    let c = pick(
+        has_c(kind),
+        class_of(class, third(pool, n)),
+        number,
+        Node::none(),
+    );
     let b = pick(has_b(kind), class_of(class, second(pool, n)), number, c);
     pick(has_a(kind), class_of(class, first(pool, n)), number, b)
 }
@@ -62,32 +68,33 @@ pub struct State {
 fn turn(
     pool: &[u64],
     class: &[u16; 65536],
-    root: usize,
+    root: Node,
     number: &mut [u16; 65536],
     order: &mut [u16; 65536],
     stack: &mut [u16; 65536],
     s: State,
 ) -> State
-    requires { ⌜ (Valid (now pool) (root + 1)) × (4 * (root + 1) ≤ length (now pool)) × (root < 65535) ⌝ }
-    requires { ⌜ Classes (now pool) (root + 1) (now class) ⌝ }
-    requires { ⌜ Walking (now pool) (now class) root (now number) (now order) (s .count) (now stack) (s .depth) ⌝ }
+    requires { ⌜ (Valid (now pool) (root .0 + 1)) × (4 * (root .0 + 1) ≤ length (now pool)) × (root .0 < 65535) ⌝ }
+    requires { ⌜ Classes (now pool) (root .0 + 1) (now class) ⌝ }
+    requires { ⌜ Walking (now pool) (now class) (root .0) (now number) (now order) (s .count) (now stack) (s .depth) ⌝ }
     requires { ⌜ 0 < s .depth ⌝ }
-    ensures { λ r. ⌜ Stepped (now (pool .entry)) (now (class .entry)) root (now (number .entry)) (now (stack .entry)) (s .depth)
+    ensures { λ r. ⌜ Stepped (now (pool .entry)) (now (class .entry)) (root .0) (now (number .entry)) (now (stack .entry)) (s .depth)
         (now (number .exit)) (now (order .exit)) (r .count) (now (stack .exit)) (r .depth) ⌝ }
 {
     let top = s.depth - 1;
-    let n = wide(stack[top]);
-    let m = next_open(pool, class, number, Node(n));
-    if m == 65535 {
+    let n = Node(wide(stack[top]));
+    let m = next_open(pool, class, number, n);
+    if m.0 == Node::NONE {
         let k = s.count;
-        number[n] = k as u16;
-        order[k] = n as u16;
+        let at = n.0;
+        number[at] = k as u16;
+        order[k] = at as u16;
         return State {
             count: k + 1,
             depth: top,
         };
     }
-    stack[top + 1] = m as u16;
+    stack[top + 1] = m.0 as u16;
     State {
         count: s.count,
         depth: top + 2,
@@ -98,18 +105,19 @@ fn turn(
 pub fn walk(
     pool: &[u64],
     class: &[u16; 65536],
-    root: usize,
+    root: Node,
     number: &mut [u16; 65536],
     order: &mut [u16; 65536],
     stack: &mut [u16; 65536],
 ) -> usize
-    requires { ⌜ (Valid (now pool) (root + 1)) × (4 * (root + 1) ≤ length (now pool)) × (root < 65535) ⌝ }
-    requires { ⌜ Classes (now pool) (root + 1) (now class) ⌝ }
+    requires { ⌜ (Valid (now pool) (root .0 + 1)) × (4 * (root .0 + 1) ≤ length (now pool)) × (root .0 < 65535) ⌝ }
+    requires { ⌜ Classes (now pool) (root .0 + 1) (now class) ⌝ }
     requires { ⌜ Long (now number) × Long (now order) × Long (now stack) ⌝ }
     requires { ⌜ AllNone (now number) ⌝ }
-    ensures { λ r. ⌜ Numbered (now (pool .entry)) (now (class .entry)) root (now (number .exit)) (now (order .exit)) r ⌝ }
+    ensures { λ r. ⌜ Numbered (now (pool .entry)) (now (class .entry)) (root .0) (now (number .exit)) (now (order .exit)) r ⌝ }
 {
-    stack[0] = class[root];
+    let at = root.0;
+    stack[0] = class[at];
     let mut s = State { count: 0, depth: 1 };
     while 0 < s.depth {
         s = turn(pool, class, root, number, order, stack, s);

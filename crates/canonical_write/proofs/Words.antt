@@ -1,15 +1,15 @@
 -- The words of a node of the canonical pool, from a node with the same tree. Assumes nothing.
-use mathlib.Core.Path.{_≡_, refl, sym, ap, _∙_, subst}
+use mathlib.Core.Path.{_≡_, refl, sym, ap, _∙_}
 use mathlib.Core.Bool.{Bool, true, false, cond}
 use mathlib.Core.List.{List, [], _∷_}
-use Prim.Native.Nat.{ℕ, zero, suc, _+_, _*_, _%_, _≤_, _<_}
+use Prim.Native.Nat.{ℕ, zero, suc, _+_, _*_, _≤_, _<_}
 use native.Mathlib.Omega.{arith}
 use lib.Dec.{ltb}
 use lib.ListN.{length, getD, length-set}
-use Rattle.terms.specs.Expr.{Expr, Var, Const, Bv, Compare, Ite, Extract, Concat, ZeroExtend, SignExtend, width}
+use Rattle.terms.specs.Expr.{Expr, Var, Const, Bv, Compare, Ite, Extract, Concat, ZeroExtend, SignExtend}
 use Rattle.terms.specs.Registers.{registers}
-use Rattle.pool.specs.Node.{Kind, bad, var, const, bv, compare, ite, extract, concat, zext, sext, kindWord, operandWord, codeOf, Cell, cellAt, widthAt, kindNumber, wordAt}
-use Rattle.pool.specs.Node.{aOf, bOf, cOf, writeNode}
+use Rattle.pool.specs.Node.{Kind, bad, var, const, bv, compare, ite, extract, concat, zext, sext, kindWord, operandWord, codeOf, Cell, cellAt, widthAt, kindNumber, wordAt, writeNode}
+use Rattle.pool_fields.specs.Fields.{opA, opB, opC}
 use Rattle.pool.specs.Rules.{Valid}
 use Rattle.pool.specs.Unfold.{shapeOf, unfoldAt}
 use Rattle.canonical.specs.Order.{place, postorder}
@@ -103,7 +103,7 @@ words-of l (t ∷ ts) (suc i) h =
 
 -- ---- a node that is numbered
 
-module _ (ws class : List ℕ) (root : ℕ) (v : Valid ws (root + 1)) (bounded : (i : ℕ) → getD ws i 0 < 18446744073709551616) (small : root < 65535) (C : Classes ws (root + 1) class)
+module _ (ws class : List ℕ) (root : ℕ) (v : Valid ws (root + 1)) (bounded : (i : ℕ) → getD ws i 0 < 18446744073709551616) (C : Classes ws (root + 1) class)
     (number order : List ℕ) (k : ℕ) (N : Numbered ws class root number order k) (j : ℕ) (h : j < k) where
   abbrev n : ℕ
   n = getD order j 0
@@ -132,7 +132,7 @@ module _ (ws class : List ℕ) (root : ℕ) (v : Valid ws (root + 1)) (bounded :
   if-same true x y f = f refl
   if-same false x y f = refl
 
-  pub new-operands : newOperands ws class number n ≡ word1 (cellIn L (at L j))
+  new-operands : newOperands ws class number n ≡ word1 (cellIn L (at L j))
   unfolding newOperands
   new-operands =
       let c = cellAt ws n in
@@ -142,18 +142,14 @@ module _ (ws class : List ℕ) (root : ℕ) (v : Valid ws (root + 1)) (bounded :
       if-same (hasA kn) _ _ (λ e. operand (c .a) (read .less .a-less (code hasA e)) (done .ready .a-set e)) in
       let eb : ifAt (hasB kn) (getD number (getD class (c .b) 0) 0) ≡ ifAt (hasB kn) (place L (unfoldAt ws (c .b))) =
       if-same (hasB kn) _ _ (λ e. operand (c .b) (read .less .b-less (code hasB e)) (done .ready .b-set e)) in
-      let ec : ifAt (hasC kn) (getD number (getD class (c .c % 65536) 0) 0) ≡ ifAt (hasC kn) (place L (unfoldAt ws (c .c))) =
-      if-same (hasC kn) _ _
-      (λ e.
-      let lc : c .c < n = read .less .c-less (code hasC e) in
-      let q : c .c % 65536 ≡ c .c = omega (arith, n-le) in
-      ap (λ (m : ℕ). getD number (getD class m 0) 0) q ∙ operand (c .c) lc (subst (λ (m : ℕ). Set number (getD class m 0)) q (done .ready .c-set e))) in
+      let ec : ifAt (hasC kn) (getD number (getD class (c .c) 0) 0) ≡ ifAt (hasC kn) (place L (unfoldAt ws (c .c))) =
+      if-same (hasC kn) _ _ (λ e. operand (c .c) (read .less .c-less (code hasC e)) (done .ready .c-set e)) in
       (λ i. operandWord (ea i) (eb i) (ec i))
       ∙ ap (λ (z : ℕ). operandWord (ifAt (hasA z) (place L (unfoldAt ws (c .a)))) (ifAt (hasB z) (place L (unfoldAt ws (c .b)))) (ifAt (hasC z) (place L (unfoldAt ws (c .c))))) (read .code)
       ∙ sym (operands-of L (kindIn ws n) c (unfoldAt ws (c .a)) (unfoldAt ws (c .b)) (unfoldAt ws (c .c)))
       ∙ ap (λ (t : Expr). word1 (cellIn L t)) (sym (read .tree) ∙ sym tree-is)
 
-  pub new-word0 : getD ws (4 * n) 0 ≡ word0 (cellIn L (at L j)) (registers (at L j))
+  new-word0 : getD ws (4 * n) 0 ≡ word0 (cellIn L (at L j)) (registers (at L j))
   new-word0 =
       let t = unfoldAt ws n in
       let e : kindNumber ws n ≡ codeOf (cellIn L t .kind) =
@@ -161,11 +157,14 @@ module _ (ws class : List ℕ) (root : ℕ) (v : Valid ws (root + 1)) (bounded :
       let w : widthAt ws n ≡ cellIn L t .width = sym (read .wide-is) ∙ sym (cell-width L t) in
       word-parts (getD ws (4 * n) 0) ∙ (λ i. kindWord (e i) (w i) (read .set-is i)) ∙ ap (λ (s : Expr). word0 (cellIn L s) (registers s)) (sym tree-is)
 
-  pub new-word2 : getD ws (4 * n + 2) 0 ≡ cellIn L (at L j) .x
+  new-word2 : wordAt ws n 2 ≡ cellIn L (at L j) .x
   new-word2 = read .x-is ∙ sym (x-any L (unfoldAt ws n)) ∙ ap (λ (s : Expr). cellIn L s .x) (sym tree-is)
 
-  pub new-word3 : getD ws (4 * n + 3) 0 ≡ cellIn L (at L j) .y
+  new-word3 : wordAt ws n 3 ≡ cellIn L (at L j) .y
   new-word3 = read .y-is ∙ sym (y-any L (unfoldAt ws n)) ∙ ap (λ (s : Expr). cellIn L s .y) (sym tree-is)
+
+  pub new-words : let c = cellIn L (at L j) in (getD ws (4 * n) 0 ≡ word0 c (registers (at L j))) × (newOperands ws class number n ≡ word1 c) × (wordAt ws n 2 ≡ c .x) × (wordAt ws n 3 ≡ c .y)
+  new-words = (new-word0, new-operands, new-word2, new-word3)
 
 -- ---- four words written
 
@@ -211,12 +210,12 @@ written-more ws root j old mid new W O =
 
 -- word 1 from its parts
 pub operands-made : (ws class number : List ℕ) (n kind : ℕ) (p q r : Bool) (a b c x y z : ℕ) → kind ≡ kindNumber ws n → p ≡ hasA kind → q ≡ hasB kind → r ≡ hasC kind
-    → a ≡ aOf (wordAt ws n 1)
-    → b ≡ bOf (wordAt ws n 1)
-    → c ≡ cOf (wordAt ws n 1)
+    → a ≡ opA ws n
+    → b ≡ opB ws n
+    → c ≡ opC ws n
     → x ≡ numberIf p class number a
     → y ≡ numberIf q class number b
-    → z ≡ numberIf r class number (c % 65536)
+    → z ≡ numberIf r class number c
     → x + 65536 * y + 4294967296 * z ≡ newOperands ws class number n
 unfolding newOperands
 operands-made ws class number n kind p q r a b c x y z ek ep eq er ea eb ec fx fy fz =
@@ -225,5 +224,5 @@ operands-made ws class number n kind p q r a b c x y z ek ep eq er ea eb ec fx f
     let hr : r ≡ hasC (kindNumber ws n) = er ∙ ap hasC ek in
     let gx = fx ∙ (λ i. numberIf (hp i) class number (ea i)) in
     let gy = fy ∙ (λ i. numberIf (hq i) class number (eb i)) in
-    let gz = fz ∙ (λ i. numberIf (hr i) class number (ec i % 65536)) in
+    let gz = fz ∙ (λ i. numberIf (hr i) class number (ec i)) in
     λ i. operandWord (gx i) (gy i) (gz i)

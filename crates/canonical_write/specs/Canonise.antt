@@ -2,13 +2,14 @@
 use mathlib.Core.Bool.{Bool, cond}
 use mathlib.Core.List.{List}
 use mathlib.Core.Path.{_≡_}
-use Prim.Native.Nat.{ℕ, _+_, _*_, _%_, _≤_, _<_}
+use Prim.Native.Nat.{ℕ, _+_, _*_, _≤_, _<_}
 use lib.Dec.{leb}
 use lib.ListN.{length, getD}
 use Rattle.facts.specs.Refuse.{unless}
-use Rattle.pool.specs.Node.{aOf, bOf, cOf, wordAt, kindNumber, operandWord, places}
+use Rattle.pool.specs.Node.{kindNumber, operandWord, places}
 use Rattle.pool.specs.Rules.{nodeNumber}
 use Rattle.pool.specs.Unfold.{unfoldAt}
+use Rattle.pool_fields.specs.Fields.{opA, opB, opC}
 use Rattle.canonical.specs.Order.{postorder}
 use Rattle.canonical.specs.Words.{canonical}
 use Rattle.pool_operands.specs.Operands.{hasA, hasB, hasC}
@@ -49,9 +50,8 @@ numberIf there class number m = cond there (getD number (getD class m 0) 0) 0
 
 unfoldable pub newOperands : List ℕ → List ℕ → List ℕ → ℕ → ℕ
 newOperands ws class number n =
-    let w1 = wordAt ws n 1 in
     let kind = kindNumber ws n in
-    operandWord (numberIf (hasA kind) class number (aOf w1)) (numberIf (hasB kind) class number (bOf w1)) (numberIf (hasC kind) class number (cOf w1 % 65536))
+    operandWord (numberIf (hasA kind) class number (opA ws n)) (numberIf (hasB kind) class number (opB ws n)) (numberIf (hasC kind) class number (opC ws n))
 
 -- node j of the canonical pool is written, and nothing else
 pub record OneMore (ws : List ℕ) (root j : ℕ) (old new : List ℕ) : Type 0 where

@@ -5,6 +5,8 @@ use pool::Node;
 use pool::words::kind_of;
 use pool_check::node_number;
 use pool_fields::first;
+use pool_fields::high;
+use pool_fields::low;
 use pool_fields::second;
 use pool_fields::third;
 use pool_operands::has_a;
@@ -14,6 +16,7 @@ ghost use mathlib.Core.Path.{_≡_};
 ghost use Prim.Native.Nat.{_+_, _*_, _≤_, _<_};
 ghost use lib.ListN.{length, getD};
 ghost use Rattle.pool.specs.Rules.{Valid};
+ghost use Rattle.pool_fields.specs.Fields.{opC};
 ghost use Rattle.canonical_classes.specs.Class.{Classes, Long, Empty};
 ghost use Rattle.canonical_order.specs.Walk.{AllNone, Numbered};
 ghost use Rattle.canonical_write.specs.Canonise.{Answered, RootAnswered, Written, OneMore, numberIf, newOperands};
@@ -50,15 +53,13 @@ fn number_if(there: bool, class: &[u16; 65536], number: &[u16; 65536], m: Node) 
 
 // Word 1 of a node, with the new numbers of its operands.
 fn new_operands(pool: &[u64], class: &[u16; 65536], number: &[u16; 65536], n: Node) -> u64
-    requires { ⌜ 4 * n .0 + 3 < length (now pool) ⌝ }
+    requires { ⌜ (4 * n .0 + 3 < length (now pool)) × (opC (now pool) (n .0) < 65536) ⌝ }
     ensures { λ r. ⌜ r ≡ newOperands (now (pool .entry)) (now (class .entry)) (now (number .entry)) (n .0) ⌝ }
 {
     let kind = kind_of(pool, n);
-    // the third operand of a valid pool's node is below 65,536
-    let m = Node(third(pool, n).0 % 65536);
     let a = number_if(has_a(kind), class, number, first(pool, n));
     let b = number_if(has_b(kind), class, number, second(pool, n));
-    let c = number_if(has_c(kind), class, number, m);
+    let c = number_if(has_c(kind), class, number, third(pool, n));
     a + 65536 * b + 4294967296 * c
 }
 
@@ -66,40 +67,40 @@ fn new_operands(pool: &[u64], class: &[u16; 65536], number: &[u16; 65536], n: No
 fn write_one(
     pool: &[u64],
     class: &[u16; 65536],
-    root: usize,
+    root: Node,
     number: &[u16; 65536],
     order: &[u16; 65536],
     k: usize,
     j: usize,
     out: &mut [u64],
 )
-    requires { ⌜ (Valid (now pool) (root + 1)) × (4 * (root + 1) ≤ length (now pool)) × (root < 65535) ⌝ }
-    requires { ⌜ Classes (now pool) (root + 1) (now class) ⌝ }
-    requires { ⌜ Numbered (now pool) (now class) root (now number) (now order) k ⌝ }
+    requires { ⌜ (Valid (now pool) (root .0 + 1)) × (4 * (root .0 + 1) ≤ length (now pool)) × (root .0 < 65535) ⌝ }
+    requires { ⌜ Classes (now pool) (root .0 + 1) (now class) ⌝ }
+    requires { ⌜ Numbered (now pool) (now class) (root .0) (now number) (now order) k ⌝ }
     requires { ⌜ (j < k) × (4 * k ≤ length (now out)) × (k ≤ 65535) ⌝ }
-    ensures { λ r. ⌜ OneMore (now (pool .entry)) root j (now (out .entry)) (now (out .exit)) ⌝ }
+    ensures { λ r. ⌜ OneMore (now (pool .entry)) (root .0) j (now (out .entry)) (now (out .exit)) ⌝ }
 {
-    let n = entry(order, j as u64) as usize;
-    let at = 4 * n;
-    let w1 = new_operands(pool, class, number, Node(n));
-    pool::push(out, j, pool[at], w1, pool[at + 2], pool[at + 3]);
+    let n = Node(entry(order, j as u64) as usize);
+    let at = 4 * n.0;
+    let w1 = new_operands(pool, class, number, n);
+    pool::push(out, j, pool[at], w1, low(pool, n), high(pool, n));
 }
 
 // Writes the first k nodes, all that there are.
 fn write(
     pool: &[u64],
     class: &[u16; 65536],
-    root: usize,
+    root: Node,
     number: &[u16; 65536],
     order: &[u16; 65536],
     k: usize,
     out: &mut [u64],
 )
-    requires { ⌜ (Valid (now pool) (root + 1)) × (4 * (root + 1) ≤ length (now pool)) × (root < 65535) ⌝ }
-    requires { ⌜ Classes (now pool) (root + 1) (now class) ⌝ }
-    requires { ⌜ Numbered (now pool) (now class) root (now number) (now order) k ⌝ }
+    requires { ⌜ (Valid (now pool) (root .0 + 1)) × (4 * (root .0 + 1) ≤ length (now pool)) × (root .0 < 65535) ⌝ }
+    requires { ⌜ Classes (now pool) (root .0 + 1) (now class) ⌝ }
+    requires { ⌜ Numbered (now pool) (now class) (root .0) (now number) (now order) k ⌝ }
     requires { ⌜ (4 * k ≤ length (now out)) × (k ≤ 65535) ⌝ }
-    ensures { λ r. ⌜ Written (now (pool .entry)) root k (now (out .entry)) (now (out .exit)) ⌝ }
+    ensures { λ r. ⌜ Written (now (pool .entry)) (root .0) k (now (out .entry)) (now (out .exit)) ⌝ }
 {
     let mut j = 0;
     while j < k {
@@ -129,9 +130,9 @@ fn free_ways() -> [u16; 131072]
 
 // Counts the distinct subtrees before it writes a word. The tables are free once the classes are known: the walk has them for the order and the
 // nodes that wait.
-fn canonise_root(pool: &[u64], root: usize, out: &mut [u64]) -> Canonised
-    requires { ⌜ (Valid (now pool) (root + 1)) × (4 * (root + 1) ≤ length (now pool)) × (root < 65535) ⌝ }
-    ensures { λ r. ⌜ RootAnswered (now (pool .entry)) root (now (out .entry)) (now (out .exit)) r ⌝ }
+fn canonise_root(pool: &[u64], root: Node, out: &mut [u64]) -> Canonised
+    requires { ⌜ (Valid (now pool) (root .0 + 1)) × (4 * (root .0 + 1) ≤ length (now pool)) × (root .0 < 65535) ⌝ }
+    ensures { λ r. ⌜ RootAnswered (now (pool .entry)) (root .0) (now (out .entry)) (now (out .exit)) r ⌝ }
 {
     let mut class = zeros();
     let mut first = zeros();
@@ -139,7 +140,7 @@ fn canonise_root(pool: &[u64], root: usize, out: &mut [u64]) -> Canonised
     let mut ways = free_ways();
     classes(
         pool,
-        root + 1,
+        root.0 + 1,
         &mut class,
         &mut first,
         &mut second,
@@ -168,5 +169,5 @@ pub fn canonise(pool: &[u64], count: usize, root: usize, out: &mut [u64]) -> Can
     if 0 < number {
         return Canonised { number, count: 0 };
     }
-    canonise_root(pool, root, out)
+    canonise_root(pool, Node(root), out)
 }

@@ -26,7 +26,7 @@ link-low c = omega (arith, c .before .find .ensures .found (omega (arith, c .if1
 find-requires : tie.Need-find-requires
 find-requires c κs =
     let s = c .before .before .before .before .before in
-    ((s .pre .0 .1, s .pre .0 .2, s .pre .0 .3), (s .pre .1 .low, s .pre .1 .rises))
+    (s .pre .0, (s .pre .1 .low, s .pre .1 .rises))
 
 sub-class : tie.Need-sub-class
 sub-class c = search needs
@@ -45,13 +45,13 @@ element-write-class c = search needs
 
 returns : tie.Need-returns
 returns c =
-    let t = c .before in
-    let f = t .before .find .ensures .found (omega (arith, t .if1 .taken)) in
-    let s = entry (t .before) in
+    let known = c .before in
+    let f = known .before .find .ensures .found (omega (arith, known .if1 .taken)) in
+    let s = entry (known .before) in
     let a = s .args in (
       s .pre .0 .3,
-      kept-old (a .pool .now) (a .n + 1) (s .pre .0 .0) (words (t .before)) (omega arith) (a .n) (omega arith) (a .class .now) (slotsIn s) (s .pre .1)
-          (t .before .find .result .link - 1) (omega (arith, f .0, t .if1 .taken)) (f .1),
+      kept-old (a .pool .now) (a .n .0 + 1) (s .pre .0 .0) (words (known .before)) (omega arith) (a .n .0) (omega arith) (a .class .now) (slotsIn s) (s .pre .1)
+          (known .before .find .result .link - 1) (omega (arith, f .0, known .if1 .taken)) (f .1),
     )
 
 cast-class : tie.Need-cast-class
@@ -71,13 +71,13 @@ set-link-requires c κs =
 
 returns-2 : tie.Need-returns-2
 returns-2 c =
-    let t = c .before .before .before .before in
-    let s = entry (t .before) in
+    let fresh = c .before .before .before .before in
+    let s = entry (fresh .before) in
     let a = s .args in (
       c .set-link .ensures .laid,
-      subst (λ (l : List ℕ). Kept (a .pool .now) (a .n + 1) (set (a .class .now) (a .n) (a .n)) l) (sym (c .set-link .ensures .is))
-          (kept-new (a .pool .now) (a .n + 1) (s .pre .0 .0) (words (t .before)) (omega arith) (a .n) (omega arith) (a .class .now) (slotsIn s) (s .pre .1)
-          (t .before .find .result) (omega (arith, t .if1 .left)) (t .before .find .ensures)),
+      subst (λ (l : List ℕ). Kept (a .pool .now) (a .n .0 + 1) (set (a .class .now) (a .n .0) (a .n .0)) l) (sym (c .set-link .ensures .is))
+          (kept-new (a .pool .now) (a .n .0 + 1) (s .pre .0 .0) (words (fresh .before)) (omega arith) (a .n .0) (omega arith) (a .class .now) (slotsIn s) (s .pre .1)
+          (fresh .before .find .result) (omega (arith, fresh .if1 .left)) (fresh .before .find .ensures)),
     )
 
 pub class-one-spec : {M : Type 1} → statement M

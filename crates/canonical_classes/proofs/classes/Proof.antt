@@ -15,6 +15,9 @@ Inv-loop pool count class₀ first₀ second₀ ways₀ n₀ class first second 
 abbrev μ-loop : tie.MeasureT-loop
 μ-loop pool count class₀ first₀ second₀ ways₀ n₀ class first second ways n = count - n
 
+abbrev entry : tie.At-loop Inv-loop μ-loop → tie.Start Inv-loop μ-loop
+entry c = c .before .before
+
 loop-holds : tie.Need-loop-holds Inv-loop μ-loop
 loop-holds c =
     let s = c .before in
@@ -25,7 +28,7 @@ loop-holds c =
 class-one-requires : tie.Need-class-one-requires Inv-loop μ-loop
 class-one-requires c κs =
     let at-loop = c .before .before .before .before .before in
-    let s = at-loop .before .before in
+    let s = entry at-loop in
     let i = at-loop .loop .inv in
     ((valid-le (s .args .pool .now) (at-loop .loop .n + 1) (s .args .count) (omega arith) (s .pre .0 .0), omega arith, omega arith, i .1), i .2)
 
@@ -41,7 +44,7 @@ loop-again c = (omega arith, c .class-one .ensures .0, c .class-one .ensures .1)
 returns : tie.Need-returns Inv-loop μ-loop
 returns c =
     let at-loop = c .before in
-    let s = at-loop .before .before in
+    let s = entry at-loop in
     let e : at-loop .loop .n ≡ s .args .count = omega arith in
     let i = at-loop .loop .inv in
     (rw e at (i .2 .classes), i .1 .first-long, i .1 .second-long)

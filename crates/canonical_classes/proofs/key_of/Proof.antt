@@ -17,9 +17,6 @@ shared-slice-read-word c = search needs
 kind-of-requires : tie.Need-kind-of-requires
 kind-of-requires c κs = search needs
 
-third-requires : tie.Need-third-requires
-third-requires c κs = search needs
-
 has-a-requires : tie.Need-has-a-requires
 has-a-requires c κs = search needs
 
@@ -41,6 +38,9 @@ class-if-requires-2 c κs = omega (arith, c .second .ensures)
 has-c-requires : tie.Need-has-c-requires
 has-c-requires c κs = search needs
 
+third-requires : tie.Need-third-requires
+third-requires c κs = search needs
+
 class-if-requires-3 : tie.Need-class-if-requires-3
 class-if-requires-3 c κs = search needs
 
@@ -54,15 +54,15 @@ returns : tie.Need-returns
 returns c =
     let at-low = c .before in
     let at-class-if3 = at-low .before in
-    let at-has-c = at-class-if3 .before in
+    let at-third = at-class-if3 .before in
+    let at-has-c = at-third .before in
     let at-class-if2 = at-has-c .before in
     let at-second = at-class-if2 .before in
     let at-has-b = at-second .before in
     let at-class-if = at-has-b .before in
     let at-first = at-class-if .before in
     let at-has-a = at-first .before in
-    let at-third = at-has-a .before .before in
-    let at-kind-of = at-third .before in (
+    let at-kind-of = at-has-a .before in (
       key-made _ _ _ (at-kind-of .kind-of .result) _ _ _ _ _ _ _ _ _ _ _ (at-kind-of .kind-of .ensures) (at-has-a .has-a .ensures) (at-has-b .has-b .ensures) (at-has-c .has-c .ensures)
           (at-first .first .ensures) (at-second .second .ensures) (at-third .third .ensures) (at-class-if .class-if .ensures .0) (at-class-if2 .class-if2 .ensures .0)
           (at-class-if3 .class-if3 .ensures .0) (at-low .low .ensures) (c .high .ensures),
@@ -79,7 +79,6 @@ key-of-spec =
     mul-word
     shared-slice-read-word
     kind-of-requires
-    third-requires
     has-a-requires
     first-requires
     class-if-requires
@@ -87,6 +86,7 @@ key-of-spec =
     second-requires
     class-if-requires-2
     has-c-requires
+    third-requires
     class-if-requires-3
     low-requires
     high-requires

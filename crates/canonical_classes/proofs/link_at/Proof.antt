@@ -17,10 +17,10 @@ wide-requires c κs = search needs
 
 returns : tie.Need-returns
 returns c =
-    let t = c .before .before in
-    let s = t .before in
+    let in-first = c .before .before in
+    let s = in-first .before in
     let a = s .args in
-    (c .wide .ensures .0 ∙ sym (first-at (a .first .now) (a .second .now) (a .ways .now) (s .pre .0) (a .slot) (t .if1 .taken)), c .wide .ensures .1)
+    (c .wide .ensures .0 ∙ sym (first-at (a .first .now) (a .second .now) (a .ways .now) (s .pre .0) (a .slot) (in-first .if1 .taken)), c .wide .ensures .1)
 
 mul-wide-2 : tie.Need-mul-wide-2
 mul-wide-2 c = search needs
@@ -33,10 +33,11 @@ wide-requires-2 c κs = search needs
 
 returns-2 : tie.Need-returns-2
 returns-2 c =
-    let t = c .before .before in
-    let s = t .before .before in
+    let in-second = c .before .before in
+    let s = in-second .before .before in
     let a = s .args in
-    (c .wide2 .ensures .0 ∙ sym (second-at (a .first .now) (a .second .now) (a .ways .now) (s .pre .0) (a .slot) (omega (arith, t .before .if1 .left)) (t .if2 .taken)), c .wide2 .ensures .1)
+    let e = second-at (a .first .now) (a .second .now) (a .ways .now) (s .pre .0) (a .slot) (omega (arith, in-second .before .if1 .left)) (in-second .if2 .taken) in
+    (c .wide2 .ensures .0 ∙ sym e, c .wide2 .ensures .1)
 
 mul-wide-3 : tie.Need-mul-wide-3
 mul-wide-3 c = search needs
@@ -49,10 +50,10 @@ wide-requires-3 c κs = search needs
 
 returns-3 : tie.Need-returns-3
 returns-3 c =
-    let t = c .before .before in
-    let s = t .before .before in
+    let in-ways = c .before .before in
+    let s = in-ways .before .before in
     let a = s .args in
-    (c .wide3 .ensures .0 ∙ sym (way-at (a .first .now) (a .second .now) (a .ways .now) (s .pre .0) (a .slot) (omega (arith, t .if2 .left))), c .wide3 .ensures .1)
+    (c .wide3 .ensures .0 ∙ sym (way-at (a .first .now) (a .second .now) (a .ways .now) (s .pre .0) (a .slot) (omega (arith, in-ways .if2 .left))), c .wide3 .ensures .1)
 
 pub link-at-spec : {M : Type 1} → statement M
 link-at-spec =

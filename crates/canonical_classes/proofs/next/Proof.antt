@@ -1,7 +1,7 @@
 -- `next` gives `nextOf`: a slot of the second table at the first level, later one under the node.
 use native.Mathlib.Omega.{arith}
 use mathlib.Core.Path.{ap}
-use Prim.Native.Nat.{ℕ, _+_, _*_, _/_, _%_}
+use Prim.Native.Nat.{ℕ, _+_, _/_, _%_}
 use borrow.Author.Tests.{eq-eqb}
 use Rattle.canonical_classes.specs.Key.{nextOf, under}
 use Rattle.canonical_classes.proofs.Search.{next-later}
@@ -32,10 +32,10 @@ add-result-3 c = search needs
 
 returns-2 : tie.Need-returns-2
 returns-2 c =
-    let t = c .before in
-    let a = t .before .args in
-    let e = next-later (a .k) (a .m) (a .level) (omega (arith, t .if1 .left)) in
-    (rw e (ap (under (a .m)) (c .way .ensures .0)), omega (arith, c .way .ensures .1))
+    let later = c .before .before in
+    let a = later .before .args in
+    let e = next-later (a .k) (a .m .0) (a .level) (omega (arith, later .if1 .left)) in
+    (rw e (ap (under (a .m .0)) (c .way .ensures .0)), omega (arith, c .way .ensures .1))
 
 pub next-spec : {M : Type 1} → statement M
 next-spec =

@@ -1,11 +1,23 @@
 -- `row` gives `rowOf`: the 64 bits in which a level stands.
 use native.Mathlib.Omega.{arith}
-use mathlib.Core.Path.{ap}
+use mathlib.Core.Path.{_≡_, ap}
+use mathlib.Core.Bool.{false}
 use Prim.Native.Nat.{ℕ, _/_}
+use lib.Dec.{ltb}
 use borrow.Author.Tests.{lt-ltb, le-ltb}
 use borrow.Author.Needs.{needs}
 use Rattle.canonical_classes.proofs.row.Statement.{statement}
 use Rattle.canonical_classes.proofs.row.Tie as tie
+
+-- past the tests
+past-24 : (c : tie.Else1) → ltb (c .before .args .level) 24 ≡ false
+past-24 c = le-ltb (c .before .args .level) 24 (omega (arith, c .if1 .left))
+
+past-88 : (c : tie.Else2) → ltb (c .before .before .args .level) 88 ≡ false
+past-88 c = le-ltb (c .before .before .args .level) 88 (omega (arith, c .if2 .left))
+
+past-152 : (c : tie.Else3) → ltb (c .before .before .before .args .level) 152 ≡ false
+past-152 c = le-ltb (c .before .before .before .args .level) 152 (omega (arith, c .if3 .left))
 
 returns : tie.Need-returns
 returns c =
@@ -13,15 +25,10 @@ returns c =
     rw (lt-ltb (s .args .level) 24 (c .if1 .taken)) (ap (λ (x : ℕ). x / 68719476736) (s .pre .3))
 
 returns-2 : tie.Need-returns-2
-returns-2 c =
-    let l = c .before .before .args .level in
-    rw (le-ltb l 24 (omega (arith, c .before .if1 .left)), lt-ltb l 88 (c .if2 .taken))
+returns-2 c = rw (past-24 (c .before), lt-ltb _ 88 (c .if2 .taken))
 
 returns-3 : tie.Need-returns-3
-returns-3 c =
-    let t = c .before in
-    let l = t .before .before .args .level in
-    rw (le-ltb l 24 (omega (arith, t .before .if1 .left)), le-ltb l 88 (omega (arith, t .if2 .left)), lt-ltb l 152 (c .if3 .taken))
+returns-3 c = rw (past-24 (c .before .before), past-88 (c .before), lt-ltb _ 152 (c .if3 .taken))
 
 mul-result : tie.Need-mul-result
 mul-result c = search needs
@@ -38,25 +45,13 @@ add-result-2 c = search needs
 returns-4 : tie.Need-returns-4
 returns-4 c =
     let t = c .before .before .before in
-    let u = t .before in
-    let l = u .before .before .before .args .level in
-    rw (
-      le-ltb l 24 (omega (arith, u .before .before .if1 .left)),
-      le-ltb l 88 (omega (arith, u .before .if2 .left)),
-      le-ltb l 152 (omega (arith, u .if3 .left)),
-      lt-ltb l 216 (t .if4 .taken),
-    )
+    let p = t .before in
+    rw (past-24 (p .before .before), past-88 (p .before), past-152 p, lt-ltb _ 216 (t .if4 .taken))
 
 returns-5 : tie.Need-returns-5
 returns-5 c =
-    let u = c .before in
-    let l = u .before .before .before .args .level in
-    rw (
-      le-ltb l 24 (omega (arith, u .before .before .if1 .left)),
-      le-ltb l 88 (omega (arith, u .before .if2 .left)),
-      le-ltb l 152 (omega (arith, u .if3 .left)),
-      le-ltb l 216 (omega (arith, c .if4 .left)),
-    )
+    let p = c .before in
+    rw (past-24 (p .before .before), past-88 (p .before), past-152 p, le-ltb (p .before .before .before .args .level) 216 (omega (arith, c .if4 .left)))
 
 pub row-spec : {M : Type 1} → statement M
 row-spec =

@@ -19,9 +19,9 @@ element-write-first c = search needs
 
 returns : tie.Need-returns
 returns c =
-    let s = c .before in
+    let s = c .before .before in
     let a = s .args in
-    linked-first (a .first .now) (a .second .now) (a .ways .now) (s .pre .0) (a .slot) (a .n) (c .if1 .taken)
+    linked-first (a .first .now) (a .second .now) (a .ways .now) (s .pre .0) (a .slot) (a .n .0) (c .if1 .taken)
 
 mul-second : tie.Need-mul-second
 mul-second c = search needs
@@ -32,9 +32,9 @@ element-write-second c = search needs
 returns-2 : tie.Need-returns-2
 returns-2 c =
     let t = c .before in
-    let s = t .before in
+    let s = t .before .before in
     let a = s .args in
-    linked-second (a .first .now) (a .second .now) (a .ways .now) (s .pre .0) (a .slot) (a .n) (omega (arith, t .if1 .left)) (c .if2 .taken)
+    linked-second (a .first .now) (a .second .now) (a .ways .now) (s .pre .0) (a .slot) (a .n .0) (omega (arith, t .if1 .left)) (c .if2 .taken)
 
 mul-ways : tie.Need-mul-ways
 mul-ways c = search needs
@@ -44,9 +44,9 @@ element-write-ways c = search needs
 
 returns-3 : tie.Need-returns-3
 returns-3 c =
-    let s = c .before .before in
+    let s = c .before .before .before in
     let a = s .args in
-    linked-way (a .first .now) (a .second .now) (a .ways .now) (s .pre .0) (a .slot) (a .n) (omega (arith, c .if2 .left))
+    linked-way (a .first .now) (a .second .now) (a .ways .now) (s .pre .0) (a .slot) (a .n .0) (omega (arith, c .if2 .left))
 
 pub set-link-spec : {M : Type 1} → statement M
 set-link-spec =

@@ -8,14 +8,17 @@ use Rattle.canonical_order.proofs.next_open.Tie as tie
 kind-of-requires : tie.Need-kind-of-requires
 kind-of-requires c κs = search needs
 
-third-requires : tie.Need-third-requires
-third-requires c κs = search needs
-
 has-c-requires : tie.Need-has-c-requires
 has-c-requires c κs = search needs
 
+third-requires : tie.Need-third-requires
+third-requires c κs = search needs
+
 class-of-requires : tie.Need-class-of-requires
 class-of-requires c κs = search needs
+
+none-requires : tie.Need-none-requires
+none-requires c κs = search needs
 
 pick-requires : tie.Need-pick-requires
 pick-requires c κs = search needs
@@ -54,22 +57,24 @@ returns c =
     let at-second = at-class-of2 .before in
     let at-has-b = at-second .before in
     let at-pick = at-has-b .before in
-    let at-class-of = at-pick .before in
-    let at-has-c = at-class-of .before in
-    let at-third = at-has-c .before .before in
-    let at-kind-of = at-third .before in
-    open-made _ _ _ _ (at-kind-of .kind-of .result) _ _ _ _ _ _ _ _ _ _ _ _ (at-kind-of .kind-of .ensures) (at-has-a .has-a .ensures) (at-has-b .has-b .ensures)
+    let at-none = at-pick .before in
+    let at-class-of = at-none .before in
+    let at-third = at-class-of .before in
+    let at-has-c = at-third .before in
+    let at-kind-of = at-has-c .before in
+    open-made _ _ _ _ (at-kind-of .kind-of .result) _ _ _ _ _ _ _ _ _ _ _ _ _ (at-kind-of .kind-of .ensures) (at-has-a .has-a .ensures) (at-has-b .has-b .ensures)
     (at-has-c .has-c .ensures) (at-first .first .ensures) (at-second .second .ensures) (at-third .third .ensures) (at-class-of3 .class-of3 .ensures .0)
-    (at-class-of2 .class-of2 .ensures .0) (at-class-of .class-of .ensures .0) (at-pick .pick .ensures) (at-pick2 .pick2 .ensures) (c .pick3 .ensures)
+    (at-class-of2 .class-of2 .ensures .0) (at-class-of .class-of .ensures .0) (at-none .none .ensures) (at-pick .pick .ensures) (at-pick2 .pick2 .ensures) (c .pick3 .ensures)
 
 pub next-open-spec : {M : Type 1} → statement M
 next-open-spec =
     tie.close
     (tie.spec
     kind-of-requires
-    third-requires
     has-c-requires
+    third-requires
     class-of-requires
+    none-requires
     pick-requires
     has-b-requires
     second-requires

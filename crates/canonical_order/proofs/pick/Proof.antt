@@ -1,8 +1,9 @@
 -- `pick` gives `pick`: m where it is an operand without a number, else what was found before.
 use Prim.Native.Nat.{ℕ}
 use lib.Dec.{eqb}
+use lib.ListN.{getD}
 use mathlib.Core.Bool.{_&&_}
-use mathlib.Core.Path.{sym, _∙_, ap}
+use mathlib.Core.Path.{_≡_, sym, _∙_, ap}
 use borrow.Author.Needs.{needs}
 use Rattle.canonical_order.proofs.pick.Statement.{statement}
 use Rattle.canonical_order.proofs.pick.Tie as tie
@@ -16,17 +17,15 @@ element-copy-out-wide c = search needs
 wide-requires : tie.Need-wide-requires
 wide-requires c κs = search needs
 
+-- what is tested
+test : (c : tie.After-wide) → let a = c .before .before .args in (a .there && eqb (getD (a .number .now) (a .m .0) 0) 65535) ≡ (a .there && eqb (c .wide .result) 65535)
+test c = sym (ap (λ (x : ℕ). c .before .before .args .there && eqb x 65535) (c .wide .ensures .0))
+
 returns : tie.Need-returns
-returns c =
-    let s = c .before .before .before in
-    let e = sym (ap (λ (x : ℕ). s .args .there && eqb x 65535) (c .before .wide .ensures .0)) ∙ c .if1 .taken in
-    rw e
+returns c = rw (test (c .before) ∙ c .if1 .taken)
 
 returns-2 : tie.Need-returns-2
-returns-2 c =
-    let s = c .before .before .before in
-    let e = sym (ap (λ (x : ℕ). s .args .there && eqb x 65535) (c .before .wide .ensures .0)) ∙ c .if1 .left in
-    rw e
+returns-2 c = rw (test (c .before) ∙ c .if1 .left)
 
 pub pick-spec : {M : Type 1} → statement M
 pick-spec = tie.close (tie.spec mul-wide element-copy-out-wide wide-requires returns returns-2)

@@ -8,10 +8,10 @@ use Rattle.canonical_order.proofs.walk.Statement.{statement}
 use Rattle.canonical_order.proofs.walk.Tie as tie
 
 abbrev Inv-loop : tie.InvT-loop
-Inv-loop pool class root number₀ order₀ stack₀ s₀ number order stack s = Walking pool class root number order (s .count) stack (s .depth)
+Inv-loop pool class root number₀ order₀ stack₀ at s₀ number order stack s = Walking pool class (root .0) number order (s .count) stack (s .depth)
 
 abbrev μ-loop : tie.MeasureT-loop
-μ-loop pool class root number₀ order₀ stack₀ s₀ number order stack s = work root number stack (s .depth)
+μ-loop pool class root number₀ order₀ stack₀ at s₀ number order stack s = work (root .0) number stack (s .depth)
 
 mul-stack : tie.Need-mul-stack Inv-loop μ-loop
 mul-stack c = omega arith
@@ -26,7 +26,7 @@ loop-holds : tie.Need-loop-holds Inv-loop μ-loop
 loop-holds c =
     let s = c .before .before in
     let a = s .args in
-    started (a .pool .now) (a .class .now) (a .root) (s .pre .1 .0) (s .pre .0 .2) (a .number .now) (a .order .now) (a .stack .now) (s .pre .1 .1 .0 .0) (s .pre .1 .1 .0 .1)
+    started (a .pool .now) (a .class .now) (a .root .0) (s .pre .1 .0) (s .pre .0 .2) (a .number .now) (a .order .now) (a .stack .now) (s .pre .1 .1 .0 .0) (s .pre .1 .1 .0 .1)
     (s .pre .1 .1 .0 .2) (s .pre .1 .1 .1)
 
 turn-requires : tie.Need-turn-requires Inv-loop μ-loop
@@ -47,8 +47,8 @@ returns c =
     let a = c .before .before .before .before .before .args in
     let l = c .before .before .loop in
     let e : l .s .depth ≡ 0 = omega (arith, c .if1 .left) in
-    ended (a .pool .now) (a .class .now) (a .root) (l .number) (l .order) (l .s .count) (l .stack)
-    (subst (λ (x : ℕ). Walking (a .pool .now) (a .class .now) (a .root) (l .number) (l .order) (l .s .count) (l .stack) x) e (l .inv))
+    ended (a .pool .now) (a .class .now) (a .root .0) (l .number) (l .order) (l .s .count) (l .stack)
+    (subst (λ (x : ℕ). Walking (a .pool .now) (a .class .now) (a .root .0) (l .number) (l .order) (l .s .count) (l .stack) x) e (l .inv))
 
 pub walk-spec : {M : Type 1} → statement M
 walk-spec =

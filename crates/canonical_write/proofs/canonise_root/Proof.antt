@@ -1,5 +1,7 @@
 -- `canonise_root` answers for a root of a good pool: 6 and nothing written where the subtrees have no room, else all their nodes.
 use native.Mathlib.Omega.{arith}
+use Prim.Native.Nat.{_≤_}
+use Rattle.pool.specs.Node.{places}
 use Rattle.canonical_write.proofs.Arrays.{no-room, all-written}
 use borrow.Author.Needs.{needs}
 use Rattle.canonical_write.proofs.canonise_root.Statement.{statement}
@@ -14,13 +16,23 @@ classed c = filled c .before
 
 -- the four arrays, before the classes
 abbrev arrays : tie.After-classes → tie.After-free-ways
-arrays c = c .before .before .before .before .before
+arrays c = c .before .before .before .before .before .before
 
 abbrev start : tie.After-free-ways → tie.Start
 start c = c .before .before .before .before .before .before
 
 abbrev entry : tie.After-walk → tie.Start
 entry c = start (arrays (classed c))
+
+abbrev walked : tie.After-places → tie.After-walk
+walked c = c .before .before
+
+-- past the test: the nodes have room
+abbrev counted : tie.Else1 → tie.After-walk
+counted c = walked (c .before)
+
+room : (c : tie.Else1) → let w = counted c in w .walk .result ≤ places (entry w .args .out .now)
+room c = omega (arith, c .before .places .ensures, c .if1 .left)
 
 zeros-requires : tie.Need-zeros-requires
 zeros-requires c κs = search needs
@@ -39,7 +51,7 @@ add-classes c = search needs
 
 classes-requires : tie.Need-classes-requires
 classes-requires c κs =
-    let ways = c .before .before .before .before in
+    let ways = c .before .before .before .before .before in
     let second = ways .before in
     let first = second .before in
     let class = first .before in
@@ -71,17 +83,15 @@ same-length c = search needs
 
 returns : tie.Need-returns
 returns c =
-    let p = c .before in
-    let w = p .before .before in
+    let w = walked (c .before) in
     let a = entry w .args in
-    no-room (a .pool .now) (a .root) (a .out .now) (omega (arith, p .places .ensures, w .walk .ensures .count, c .if1 .taken))
+    no-room (a .pool .now) (a .root .0) (a .out .now) (omega (arith, c .before .places .ensures, w .walk .ensures .count, c .if1 .taken))
 
 write-requires : tie.Need-write-requires
 write-requires c κs =
     let t = c .before .before .before .before in
-    let p = t .before in
-    let w = p .before .before in
-    (entry w .pre, (classed w .classes .ensures .0, (w .walk .ensures, (omega (arith, p .places .ensures, t .if1 .left), omega (arith, p .places .ensures, t .if1 .left)))))
+    let w = counted t in
+    (entry w .pre, (classed w .classes .ensures .0, (w .walk .ensures, (omega (arith, room t), omega (arith, room t)))))
 
 same-length-2 : tie.Need-same-length-2
 same-length-2 c = search needs
@@ -90,10 +100,9 @@ returns-2 : tie.Need-returns-2
 returns-2 c =
     let q = c .before .before in
     let t = q .before .before .before .before .before in
-    let p = t .before in
-    let w = p .before .before in
+    let w = counted t in
     let a = entry w .args in
-    all-written (a .pool .now) (a .root) (a .out .now) (w .walk .result) (w .walk .ensures .count) (omega (arith, p .places .ensures, t .if1 .left)) _ (q .write .ensures)
+    all-written (a .pool .now) (a .root .0) (a .out .now) (w .walk .result) (w .walk .ensures .count) (room t) _ (q .write .ensures)
 
 pub canonise-root-spec : {M : Type 1} → statement M
 canonise-root-spec =

@@ -8,9 +8,6 @@ use Rattle.canonical_write.proofs.new_operands.Tie as tie
 kind-of-requires : tie.Need-kind-of-requires
 kind-of-requires c κs = search needs
 
-third-requires : tie.Need-third-requires
-third-requires c κs = search needs
-
 has-a-requires : tie.Need-has-a-requires
 has-a-requires c κs = search needs
 
@@ -32,6 +29,9 @@ number-if-requires-2 c κs = omega (arith, c .second .ensures)
 has-c-requires : tie.Need-has-c-requires
 has-c-requires c κs = search needs
 
+third-requires : tie.Need-third-requires
+third-requires c κs = search needs
+
 number-if-requires-3 : tie.Need-number-if-requires-3
 number-if-requires-3 c κs = search needs
 
@@ -49,15 +49,15 @@ add-result-2 c = search needs
 
 returns : tie.Need-returns
 returns c =
-    let at-has-c = c .before in
+    let at-third = c .before in
+    let at-has-c = at-third .before in
     let at-number-if2 = at-has-c .before in
     let at-second = at-number-if2 .before in
     let at-has-b = at-second .before in
     let at-number-if = at-has-b .before in
     let at-first = at-number-if .before in
     let at-has-a = at-first .before in
-    let at-third = at-has-a .before .before in
-    let at-kind-of = at-third .before in
+    let at-kind-of = at-has-a .before in
     operands-made _ _ _ _ (at-kind-of .kind-of .result) _ _ _ _ _ _ _ _ _ (at-kind-of .kind-of .ensures) (at-has-a .has-a .ensures) (at-has-b .has-b .ensures) (at-has-c .has-c .ensures)
     (at-first .first .ensures) (at-second .second .ensures) (at-third .third .ensures) (at-number-if .number-if .ensures .0) (at-number-if2 .number-if2 .ensures .0)
     (c .number-if3 .ensures .0)
@@ -67,7 +67,6 @@ new-operands-spec =
     tie.close
     (tie.spec
     kind-of-requires
-    third-requires
     has-a-requires
     first-requires
     number-if-requires
@@ -75,6 +74,7 @@ new-operands-spec =
     second-requires
     number-if-requires-2
     has-c-requires
+    third-requires
     number-if-requires-3
     mul-result
     add-result

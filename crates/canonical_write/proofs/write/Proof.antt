@@ -8,7 +8,7 @@ use Rattle.canonical_write.proofs.write.Statement.{statement}
 use Rattle.canonical_write.proofs.write.Tie as tie
 
 abbrev Inv-loop : tie.InvT-loop
-Inv-loop pool class root number order k out₀ j₀ out j = (j ≤ k) × Written pool root j out₀ out
+Inv-loop pool class root number order k out₀ j₀ out j = (j ≤ k) × Written pool (root .0) j out₀ out
 
 abbrev μ-loop : tie.MeasureT-loop
 μ-loop pool class root number order k out₀ j₀ out j = k - j
@@ -16,7 +16,7 @@ abbrev μ-loop : tie.MeasureT-loop
 loop-holds : tie.Need-loop-holds Inv-loop μ-loop
 loop-holds c =
     let a = c .before .before .args in
-    (omega arith, written-none (a .pool .now) (a .root) (a .out .now))
+    (omega arith, written-none (a .pool .now) (a .root .0) (a .out .now))
 
 write-one-requires : tie.Need-write-one-requires Inv-loop μ-loop
 write-one-requires c κs =

@@ -1,8 +1,10 @@
 -- `write_one` writes the four words of node j of the canonical pool, and nothing else (`OneMore`).
-use Rattle.canonical_write.proofs.Words.{one-more, new-operands, new-word0, new-word2, new-word3}
+use Rattle.canonical_write.proofs.Words.{one-more, new-words}
 use Rattle.canonical_write.specs.Canonise.{newOperands}
-use lib.ListN.{getD}
-use Prim.Native.Nat.{_<_, ℕ, _*_, _+_}
+use Rattle.pool.specs.Node.{wordAt}
+use Rattle.pool_operands.proofs.Unused.{third-small}
+use lib.ListN.{length, getD}
+use Prim.Native.Nat.{ℕ, _+_, _*_, _≤_, _<_}
 use mathlib.Core.Path.{_∙_, ap}
 use native.Mathlib.Omega.{arith}
 use borrow.Author.Needs.{needs}
@@ -12,6 +14,17 @@ use Rattle.canonical_write.proofs.write_one.Tie as tie
 abbrev begun : tie.After-entry → tie.Start
 begun c = c .before .before .before
 
+-- the node that is written, before its words are read
+abbrev read : tie.After-shared-slice-known2 → tie.After-entry
+read c = c .before .before .before .before
+
+-- it is one of the term
+node-in : (c : tie.After-entry) → c .entry .result ≤ begun c .args .root .0
+node-in c = let s = begun c in omega (arith, c .entry .ensures .0, s .pre .1 .1 .0 .node (s .args .j) (s .pre .1 .1 .1 .0) .0)
+
+readable : (c : tie.After-entry) → 4 * c .entry .result + 3 < length (begun c .args .pool .now)
+readable c = omega (arith, node-in c, begun c .pre .0 .1)
+
 entry-requires : tie.Need-entry-requires
 entry-requires c κs = search needs
 
@@ -20,41 +33,21 @@ mul-at c = search needs
 
 new-operands-requires : tie.Need-new-operands-requires
 new-operands-requires c κs =
-    let s = c .before .before .before in
-    omega (arith, c .entry .ensures .0, s .pre .1 .1 .0 .node (s .args .j) (s .pre .1 .1 .1 .0) .0, s .pre .0 .1)
+    let at-entry = c .before in
+    let s = begun at-entry in
+    (readable at-entry, third-small (s .args .pool .now) (s .args .root .0 + 1) (at-entry .entry .result) (s .pre .0 .0) (omega (arith, node-in at-entry)) (omega (arith, at-entry .entry .ensures .1)))
 
 mul-push : tie.Need-mul-push
 mul-push c = search needs
 
 shared-slice-read-push : tie.Need-shared-slice-read-push
-shared-slice-read-push c =
-    let at-entry = c .before .before .before in
-    let s = begun at-entry in
-    omega (arith, at-entry .entry .ensures .0, s .pre .1 .1 .0 .node (s .args .j) (s .pre .1 .1 .1 .0) .0, s .pre .0 .1)
+shared-slice-read-push c = omega (arith, readable (read c))
 
-add-push : tie.Need-add-push
-add-push c = search needs
+low-requires : tie.Need-low-requires
+low-requires c κs = readable (read c)
 
-mul-push-2 : tie.Need-mul-push-2
-mul-push-2 c = search needs
-
-shared-slice-read-push-2 : tie.Need-shared-slice-read-push-2
-shared-slice-read-push-2 c =
-    let at-entry = c .before .before .before .before in
-    let s = begun at-entry in
-    omega (arith, at-entry .entry .ensures .0, s .pre .1 .1 .0 .node (s .args .j) (s .pre .1 .1 .1 .0) .0, s .pre .0 .1)
-
-add-push-2 : tie.Need-add-push-2
-add-push-2 c = search needs
-
-mul-push-3 : tie.Need-mul-push-3
-mul-push-3 c = search needs
-
-shared-slice-read-push-3 : tie.Need-shared-slice-read-push-3
-shared-slice-read-push-3 c =
-    let at-entry = c .before .before .before .before .before in
-    let s = begun at-entry in
-    omega (arith, at-entry .entry .ensures .0, s .pre .1 .1 .0 .node (s .args .j) (s .pre .1 .1 .1 .0) .0, s .pre .0 .1)
+high-requires : tie.Need-high-requires
+high-requires c κs = readable (read (c .before))
 
 push-requires : tie.Need-push-requires
 push-requires c κs = search needs
@@ -65,25 +58,23 @@ same-length c = search needs
 returns : tie.Need-returns
 returns c =
     let at-push = c .before .before in
-    let at-operands = at-push .before .before .before .before .before in
-    let at-entry = at-operands .before in
+    let at-high = at-push .before in
+    let at-low = at-high .before in
+    let at-operands = at-low .before .before .before in
+    let at-entry = read (at-low .before) in
     let known = at-entry .before .before .shared-slice-known .given in
     let s = begun at-entry in
     let a = s .args in
     let ws = a .pool .now in
     let N = s .pre .1 .1 .0 in
     let l = s .pre .1 .1 .1 .0 in
-    let words : (i : ℕ) → getD ws i 0 < 18446744073709551616 = λ i. omega (arith, known i) in
     let e = at-entry .entry .ensures .0 in
-    one-more ws (a .root) (a .j) (a .out .now) (at-push .push .last .0) _ _ _ _ (omega (arith, N .count, l)) (omega (arith, l, s .pre .1 .1 .1 .1)) (at-push .push .ensures .words) (
-      ap (λ (m : ℕ). getD ws (4 * m) 0) e
-          ∙ new-word0 ws (a .class .now) (a .root) (s .pre .0 .0) words (s .pre .0 .2) (s .pre .1 .0) (a .number .now) (a .order .now) (a .k) N (a .j) l,
-      at-operands .new-operands .ensures ∙ ap (newOperands ws (a .class .now) (a .number .now)) e
-          ∙ new-operands ws (a .class .now) (a .root) (s .pre .0 .0) words (s .pre .0 .2) (s .pre .1 .0) (a .number .now) (a .order .now) (a .k) N (a .j) l,
-      ap (λ (m : ℕ). getD ws (4 * m + 2) 0) e
-          ∙ new-word2 ws (a .class .now) (a .root) (s .pre .0 .0) words (s .pre .0 .2) (s .pre .1 .0) (a .number .now) (a .order .now) (a .k) N (a .j) l,
-      ap (λ (m : ℕ). getD ws (4 * m + 3) 0) e
-          ∙ new-word3 ws (a .class .now) (a .root) (s .pre .0 .0) words (s .pre .0 .2) (s .pre .1 .0) (a .number .now) (a .order .now) (a .k) N (a .j) l,
+    let w = new-words ws (a .class .now) (a .root .0) (s .pre .0 .0) (λ i. omega (arith, known i)) (s .pre .1 .0) (a .number .now) (a .order .now) (a .k) N (a .j) l in
+    one-more ws (a .root .0) (a .j) (a .out .now) (at-push .push .last .0) _ _ _ _ (omega (arith, N .count, l)) (omega (arith, l, s .pre .1 .1 .1 .1)) (at-push .push .ensures .words) (
+      ap (λ (m : ℕ). getD ws (4 * m) 0) e ∙ w .0,
+      at-operands .new-operands .ensures ∙ ap (newOperands ws (a .class .now) (a .number .now)) e ∙ w .1,
+      at-low .low .ensures ∙ ap (λ (m : ℕ). wordAt ws m 2) e ∙ w .2,
+      at-high .high .ensures ∙ ap (λ (m : ℕ). wordAt ws m 3) e ∙ w .3,
     )
 
 pub write-one-spec : {M : Type 1} → statement M
@@ -95,12 +86,8 @@ write-one-spec =
     new-operands-requires
     mul-push
     shared-slice-read-push
-    add-push
-    mul-push-2
-    shared-slice-read-push-2
-    add-push-2
-    mul-push-3
-    shared-slice-read-push-3
+    low-requires
+    high-requires
     push-requires
     same-length
     returns)
