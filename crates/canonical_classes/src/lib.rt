@@ -1,6 +1,7 @@
 // Which nodes of a pool unfold to the same tree (document 02, S-13). The Rust has no counterpart.
 use pool::Node;
 use pool::words::kind_of;
+use pool::words::kind_word_at;
 use pool_fields::first;
 use pool_fields::high;
 use pool_fields::low;
@@ -56,11 +57,9 @@ fn key_of(pool: &[u64], class: &[u16; 65536], n: Node) -> Key
     requires { ⌜ (4 * n .0 + 3 < length (now pool)) × (opC (now pool) (n .0) < 65536) ⌝ }
     ensures { λ r. ⌜ (r ≡ keyOf (now (pool .entry)) (now (class .entry)) (n .0)) × (r .a < 65536) × (r .b < 65536) × (r .c < 65536) ⌝ }
 {
-    let at = 4 * n.0;
-    let word = pool[at];
     let kind = kind_of(pool, n);
     Key {
-        word,
+        word: kind_word_at(pool, n),
         a: class_if(has_a(kind), class, first(pool, n)),
         b: class_if(has_b(kind), class, second(pool, n)),
         c: class_if(has_c(kind), class, third(pool, n)),

@@ -3,6 +3,7 @@ use canonical_classes::classes;
 use canonical_order::walk;
 use pool::Node;
 use pool::words::kind_of;
+use pool::words::kind_word_at;
 use pool_check::node_number;
 use pool_fields::first;
 use pool_fields::high;
@@ -81,9 +82,15 @@ fn write_one(
     ensures { λ r. ⌜ OneMore (now (pool .entry)) (root .0) j (now (out .entry)) (now (out .exit)) ⌝ }
 {
     let n = Node(entry(order, j as u64) as usize);
-    let at = 4 * n.0;
     let w1 = new_operands(pool, class, number, n);
-    pool::push(out, j, pool[at], w1, low(pool, n), high(pool, n));
+    pool::push(
+        out,
+        j,
+        kind_word_at(pool, n),
+        w1,
+        low(pool, n),
+        high(pool, n),
+    );
 }
 
 // Writes the first k nodes, all that there are.

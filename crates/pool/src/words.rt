@@ -3,8 +3,8 @@
 use crate::Node;
 ghost use mathlib.Core.Path.{_≡_};
 ghost use Prim.Native.Nat.{_+_, _*_, _<_, _^_};
-ghost use lib.ListN.{length};
-ghost use Rattle.pool.specs.Node.{kindWord, wordAt, kindNumber, widthAt, setAt};
+ghost use lib.ListN.{length, getD};
+ghost use Rattle.pool.specs.Node.{kindWord, kindNumber, widthAt, setAt};
 
 // The numbers of the kinds of node, in document 01's order: Var and Const have no operand, Add to AShr are of vectors, Eq to Slt conditions.
 pub struct Kind(pub u64);
@@ -59,7 +59,7 @@ pub fn kind_word(kind: u64, width: u64, set: u64) -> u64
 // Word 0 as it stands, of a node that is copied or compared whole.
 pub fn kind_word_at(p: &[u64], n: Node) -> u64
     requires { ⌜ 4 * n .0 + 3 < length (now p) ⌝ }
-    ensures { λ r. ⌜ r ≡ wordAt (now (p .entry)) (n .0) 0 ⌝ }
+    ensures { λ r. ⌜ r ≡ getD (now (p .entry)) (4 * n .0) 0 ⌝ }
 {
     let at = 4 * n.0;
     p[at]

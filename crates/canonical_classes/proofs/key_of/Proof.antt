@@ -5,17 +5,11 @@ use borrow.Author.Needs.{needs}
 use Rattle.canonical_classes.proofs.key_of.Statement.{statement}
 use Rattle.canonical_classes.proofs.key_of.Tie as tie
 
-mul-at : tie.Need-mul-at
-mul-at c = search needs
-
-mul-word : tie.Need-mul-word
-mul-word c = search needs
-
-shared-slice-read-word : tie.Need-shared-slice-read-word
-shared-slice-read-word c = search needs
-
 kind-of-requires : tie.Need-kind-of-requires
 kind-of-requires c κs = search needs
+
+kind-word-at-requires : tie.Need-kind-word-at-requires
+kind-word-at-requires c κs = search needs
 
 has-a-requires : tie.Need-has-a-requires
 has-a-requires c κs = search needs
@@ -62,10 +56,11 @@ returns c =
     let at-class-if = at-has-b .before in
     let at-first = at-class-if .before in
     let at-has-a = at-first .before in
-    let at-kind-of = at-has-a .before in (
-      key-made _ _ _ (at-kind-of .kind-of .result) _ _ _ _ _ _ _ _ _ _ _ (at-kind-of .kind-of .ensures) (at-has-a .has-a .ensures) (at-has-b .has-b .ensures) (at-has-c .has-c .ensures)
+    let at-word = at-has-a .before in
+    let at-kind-of = at-word .before in (
+      rw (at-word .kind-word-at .ensures) (key-made _ _ _ (at-kind-of .kind-of .result) _ _ _ _ _ _ _ _ _ _ _ (at-kind-of .kind-of .ensures) (at-has-a .has-a .ensures) (at-has-b .has-b .ensures) (at-has-c .has-c .ensures)
           (at-first .first .ensures) (at-second .second .ensures) (at-third .third .ensures) (at-class-if .class-if .ensures .0) (at-class-if2 .class-if2 .ensures .0)
-          (at-class-if3 .class-if3 .ensures .0) (at-low .low .ensures) (c .high .ensures),
+          (at-class-if3 .class-if3 .ensures .0) (at-low .low .ensures) (c .high .ensures)),
       at-class-if .class-if .ensures .1,
       at-class-if2 .class-if2 .ensures .1,
       at-class-if3 .class-if3 .ensures .1,
@@ -75,10 +70,8 @@ pub key-of-spec : {M : Type 1} → statement M
 key-of-spec =
     tie.close
     (tie.spec
-    mul-at
-    mul-word
-    shared-slice-read-word
     kind-of-requires
+    kind-word-at-requires
     has-a-requires
     first-requires
     class-if-requires

@@ -15,8 +15,8 @@ abbrev begun : tie.After-entry → tie.Start
 begun c = c .before .before .before
 
 -- the node that is written, before its words are read
-abbrev read : tie.After-shared-slice-known2 → tie.After-entry
-read c = c .before .before .before .before
+abbrev read : tie.After-kind-word-at → tie.After-entry
+read c = c .before .before
 
 -- it is one of the term
 node-in : (c : tie.After-entry) → c .entry .result ≤ begun c .args .root .0
@@ -28,20 +28,14 @@ readable c = omega (arith, node-in c, begun c .pre .0 .1)
 entry-requires : tie.Need-entry-requires
 entry-requires c κs = search needs
 
-mul-at : tie.Need-mul-at
-mul-at c = search needs
-
 new-operands-requires : tie.Need-new-operands-requires
 new-operands-requires c κs =
     let at-entry = c .before in
     let s = begun at-entry in
     (readable at-entry, third-small (s .args .pool .now) (s .args .root .0 + 1) (at-entry .entry .result) (s .pre .0 .0) (omega (arith, node-in at-entry)) (omega (arith, at-entry .entry .ensures .1)))
 
-mul-push : tie.Need-mul-push
-mul-push c = search needs
-
-shared-slice-read-push : tie.Need-shared-slice-read-push
-shared-slice-read-push c = omega (arith, readable (read c))
+kind-word-at-requires : tie.Need-kind-word-at-requires
+kind-word-at-requires c κs = readable (c .before)
 
 low-requires : tie.Need-low-requires
 low-requires c κs = readable (read c)
@@ -60,8 +54,9 @@ returns c =
     let at-push = c .before .before in
     let at-high = at-push .before in
     let at-low = at-high .before in
-    let at-operands = at-low .before .before .before in
-    let at-entry = read (at-low .before) in
+    let at-word = at-low .before in
+    let at-operands = at-word .before in
+    let at-entry = read at-word in
     let known = at-entry .before .before .shared-slice-known .given in
     let s = begun at-entry in
     let a = s .args in
@@ -71,7 +66,7 @@ returns c =
     let e = at-entry .entry .ensures .0 in
     let w = new-words ws (a .class .now) (a .root .0) (s .pre .0 .0) (λ i. omega (arith, known i)) (s .pre .1 .0) (a .number .now) (a .order .now) (a .k) N (a .j) l in
     one-more ws (a .root .0) (a .j) (a .out .now) (at-push .push .last .0) _ _ _ _ (omega (arith, N .count, l)) (omega (arith, l, s .pre .1 .1 .1 .1)) (at-push .push .ensures .words) (
-      ap (λ (m : ℕ). getD ws (4 * m) 0) e ∙ w .0,
+      at-word .kind-word-at .ensures ∙ ap (λ (m : ℕ). getD ws (4 * m) 0) e ∙ w .0,
       at-operands .new-operands .ensures ∙ ap (newOperands ws (a .class .now) (a .number .now)) e ∙ w .1,
       at-low .low .ensures ∙ ap (λ (m : ℕ). wordAt ws m 2) e ∙ w .2,
       at-high .high .ensures ∙ ap (λ (m : ℕ). wordAt ws m 3) e ∙ w .3,
@@ -82,10 +77,8 @@ write-one-spec =
     tie.close
     (tie.spec
     entry-requires
-    mul-at
     new-operands-requires
-    mul-push
-    shared-slice-read-push
+    kind-word-at-requires
     low-requires
     high-requires
     push-requires
