@@ -11,7 +11,6 @@ use Rattle.trees_value.proofs.Block.{block-is}
 use Rattle.trees_value.proofs.Range.{block-lt}
 use Rattle.block_check.proofs.Refusals.{block-legal}
 use Rattle.block.specs.Demand.{RegistersHold, EqualWhenTermsAre, RefusedWhole, RegistersFit}
-use Rattle.block.specs.declared.BlockAnswer.{BlockAnswer}
 
 pub registers-hold : RegistersHold
 registers-hold old cs new a h z start r l =

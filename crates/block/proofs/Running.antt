@@ -1,17 +1,17 @@
 -- Records in order: one more at the end of a run, the start of the pool, and the answer of the whole. Assumes nothing.
-use Prim.Native.Nat.{ℕ, zero, suc, _+_, _*_, _/_, _≤_, _<_, _^_}
+use Prim.Native.Nat.{ℕ, _+_, _*_, _/_, _≤_, _<_, _^_}
 use mathlib.Core.Path.{_≡_, refl, sym, ap, subst, _∙_}
 use mathlib.Core.List.{List, [], _∷_, _++_}
 use mathlib.Core.Logic.{⊎-elim, inl, inr}
 use native.Mathlib.Omega.{arith}
-use native.Mathlib.Nat.{le-refl, le-trans, add-zero, zero-add, not-suc-le-zero, min-le-left, min-le-right}
+use native.Mathlib.Nat.{le-refl, le-trans, zero-add, not-suc-le-zero, min-le-left, min-le-right}
 use native.Mathlib.Numerals.{add-one}
 use lib.ListN.{length, length-append}
 use borrow.Author.Tests.{le-leb}
 use Rattle.facts.proofs.Numbers.{before-or-from}
 use Rattle.terms.specs.Expr.{Expr, Var}
 use Rattle.neon.specs.declared.Instruction.{Instruction}
-use Rattle.neon.specs.Refusal.{reserve, Legal, AllLegal, blockRefusal}
+use Rattle.neon.specs.Refusal.{reserve, AllLegal, blockRefusal}
 use Rattle.trees.specs.Block.{treeStep, treeRun}
 use Rattle.pool.specs.declared.Built.{Built}
 use Rattle.pool.specs.Node.{Cell, kindAt, kinds, none, places}

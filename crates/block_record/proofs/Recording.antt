@@ -20,7 +20,7 @@ use Rattle.trees.specs.Block.{readTree, widenTree, recordTree, treeStep}
 use Rattle.pool.specs.declared.Node.{Node}
 use Rattle.pool.specs.declared.Built.{Built}
 use Rattle.pool.specs.Rules.{Valid}
-use Rattle.pool.specs.Growth.{Reach, Grown, NodeIs}
+use Rattle.pool.specs.Growth.{Reach, NodeIs}
 use Rattle.pool.proofs.Laws.{grown-trans, is-kept, reach-kept, reach-trans}
 use Rattle.lower.specs.Builds.{Builds1, Lowers, read, readIf}
 use Rattle.block_map.specs.declared.RegisterMap.{RegisterMap}

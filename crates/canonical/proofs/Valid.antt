@@ -13,7 +13,7 @@ use Rattle.terms.specs.Registers.{registers}
 use Rattle.pool.specs.Node.{Cell, cellAt, widthAt, setAt}
 use Rattle.pool.specs.Rules.{wideOk, widthBefore, setBefore, setRule, okCell, okNode, okPool, Valid}
 use Rattle.canonical.specs.Order.{parts, place}
-use Rattle.canonical.specs.Words.{cellIn, canonical}
+use Rattle.canonical.specs.Words.{cellIn}
 use Rattle.canonical.proofs.Lists.{at-place}
 use Rattle.canonical.proofs.Trees.{All, at, Before, Closed}
 use Rattle.canonical.proofs.Good.{good-wide, all-at}

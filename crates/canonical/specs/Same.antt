@@ -1,6 +1,5 @@
 -- Whether two terms are the same tree. The types say what is decided; nothing here has to be believed.
 use mathlib.Core.Path.{_≡_, refl, sym, ap, _∙_}
-use Prim.Native.Nat.{ℕ}
 use native.Mathlib.Decide.{ℕ-discrete}
 use Rattle.terms.specs.declared.BinOp.{BinOp}
 use Rattle.terms.specs.declared.BinOp.the-variants.{Add, Sub, Mul, And, Or, Xor, Shl, LShr, AShr}

@@ -5,7 +5,7 @@ use Rattle.block_map.specs.Map.{nodeOf}
 use Rattle.wide.specs.Registers.{registersOf}
 use Rattle.block.proofs.Equal.{registers-hold}
 use Rattle.evaluate.specs.Visits.{valueAt, visitsAt}
-use Rattle.evaluate.specs.Answer.{evaluateNumber, found}
+use Rattle.evaluate.specs.Answer.{evaluateNumber}
 use Rattle.evaluate_blocks.specs.Demand.{EvaluatedIsRun}
 
 pub evaluated-is-run : EvaluatedIsRun

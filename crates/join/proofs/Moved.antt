@@ -7,7 +7,7 @@ use native.Mathlib.Omega.{arith}
 use Rattle.pool.specs.Node.{codeOf, kindAt, kindNumber, wordAt, aOf, bOf, cOf, operandWord}
 use Rattle.pool.specs.Rules.{Valid}
 use Rattle.pool_operands.specs.Operands.{hasA, hasB, hasC}
-use Rattle.pool_operands.proofs.Unused.{Unused, unused, third-small}
+use Rattle.pool_operands.proofs.Unused.{unused, third-small}
 use Rattle.join.specs.Join.{moved, movedIf, movedWord, movedParts}
 use Rattle.join.proofs.Registers.{code-at}
 

@@ -1,7 +1,6 @@
 -- Pools that two blocks' terms can be joined from (document 02, S-11): v0 to v31 are nodes 0 to 31, and no other node is a Var.
 use mathlib.Core.Bool.{Bool, true, cond, _&&_, not}
 use mathlib.Core.List.{List}
-use mathlib.Core.Path.{_≡_}
 use Prim.Native.Nat.{ℕ, zero, suc}
 use lib.Dec.{ltb, leb, eqb}
 use Rattle.pool.specs.Node.{kindNumber, wordAt}

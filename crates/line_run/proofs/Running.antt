@@ -2,19 +2,19 @@
 use mathlib.Core.Bool.{Bool, true, false}
 use mathlib.Core.List.{List, [], _∷_, _++_, append-assoc}
 use mathlib.Core.Path.{_≡_, refl, sym, ap, _∙_}
-use Prim.Native.Nat.{ℕ, zero, suc, _+_, _-_, _≤_, _<_}
+use Prim.Native.Nat.{ℕ, _+_, _-_, _≤_, _<_}
 use native.Mathlib.Omega.{arith}
 use lib.Dec.{leb}
 use lib.ListN.{length, take, drop, length-take, length-drop, length-append, drop-of-length-le}
 use lib.Seq.{take-all, take-append-seam, drop-drop, sets-eq, length-take-le}
 use borrow.Author.Tests.{le-leb, leb-true, leb-false}
 use Rattle.text_digits.specs.Writing.{Wrote}
-use Rattle.text_digits.proofs.Laws.{wrote-as, wrote-length}
+use Rattle.text_digits.proofs.Laws.{wrote-as}
 use Rattle.line_pieces.specs.declared.Gathered.{Gathered}
 use Rattle.line_pieces.specs.Pieces.{upTo, ends, Gathers}
 use Rattle.line_output.specs.Answer.{answerRoom}
 use Rattle.line.specs.Line.{answer, answerIn}
-use Rattle.line.specs.Output.{lastAnswer, outputFrom}
+use Rattle.line.specs.Output.{outputFrom}
 use Rattle.line.proofs.Fits.{answer-fits}
 use Rattle.line.proofs.Output.{line-open, output-cut, piece-ended, piece-open}
 use Rattle.line_run.specs.Going.{answers, Ends}

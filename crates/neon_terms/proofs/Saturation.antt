@@ -1,13 +1,11 @@
 -- The theorems of specs/Demand.antt on blocks with their saturation bit. Assumes nothing.
-use mathlib.Core.Path.{_≡_, refl, sym, ap, _∙_}
+use mathlib.Core.Path.{refl, sym, ap, _∙_}
 use mathlib.Core.List.{List}
 use Prim.Native.Nat.{ℕ}
 use lib.ListN.{getD}
 use Rattle.terms.specs.Value.{value}
 use Rattle.pool.specs.Unfold.{unfoldAt}
-use Rattle.block_map.specs.declared.RegisterMap.{RegisterMap}
 use Rattle.wide.specs.Registers.{registersOf}
-use Rattle.block_results.specs.Words.{flaggedWords}
 use Rattle.block_results.proofs.Putting.{flagged-node, flagged-bit}
 use Rattle.saturation_block.proofs.Equal as flagged
 use Rattle.run_agreement.proofs.Equal.{runner-is-flagged}

@@ -1,5 +1,4 @@
 // Operations that make one pool of others.
-ghost use mathlib.Core.Path.{_≡_};
 ghost use Rattle.canonical_write.specs.Canonise.{Answered as Canonised};
 ghost use Rattle.join.specs.Join.{Answered as Joined};
 

@@ -10,7 +10,7 @@ use lib.ListN.{List·getD-map, List·getD-eq-default}
 use borrow.Author.Tests.{lt-ltb, ltb-true, ltb-false, leb-true, eqb-true}
 use Rattle.facts.proofs.Tests.{and-both}
 use Rattle.facts.proofs.Table.{tabulate, entry}
-use Rattle.pool.specs.Node.{Kind, bad, var, const, bv, compare, ite, extract, concat, zext, sext, kinds, kindAt, bvCode, compareCode, codeOf, Cell, cellAt, widthAt, setAt}
+use Rattle.pool.specs.Node.{bad, extract, kinds, kindAt, codeOf, Cell, cellAt, widthAt, setAt}
 use Rattle.pool.specs.Rules.{widthBefore, setRule, okKind, okCell, okNode, okPool, Valid}
 
 -- the twenty numbers are those of their kinds, as antt computes; any other is bad

@@ -3,7 +3,7 @@ use mathlib.Core.Bool.{cond}
 use mathlib.Core.List.{List}
 use Prim.Native.Nat.{ℕ}
 use lib.Dec.{eqb}
-use Rattle.pool.specs.Node.{Cell, cellAt, kindNumber}
+use Rattle.pool.specs.Node.{cellAt, kindNumber}
 
 abbrev pub opA : List ℕ → ℕ → ℕ
 opA ws n = cellAt ws n .a

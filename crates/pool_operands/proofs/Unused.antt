@@ -7,7 +7,7 @@ use lib.Dec.{ltb, leb, eqb}
 use native.Mathlib.Omega.{arith}
 use borrow.Author.Tests.{eqb-true}
 use Rattle.facts.proofs.Tests.{and-both}
-use Rattle.pool.specs.Node.{Kind, bad, var, const, bv, compare, ite, extract, concat, zext, sext, codeOf, Cell, cellAt, kindAt, kindNumber, wide}
+use Rattle.pool.specs.Node.{Kind, bad, var, const, bv, compare, ite, extract, concat, zext, sext, codeOf, Cell, cellAt, wide}
 use Rattle.pool.specs.Rules.{wideOk, okKind, widthBefore, Valid}
 use Rattle.pool.proofs.Facts.{valid-node}
 use Rattle.pool_operands.specs.Operands.{hasA, hasB, hasC}

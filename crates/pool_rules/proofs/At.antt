@@ -1,15 +1,14 @@
 -- The laws on a node's tests, at a node of a pool: what the code reads there decides its rules. Assumes nothing.
 use mathlib.Core.Path.{_≡_, sym, _∙_}
-use mathlib.Core.Bool.{Bool, true, false, _&&_, _||_, and-false, and-true, false≢true}
+use mathlib.Core.Bool.{Bool, true, false, _&&_, and-false, and-true, false≢true}
 use mathlib.Core.List.{List}
-use Prim.Native.Nat.{ℕ, _+_, _-_, _*_, _/_, _%_, _^_, _≤_, _<_}
+use Prim.Native.Nat.{ℕ, _+_, _-_, _*_, _^_, _≤_, _<_}
 use native.Mathlib.Omega.{arith}
 use lib.Bits.{bitOr}
 use lib.Dec.{ltb, leb, eqb}
-use lib.ListN.{getD}
 use borrow.Author.Tests.{lt-ltb, le-ltb, lt-leb, leb-true, eqb-true, eq-eqb}
 use Rattle.facts.proofs.Tests.{and-both}
-use Rattle.pool.specs.Node.{Kind, var, const, ite, extract, zext, cellAt, widthAt, setAt, wordAt, aOf, bOf, cOf}
+use Rattle.pool.specs.Node.{var, const, ite, extract, zext, cellAt, widthAt, setAt, wordAt}
 use Rattle.pool.specs.Rules.{widthBefore, setBefore}
 use Rattle.pool_fields.specs.Fields.{opA, opB, opC}
 use Rattle.pool_rules.specs.Rule.{okAs}

@@ -1,10 +1,10 @@
 -- Digits read and written one by one. Assumes nothing.
-use mathlib.Core.Path.{_≡_, refl, sym, ap, _∙_}
+use mathlib.Core.Path.{_≡_, refl, sym, _∙_}
 use mathlib.Core.Logic.{⊎-elim}
 use mathlib.Core.Bool.{Bool, true, _&&_}
 use mathlib.Core.List.{List, [], _∷_, _++_, append-assoc, append-nil}
 use Prim.Native.Nat.{ℕ, zero, suc, _+_, _*_, _-_, _/_, _%_, _≤_, _<_}
-use native.Mathlib.Nat.{add-zero, add-suc, eq-or-lt-of-le, le-of-suc-le-suc, mul-assoc, mul-comm}
+use native.Mathlib.Nat.{add-zero, add-suc, eq-or-lt-of-le, le-of-suc-le-suc, mul-assoc}
 use native.Mathlib.Numerals.{add-one}
 use native.Mathlib.Omega.{arith}
 use lib.Dec.{leb}
@@ -12,7 +12,7 @@ use lib.ListN.{length, getD, set, length-append}
 use borrow.Author.Tests.{leb-true}
 use Rattle.facts.proofs.Tests.{and-both}
 use Rattle.terms.specs.Display.{digit}
-use Rattle.text_digits.specs.Writing.{Room, Wrote}
+use Rattle.text_digits.specs.Writing.{Wrote}
 use Rattle.text_digits.proofs.Laws.{wrote-then, wrote-byte, wrote-as}
 use Rattle.wide.specs.Number.{words}
 use Rattle.run_registers.specs.Digits.{between, isHex, hexValue, hexAt, allHex, hexDigits}

@@ -1,8 +1,7 @@
 // Registers as 32 hexadecimal digits: 32 of them read from a text, one written.
-ghost use mathlib.Core.Bool.{_||_};
 ghost use mathlib.Core.Path.{_≡_};
-ghost use Prim.Native.Nat.{_+_, _^_, _≤_, _<_};
-ghost use lib.ListN.{length, drop};
+ghost use Prim.Native.Nat.{_+_, _≤_, _<_};
+ghost use lib.ListN.{length};
 ghost use Rattle.terms.specs.Display.{digit};
 ghost use Rattle.text_digits.specs.Writing.{Room, Wrote};
 ghost use Rattle.wide.specs.Number.{words};

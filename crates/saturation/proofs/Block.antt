@@ -4,19 +4,19 @@ use mathlib.Core.Bool.{Bool, true, false, cond, _||_, false≢true}
 use mathlib.Core.List.{List, [], _∷_}
 use Prim.Native.Nat.{ℕ, zero, suc, _-_, _≤_, _<_}
 use native.Mathlib.Omega.{arith}
-use Rattle.terms.specs.Expr.{Expr, Var, Const, width}
+use Rattle.terms.specs.Expr.{Expr, Var, width}
 use Rattle.terms.specs.Value.{value, bit}
 use Rattle.neon.specs.declared.Instruction.{Instruction}
 use Rattle.neon.specs.Op.{Op, Arrangement, opAt, arrangementAt, laneBits, full}
-use Rattle.neon.specs.Form.{form, firstFull, secondFull, byElement, sourceBits, least, most, laneCount, firstLane, secondLane}
+use Rattle.neon.specs.Form.{form, firstFull, secondFull, byElement, least, most, laneCount, firstLane, secondLane}
 use Rattle.neon.specs.Arm.{lane}
-use Rattle.neon.specs.Run.{readBits, armStep, armRun}
+use Rattle.neon.specs.Run.{armStep}
 use Rattle.neon.specs.Refusal.{Legal, AllLegal}
 use Rattle.neon.proofs.Legal.{accepted}
 use Rattle.neon.proofs.Geometry.{sized, source-some, filled}
 use Rattle.trees.specs.Simd.{extractLane}
 use Rattle.trees.specs.Neon.{neonOp}
-use Rattle.trees.specs.Block.{readTree, treeStep}
+use Rattle.trees.specs.Block.{treeStep}
 use Rattle.trees_value.proofs.Is.{Has, has-number}
 use Rattle.trees_value.proofs.Lanes.{is-lane, lane-lt}
 use Rattle.trees_value.proofs.Lane.{sources}
@@ -24,7 +24,7 @@ use Rattle.trees_value.proofs.Block.{read-is, step-is}
 use Rattle.saturation.specs.Saturates.{some, saturatesLane, saturatesAt, saturates, saturatesStep, saturatesRun}
 use Rattle.saturation.specs.Bits.{no, saturable, bitAt, instructionBit, saturationTree, recordBit, bitRun, blockBit}
 use Rattle.saturation.proofs.Some.{instruction-is}
-use Rattle.saturation.proofs.Families.{BitIs, bit-has, bit-is}
+use Rattle.saturation.proofs.Families.{bit-has, bit-is}
 
 -- a family that cannot saturate does not, whatever the immediate
 pub unsaturable : (o : Op) (i i′ : ℕ) (u : Bool) → saturable (neonOp o i′ u) ≡ false → (n d a b : ℕ) → saturatesLane o n i d a b ≡ false

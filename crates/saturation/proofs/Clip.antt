@@ -1,25 +1,24 @@
 -- The bit of a clamp: its value is 1 exactly where the clamp alters the integer. Assumes nothing.
 use mathlib.Core.Path.{_≡_, refl, sym, ap, _∙_}
 use mathlib.Core.Bool.{Bool, true, false, cond, _||_, false≢true}
-use Prim.Native.Nat.{ℕ, suc, _+_, _-_, _*_, _^_, _≤_, _<_}
+use Prim.Native.Nat.{ℕ, _+_, _-_, _*_, _^_, _≤_, _<_}
 use native.Mathlib.Omega.{arith}
 use lib.Pow.{pow-pos, pow-mono}
-use lib.IntN.{ℤ, pos, negsuc, negℤ, _+ℤ_, _-ℤ_}
+use lib.IntN.{ℤ, pos, negℤ, _+ℤ_, _-ℤ_}
 use lib.Signed.{ltZ}
-use Rattle.terms.specs.Expr.{Expr, Const, Bv}
+use Rattle.terms.specs.Expr.{Expr, Const}
 use Rattle.terms.specs.Value.{bit}
 use Rattle.terms.specs.declared.BinOp.the-variants.{Add, Sub}
 use Rattle.neon.specs.Arm.{clampZ, cS, cU}
 use Rattle.trees.specs.declared.SaturateTo.the-variants.{Signed, Unsigned, SignedToUnsigned}
 use Rattle.trees.specs.declared.SaturatingKind.the-variants.{AddSub, Narrow}
-use Rattle.trees.specs.Lower.{extend}
-use Rattle.trees_value.proofs.Z.{up, dn, neg-up, neg-dn, ge-is}
+use Rattle.trees_value.proofs.Z.{neg-up, neg-dn, ge-is}
 use Rattle.trees_value.proofs.Wrap.{half}
-use Rattle.trees_value.proofs.Bv.{FitsS, FitsU, Fits}
-use Rattle.trees_value.proofs.Is.{Is, Says, is-eq, is-const, is-negative, is-add, is-sub, is-ite, is-extend, says-slt, says-ult}
+use Rattle.trees_value.proofs.Bv.{FitsS, FitsU}
+use Rattle.trees_value.proofs.Is.{Is, is-eq, is-const, is-negative, is-add, is-sub, is-ite, is-extend, says-slt, says-ult}
 use Rattle.trees_value.proofs.Sat.{sumS, lessS, sumU, lessU, applyZ, is-apply}
 use Rattle.saturation.specs.Saturates.{outside, beyondS, beyondU}
-use Rattle.saturation.specs.Bits.{no, yes, clipped, saturatingBit}
+use Rattle.saturation.specs.Bits.{clipped, saturatingBit}
 
 -- z is altered to y exactly where b is true
 pub record AltersWhere (b : Bool) (y z : ℤ) : Type 0 where

@@ -6,8 +6,7 @@ use native.Mathlib.Omega.{arith}
 use native.Mathlib.Nat.{mul-le-mul-right}
 use lib.Bits.{bitOr}
 use lib.Pow.{pow-pos, pow-add, pow-mono}
-use lib.IntN.{ℤ, pos, negsuc, negℤ, natAbs, _+ℤ_, _-ℤ_, _*ℤ_, +ℤ-idl}
-use lib.Signed.{ltZ}
+use lib.IntN.{ℤ, pos, negsuc, negℤ, natAbs, _+ℤ_, _*ℤ_}
 use Rattle.terms.specs.Expr.{Expr, Const, Bv, Compare, Ite, width}
 use Rattle.terms.specs.Value.{value, bit}
 use Rattle.terms.specs.declared.BinOp.the-variants.{Add, Sub, Or}
@@ -16,13 +15,13 @@ use Rattle.neon.specs.Op.{Op}
 use Rattle.neon.specs.Arm.{S, cS, byte, doubled, floor, round, scale}
 use Rattle.neon.specs.Form.{form, least, most, sourceBits}
 use Rattle.trees.specs.declared.SaturateTo.the-variants.{Signed, Unsigned, SignedToUnsigned}
-use Rattle.trees.specs.declared.Saturate.the-variants.{Never, Into}
-use Rattle.trees.specs.declared.ShiftKind.the-variants.{LeftImmediate, RightImmediate, Register}
-use Rattle.trees.specs.declared.SaturatingKind.the-variants.{AddSub, Halving, Narrow, ShiftNarrow, DoublingMultiplyHigh, Unary}
-use Rattle.trees.specs.declared.Combine.the-variants.{Nothing, With}
-use Rattle.trees.specs.Arith.{shiftBy, plusIf, signedAmount}
+use Rattle.trees.specs.declared.Saturate.the-variants.{Into}
+use Rattle.trees.specs.declared.ShiftKind.the-variants.{LeftImmediate, Register}
+use Rattle.trees.specs.declared.SaturatingKind.the-variants.{ShiftNarrow, DoublingMultiplyHigh, Unary}
+use Rattle.trees.specs.declared.Combine.the-variants.{With}
+use Rattle.trees.specs.Arith.{signedAmount}
 use Rattle.trees.specs.Neon.{neonOp}
-use Rattle.trees_value.proofs.Z.{up, dn, sum, ge-is, times}
+use Rattle.trees_value.proofs.Z.{sum, ge-is}
 use Rattle.trees_value.proofs.Wrap.{half}
 use Rattle.trees_value.proofs.Bv.{FitsS, FitsU, Fits}
 use Rattle.trees_value.proofs.Is.{Is, Has, has-number, is-number, by-const, by-is, is-eq, is-const, is-add, is-ashr, is-shl, is-sext, is-extend, is-ite, is-then, is-else, says-slt}
@@ -33,7 +32,7 @@ use Rattle.trees_value.proofs.Sat as sat
 use Rattle.trees_value.proofs.Sat.{applyZ, plus}
 use Rattle.trees_value.proofs.Lane.{Sources}
 use Rattle.saturation.specs.Saturates.{beyondS, beyondU, saturatesLane, twice}
-use Rattle.saturation.specs.Bits.{no, yes, clipped, lost, saturatingBit, shiftBit, mixedSignBit, productBit, doublingLongBit, laneBit}
+use Rattle.saturation.specs.Bits.{no, lost, saturatingBit, shiftBit, mixedSignBit, productBit, doublingLongBit, laneBit}
 use Rattle.saturation.proofs.Clip.{is-clippedS, is-clippedU, is-clippedSU, bit-sqaddsub, bit-uqadd, bit-uqsub, bit-sqxtn, bit-uqxtn, bit-sqxtun}
 use Rattle.saturation.proofs.Lost.{beyond, inside, is-lost}
 

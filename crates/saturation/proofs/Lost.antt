@@ -1,27 +1,26 @@
 -- A shift to the left that loses bits: its bit is 1 exactly where the product does not fit. Assumes nothing.
 use mathlib.Core.Path.{_≡_, refl, sym, ap, _∙_, subst}
-use mathlib.Core.Bool.{Bool, true, false, cond, _||_}
-use Prim.Native.Nat.{ℕ, suc, _+_, _-_, _*_, _^_, _≤_, _<_}
+use mathlib.Core.Bool.{Bool, true, false}
+use Prim.Native.Nat.{ℕ, _-_, _*_, _^_, _<_}
 use native.Mathlib.Omega.{arith}
 use borrow.Author.Tests.{eqb-true, eqb-false}
 use lib.Dec.{eqb}
 use lib.Pow.{pow-pos}
 use lib.IntN.{ℤ, pos, negℤ, _*ℤ_}
 use lib.Signed.{ltZ, shrZ}
-use Rattle.terms.specs.Expr.{Expr, Const, Bv, Compare}
+use Rattle.terms.specs.Expr.{Expr, Bv}
 use Rattle.terms.specs.Value.{value, bit}
 use Rattle.terms.specs.declared.BinOp.the-variants.{Shl}
-use Rattle.terms.specs.declared.CmpOp.the-variants.{Eq}
 use Rattle.neon.specs.Arm.{wrap}
 use Rattle.trees.specs.Arith.{shiftBy}
-use Rattle.trees_value.proofs.Z.{up, dn, neg-up, neg-dn, ge-is, lt-is, lt-no}
+use Rattle.trees_value.proofs.Z.{neg-up, neg-dn, ge-is, lt-no}
 use Rattle.trees_value.proofs.Wrap.{wrap-lt}
-use Rattle.trees_value.proofs.Bv.{FitsS, FitsU, Fits}
-use Rattle.trees_value.proofs.Is.{Is, By, Says, is-eq, is-const, is-shl, is-shift, is-ite, is-then, is-else, says-eq}
+use Rattle.trees_value.proofs.Bv.{Fits}
+use Rattle.trees_value.proofs.Is.{Is, By, is-eq, is-const, is-shl, is-shift, is-then, is-else, says-eq}
 use Rattle.trees_value.proofs.Clamp.{reading, reading-fits, reading-wrap, reading-is, same, floor-fits}
 use Rattle.trees_value.proofs.Shift.{restored-is, floor-exact}
 use Rattle.saturation.specs.Saturates.{outside, beyondS, beyondU}
-use Rattle.saturation.specs.Bits.{no, yes, lost}
+use Rattle.saturation.specs.Bits.{lost}
 
 abbrev pub beyond : Bool → ℕ → ℤ → Bool
 beyond true n z = beyondS n z

@@ -1,14 +1,12 @@
 -- The bits of an instruction's lanes side by side: 0 exactly where none is 1; and the block's term after it. Assumes nothing.
-use mathlib.Core.Path.{_≡_, refl, sym, ap, _∙_}
-use mathlib.Core.Bool.{Bool, true, false, cond, not, _||_}
-use Prim.Native.Nat.{ℕ, zero, suc, _+_, _-_, _*_, _^_, _≤_, _<_}
+use mathlib.Core.Path.{_≡_, refl, ap, _∙_}
+use mathlib.Core.Bool.{Bool, true, false, not, _||_}
+use Prim.Native.Nat.{ℕ, zero, suc, _+_, _-_, _*_, _^_, _<_}
 use native.Mathlib.Omega.{arith}
-use native.Mathlib.Nat.{mul-one}
 use borrow.Author.Tests.{eq-eqb, ne-eqb, eqb-true, eqb-false}
 use lib.Dec.{eqb}
 use lib.Pow.{pow-pos}
-use lib.IntN.{pos}
-use Rattle.terms.specs.Expr.{Expr, Const, Compare, width}
+use Rattle.terms.specs.Expr.{Expr, width}
 use Rattle.terms.specs.Value.{value, bit, ite}
 use Rattle.neon.specs.Arm.{lanes}
 use Rattle.trees.specs.Simd.{concatLanes}
@@ -16,7 +14,7 @@ use Rattle.neon.proofs.Lanes.{lanes-eq}
 use Rattle.trees_value.proofs.Is.{Has}
 use Rattle.trees_value.proofs.Lanes.{concat-value, concat-width}
 use Rattle.saturation.specs.Saturates.{some}
-use Rattle.saturation.specs.Bits.{no, yes, instructionBit}
+use Rattle.saturation.specs.Bits.{instructionBit}
 
 sum-zero : (b p q : ℕ) → 0 < p → b * p + q ≡ 0 → b ≡ 0
 sum-zero zero p q h e = refl

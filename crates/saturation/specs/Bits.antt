@@ -12,7 +12,7 @@ use Rattle.neon.specs.Form.{form, firstFull, secondFull, byElement, sourceBits,
 use Rattle.trees.specs.Simd.{extractLane, concatLanes}
 use Rattle.trees.specs.Neon.{neonOp}
 use Rattle.trees.specs.Block.{readTree, treeStep}
-use Rattle.terms.specs.declared.BinOp.the-variants.{Add, Sub, Mul, Or, Shl, AShr}
+use Rattle.terms.specs.declared.BinOp.the-variants.{Add, Mul, Or, Shl, AShr}
 use Rattle.terms.specs.declared.CmpOp.the-variants.{Eq, Ult, Slt}
 use Rattle.trees.specs.declared.SaturateTo.{SaturateTo}
 use Rattle.trees.specs.declared.SaturateTo.the-variants.{Signed, Unsigned, SignedToUnsigned}

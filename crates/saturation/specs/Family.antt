@@ -1,5 +1,5 @@
 -- A lane by family and flags, as the runner computes it: `armLane` grouped as the lowering groups it. n is the lane's bits.
-use mathlib.Core.Bool.{Bool, true, false, cond, _||_}
+use mathlib.Core.Bool.{Bool, true, false, _||_}
 use Prim.Native.Nat.{ℕ, _+_, _-_, _*_, _/_, _%_, _^_}
 use lib.IntN.{ℤ, pos, negℤ, natAbs, _+ℤ_, _-ℤ_, _*ℤ_}
 use Rattle.terms.specs.declared.BinOp.{BinOp}

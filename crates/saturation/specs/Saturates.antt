@@ -1,6 +1,6 @@
 -- Which lanes saturate (document 02, S-12), after the Arm Architecture Reference Manual: the second result of its SatQ, by which
 -- FPSR.QC is set. In the accumulating operations either clamp counts.
-use mathlib.Core.Bool.{Bool, true, false, cond, _||_}
+use mathlib.Core.Bool.{Bool, false, _||_}
 use mathlib.Core.List.{List, [], _∷_}
 use Prim.Native.Nat.{ℕ, zero, suc, _-_, _*_, _/_, _^_}
 use lib.IntN.{ℤ, pos, negℤ, natAbs, _+ℤ_, _-ℤ_, _*ℤ_}

@@ -1,7 +1,7 @@
 -- The bit of one lane over whole registers, from what its calls build. Assumes nothing.
-use Prim.Native.Nat.{ℕ, _+_, _-_, _*_, _/_, _≤_, _<_}
-use mathlib.Core.Path.{_≡_, refl, sym, _∙_}
-use mathlib.Core.Bool.{Bool, true, false, cond, not, false≢true}
+use Prim.Native.Nat.{ℕ, _+_, _-_, _*_, _/_, _≤_}
+use mathlib.Core.Path.{_≡_, refl, sym}
+use mathlib.Core.Bool.{Bool, true, false, cond, false≢true}
 use mathlib.Core.List.{List, [], _∷_}
 use native.Mathlib.Omega.{arith}
 use Rattle.terms.specs.declared.BinOp.{BinOp}
@@ -11,7 +11,6 @@ use Rattle.pool.specs.declared.Node.{Node}
 use Rattle.pool.specs.declared.Built.{Built}
 use Rattle.pool_nodes.specs.Builders.{MadeBv}
 use Rattle.pool.proofs.Steps.{start, step, finish, given, spare}
-use Rattle.trees.specs.declared.SaturateTo.{SaturateTo}
 use Rattle.trees.specs.declared.SaturateTo.the-variants.{Signed}
 use Rattle.trees.specs.declared.SaturatingKind.{SaturatingKind}
 use Rattle.trees.specs.declared.SaturatingKind.the-variants.{AddSub, Halving, Narrow, ShiftNarrow, DoublingMultiplyHigh, Unary}

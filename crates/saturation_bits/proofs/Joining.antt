@@ -1,28 +1,25 @@
 -- The bits of an instruction's lanes, from what their calls build. Assumes nothing.
-use Prim.Native.Nat.{ℕ, _+_, _-_, _*_, _/_, _^_, _≤_, _<_}
+use Prim.Native.Nat.{ℕ, _+_, _-_, _*_, _/_, _≤_, _<_}
 use mathlib.Core.Path.{_≡_, refl, sym, ap, subst, _∙_}
-use mathlib.Core.Bool.{Bool, true, false, cond, not, false≢true}
+use mathlib.Core.Bool.{Bool, true, false, cond, false≢true}
 use mathlib.Core.List.{List, [], _∷_}
 use native.Mathlib.Omega.{arith}
-use native.Mathlib.Nat.{mul-le-mul-left}
 use lib.Pow.{pow-pos}
 use Rattle.terms.specs.declared.CmpOp.the-variants.{Eq}
-use Rattle.terms.specs.Expr.{Expr}
 use Rattle.pool.specs.declared.Node.{Node}
 use Rattle.pool.specs.declared.Built.{Built}
-use Rattle.pool.specs.Growth.{NodeIs}
 use Rattle.pool_nodes.specs.Builders.{MadeConst, MadeCompare, MadeIte}
 use Rattle.pool.proofs.Steps.{start, step, finish, given}
 use Rattle.trees.specs.declared.NeonOp.{NeonOp}
 use Rattle.trees.specs.declared.NeonShape.{NeonShape}
 use Rattle.trees.specs.declared.Saturate.{Saturate}
-use Rattle.trees.specs.declared.Saturate.the-variants.{Never, Into}
+use Rattle.trees.specs.declared.Saturate.the-variants.{Never}
 use Rattle.trees.specs.declared.SaturatingKind.{SaturatingKind}
 use Rattle.trees.specs.declared.SaturatingKind.the-variants.{AddSub, Halving, Narrow, ShiftNarrow, DoublingMultiplyHigh, Unary}
 use Rattle.trees.specs.Simd.{extractLane, concatLanes}
 use Rattle.trees.specs.Arith.{sourceLane}
 use Rattle.lower.specs.Builds.{Source, Lowers, read, readIf, unread}
-use Rattle.lower_doubling_long.specs.Elements.{factorBits, accumulates}
+use Rattle.lower_doubling_long.specs.Elements.{accumulates}
 use Rattle.trees.specs.declared.Combine.{Combine}
 use Rattle.trees.specs.declared.NeonOp.the-variants.{DoublingLong}
 use Rattle.lower_neon.proofs.Sources.{Weaker}
@@ -30,7 +27,7 @@ use Rattle.lower_doubling_long.proofs.Multiplying.{factor-fits, factor-most}
 use Rattle.lower_exact.specs.Exact.{kindTo}
 use Rattle.lower_neon.specs.Family.{readsSecond, readsOld}
 use Rattle.saturation.specs.Bits.{saturable, saturableKind, saturableTo, doublingLongBit, instructionBit}
-use Rattle.saturation_bits.specs.Lanes.{familyBit, laneAt, bitsMost, BitMade}
+use Rattle.saturation_bits.specs.Lanes.{familyBit, laneAt, BitMade}
 
 -- a kind that clamps has a range
 pub kind-range : (kind : SaturatingKind) → saturableKind kind ≡ saturableTo (kindTo kind)

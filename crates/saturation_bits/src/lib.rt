@@ -21,8 +21,6 @@ ghost use Prim.Native.Nat.{_+_, _-_, _*_, _≤_, _<_};
 ghost use Rattle.pool.specs.Growth.{Room};
 ghost use Rattle.trees.specs.Simd.{extractLane, concatLanes};
 ghost use Rattle.trees.specs.Arith.{kindBits};
-ghost use Rattle.neon.specs.Refusal.{formNumber};
-ghost use Rattle.neon.specs.Op.{opAt, arrangementAt};
 ghost use Rattle.lower.specs.Builds.{Lowers, read, readIf, unread, Below};
 ghost use Rattle.lower_kinds.specs.Sources.{usesSecond, KindIn};
 ghost use Rattle.lower_neon.specs.Family.{readsSecond, readsOld, FamilyIn};

@@ -20,7 +20,7 @@ use Rattle.block_record.specs.Step.{MapOk, MapIs}
 use Rattle.block.proofs.Running.{first-ok}
 use Rattle.saturation.specs.Bits.{no}
 use Rattle.saturation_step.specs.declared.Flagged.{Flagged}
-use Rattle.saturation_step.specs.Step.{raised, flagReserve}
+use Rattle.saturation_step.specs.Step.{flagReserve}
 use Rattle.saturation_step.proofs.Stepping.{raised-ok}
 use Rattle.saturation_run.specs.Run.{FlagLowered, FlagStarted, FlagRuns}
 use Rattle.saturation_block.specs.Size.{mostFlagged, flagPlaces, flagSize, flagRefusal}

@@ -1,5 +1,5 @@
 -- The demands on a block with its saturation bit (document 02, S-12): the Arm run is fed a start and the records, and nothing of the pool.
-use mathlib.Core.Bool.{Bool, true, false, cond}
+use mathlib.Core.Bool.{true}
 use mathlib.Core.List.{List, [], List·Memᴰ}
 use mathlib.Core.Logic.{_↔_}
 use mathlib.Core.Path.{_≡_}

@@ -7,7 +7,7 @@ use trees::SaturateTo;
 use trees::SaturatingKind;
 ghost use mathlib.Core.Path.{_≡_};
 ghost use mathlib.Core.List.{[], _∷_};
-ghost use Prim.Native.Nat.{_+_, _*_, _/_, _≤_, _<_};
+ghost use Prim.Native.Nat.{_+_, _≤_, _<_};
 ghost use Rattle.pool.specs.Growth.{Room};
 ghost use Rattle.trees.specs.declared.Saturate.{Saturate};
 ghost use Rattle.trees.specs.Arith.{kindBits};

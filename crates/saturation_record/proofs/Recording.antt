@@ -1,10 +1,9 @@
 -- The block's bit after a record, from what its calls build. Assumes nothing.
 use Prim.Native.Nat.{ℕ, _≤_, _<_}
-use mathlib.Core.Path.{_≡_, refl, sym, ap, subst, _∙_}
+use mathlib.Core.Path.{_≡_, sym, ap, subst, _∙_}
 use mathlib.Core.Bool.{Bool, true, false}
-use mathlib.Core.List.{List, [], _∷_}
+use mathlib.Core.List.{List}
 use native.Mathlib.Omega.{arith}
-use Rattle.terms.specs.Expr.{Expr}
 use Rattle.neon.specs.Op.{opAt, arrangementAt, laneBits, full}
 use Rattle.neon.specs.Form.{most}
 use Rattle.pool.specs.declared.Node.{Node}
@@ -13,7 +12,7 @@ use Rattle.pool.proofs.Steps.{stay}
 use Rattle.trees.specs.declared.NeonShape.{NeonShape}
 use Rattle.trees.specs.Neon.{neonOp, shapeOf}
 use Rattle.saturation.specs.Bits.{saturable}
-use Rattle.saturation_bits.specs.Lanes.{bitsMost, BitMade}
+use Rattle.saturation_bits.specs.Lanes.{BitMade}
 use Rattle.saturation_bits.proofs.Whole.{whole}
 use Rattle.saturation_record.specs.Record.{RecordBit}
 

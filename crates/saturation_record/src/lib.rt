@@ -8,7 +8,7 @@ use trees::Saturate;
 use trees::SaturatingKind;
 use trees::ShiftKind;
 ghost use mathlib.Core.Path.{_≡_};
-ghost use Prim.Native.Nat.{_≤_, _<_};
+ghost use Prim.Native.Nat.{_<_};
 ghost use Rattle.pool.specs.Growth.{Room};
 ghost use Rattle.neon.specs.Refusal.{formNumber};
 ghost use Rattle.saturation.specs.Bits.{saturable as saturableTree, saturableKind, saturableTo, saturableShift};

@@ -1,12 +1,12 @@
 -- The records of a block with their bits, from what one record does. Assumes nothing.
 use mathlib.Core.Path.{_≡_, refl, sym, ap, subst, _∙_}
 use mathlib.Core.List.{List, [], _∷_, _++_}
-use Prim.Native.Nat.{ℕ, zero, suc, _+_, _*_, _/_, _≤_, _<_}
+use Prim.Native.Nat.{ℕ, _+_, _/_, _≤_, _<_}
 use native.Mathlib.Omega.{arith}
 use native.Mathlib.Nat.{le-refl, le-trans, zero-add}
 use lib.ListN.{length, length-append}
 use native.Mathlib.Numerals.{add-one}
-use Rattle.terms.specs.Expr.{Expr, Var}
+use Rattle.terms.specs.Expr.{Expr}
 use Rattle.pool.specs.declared.Built.{Built}
 use Rattle.pool_nodes.specs.Builders.{MadeConst}
 use Rattle.block.specs.Block.{Started}
@@ -14,10 +14,10 @@ use Rattle.block.proofs.Running.{start-is}
 use Rattle.pool.proofs.Laws.{cell-kept}
 use Rattle.neon.specs.declared.Instruction.{Instruction}
 use Rattle.trees.specs.Block.{treeStep, treeRun}
-use Rattle.pool.specs.Growth.{Reach, Grown, NodeIs}
+use Rattle.pool.specs.Growth.{Reach, Grown}
 use Rattle.pool.proofs.Laws.{grown-refl, grown-trans, is-kept, reach-kept, reach-trans}
 use Rattle.block_map.specs.declared.RegisterMap.{RegisterMap}
-use Rattle.block_map.specs.Map.{nodeOf, firstMap, written}
+use Rattle.block_map.specs.Map.{firstMap, written}
 use Rattle.block_record_check.specs.Record.{recordAt}
 use Rattle.block_check.specs.Records.{recordsFrom, recordsOf}
 use Rattle.block_record.specs.Step.{MapOk}
@@ -25,7 +25,7 @@ use Rattle.block_check.proofs.Refusals.{from-more}
 use Rattle.block.proofs.Running.{tree-more, added-kept}
 use Rattle.saturation.specs.Bits.{recordBit, bitRun}
 use Rattle.saturation_step.specs.declared.Flagged.{Flagged}
-use Rattle.saturation_step.specs.Step.{raised, flagReserve, FlagAdded, Flags}
+use Rattle.saturation_step.specs.Step.{raised, FlagAdded, Flags}
 use Rattle.saturation_run.specs.Run.{FlagLowered, FlagRuns, FlagStarted}
 
 bit-more : (cs : List Instruction) (c : Instruction) (t : ℕ → Expr) (b : Expr) → bitRun (cs ++ c ∷ []) t b ≡ recordBit c (treeRun cs t) (bitRun cs t b)

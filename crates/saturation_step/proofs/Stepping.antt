@@ -1,9 +1,8 @@
 -- A record with its saturation bit, from what its calls do. Assumes nothing.
-use Prim.Native.Nat.{ℕ, _+_, _≤_, _<_}
-use mathlib.Core.Path.{_≡_, refl, sym, ap, subst, _∙_}
-use mathlib.Core.List.{List, [], _∷_}
+use Prim.Native.Nat.{ℕ, _≤_}
+use mathlib.Core.Path.{_≡_, sym, subst, _∙_}
+use mathlib.Core.List.{List}
 use native.Mathlib.Omega.{arith}
-use Rattle.terms.specs.Expr.{Expr}
 use Rattle.neon.specs.declared.Instruction.{Instruction}
 use Rattle.neon.specs.Refusal.{Legal}
 use Rattle.pool.specs.declared.Node.{Node}
@@ -13,10 +12,9 @@ use Rattle.pool.proofs.Laws.{is-kept, reach-kept, grown-trans}
 use Rattle.block_map.specs.declared.RegisterMap.{RegisterMap}
 use Rattle.block_map.specs.Map.{nodeOf}
 use Rattle.block_record.specs.Step.{MapOk, Steps}
-use Rattle.block_record.proofs.Recording.{registers-in, nodes-in}
+use Rattle.block_record.proofs.Recording.{registers-in}
 use Rattle.saturation.specs.Bits.{recordBit}
 use Rattle.saturation_record.specs.Record.{RecordBit}
-use Rattle.saturation_step.specs.declared.Flagged.{Flagged}
 use Rattle.saturation_step.specs.Step.{raised, Flags}
 
 pub raised-ok : (m : RegisterMap) (k : ℕ) → m .count ≤ k → MapOk m → MapOk (raised m k)

@@ -1,9 +1,7 @@
 -- Demand 3 of document 01 over scripts (document 02, S-1: "the value rule now speaks of scripts too"). The Arm run is fed a start and the
 -- records, the reader of scripts a model and bytes; neither knows anything of the pool.
-use mathlib.Core.Bool.{true}
 use mathlib.Core.List.{List}
 use mathlib.Core.Logic.{_↔_}
-use mathlib.Core.Option.{some}
 use mathlib.Core.Path.{_≡_}
 use Prim.Native.Nat.{ℕ, _<_}
 use lib.ListN.{take}

@@ -6,7 +6,6 @@ use Prim.Native.Nat.{ℕ, zero, suc, _+_, _-_, _*_, _^_, _<_}
 use native.Mathlib.Omega.{arith}
 use lib.Dec.{eqb}
 use borrow.Author.Tests.{eqb-true, eq-eqb}
-use Rattle.terms.specs.Expr.{Expr}
 use Rattle.terms.specs.Value.{value}
 use Rattle.neon.specs.declared.Instruction.{Instruction}
 use Rattle.neon.specs.Run.{armRun}
@@ -21,7 +20,7 @@ use Rattle.join.specs.Join as join
 use Rattle.join.proofs.Meaning.{terms-kept}
 use Rattle.script_lane_meaning.specs.Demand.{bitsOf, laneAt}
 use Rattle.script_lane_write.proofs.Means.{lane-written-means}
-use Rattle.script_equal.specs.Demand.{Unmet, NoLaneMet, Start, EqualWhenNoLaneIsMet, DifferWhereALaneIsMet}
+use Rattle.script_equal.specs.Demand.{Unmet, Start, EqualWhenNoLaneIsMet, DifferWhereALaneIsMet}
 use Rattle.script_equal.proofs.Lanes.{lanes-equal}
 
 -- equality of numbers is decided

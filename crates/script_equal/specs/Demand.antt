@@ -9,8 +9,6 @@ use Rattle.neon.specs.declared.Instruction.{Instruction}
 use Rattle.neon.specs.Run.{armRun}
 use Rattle.pool.specs.Node.{Cell, compare, cellAt}
 use Rattle.block_map.specs.Map.{nodeOf}
-use Rattle.block.specs.declared.BlockAnswer.{BlockAnswer}
-use Rattle.join.specs.declared.Joined.{Joined}
 use Rattle.join.specs.Join.{moved}
 use Rattle.join_blocks.specs.Demand.{OfTwoBlocks}
 use Rattle.canonical_write.specs.declared.Canonised.{Canonised}

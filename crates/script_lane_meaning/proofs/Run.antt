@@ -1,24 +1,24 @@
 -- The equations of a pool, run in a model of a start. Where the model has the nodes' values each name means its node's tree and no equation
 -- fails; and where all assertions hold the model has these values. Assumes nothing.
 use mathlib.Core.Path.{_≡_, refl, sym, ap, _∙_, subst}
-use mathlib.Core.Bool.{Bool, true, false, not, false≢true}
-use mathlib.Core.List.{List, [], _∷_}
+use mathlib.Core.Bool.{Bool, true, false, false≢true}
+use mathlib.Core.List.{List, _∷_}
 use mathlib.Core.Logic.{⊎-elim}
 use mathlib.Core.Option.{Option, some, none}
-use Prim.Native.Nat.{ℕ, zero, suc, _+_, _^_, _≤_, _<_}
+use Prim.Native.Nat.{ℕ, zero, suc, _+_, _≤_, _<_}
 use native.Mathlib.Nat.{eq-or-lt-of-le}
 use native.Mathlib.Omega.{arith}
 use lib.Dec.{ltb, eqb}
 use borrow.Author.Tests.{ltb-true, eqb-true, eq-eqb}
 use Rattle.terms.specs.Value.{bit}
 use Rattle.terms.specs.Display.{bytes}
-use Rattle.pool.specs.Node.{Kind, bad, var, Cell, cellAt, widthAt}
+use Rattle.pool.specs.Node.{Kind, bad, var, cellAt, widthAt}
 use Rattle.pool.specs.Rules.{Valid}
 use Rattle.script_meaning.specs.Sexp.{word, Items, _⨾_}
-use Rattle.script_meaning.specs.Values.{andThen, Meaning, meaning, Entry, _↦ᵉ_, find}
+use Rattle.script_meaning.specs.Values.{andThen, meaning, _↦ᵉ_, find}
 use Rattle.script_meaning.specs.Functions.{functions, equal, applied}
-use Rattle.script_meaning.specs.Meaning.{atom, term, valuesOf, Script, script, run}
-use Rattle.script_meaning.specs.Script.{nodeName, applyTo, termOf, definedBy}
+use Rattle.script_meaning.specs.Meaning.{term, valuesOf, Script, script, run}
+use Rattle.script_meaning.specs.Script.{nodeName, termOf, definedBy}
 use Rattle.script_meaning.proofs.Names.{find-here, atom-name}
 use Rattle.script_meaning.proofs.Vars.{isVar, is-var, defined-other}
 use Rattle.script_meaning.proofs.Terms.{two-terms}

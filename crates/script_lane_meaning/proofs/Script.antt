@@ -2,22 +2,21 @@
 use mathlib.Core.Path.{_≡_, refl, sym, ap, _∙_}
 use mathlib.Core.Bool.{Bool, true, false, not, false≢true}
 use mathlib.Core.List.{List, []}
-use mathlib.Core.Option.{Option, some, none}
-use Prim.Native.Nat.{ℕ, suc, _-_, _^_, _≤_, _<_}
+use mathlib.Core.Option.{Option, some}
+use Prim.Native.Nat.{ℕ, suc, _-_, _≤_, _<_}
 use native.Mathlib.Omega.{arith}
 use lib.Dec.{eqb}
 use borrow.Author.Tests.{lt-ltb, le-leb, eq-eqb, ne-eqb}
-use Rattle.terms.specs.Expr.{Expr}
 use Rattle.terms.specs.Value.{value, bit}
 use Rattle.terms.specs.Display.{bytes}
 use Rattle.pool.specs.Node.{cellAt, widthAt}
 use Rattle.pool.specs.Rules.{Valid}
 use Rattle.pool.specs.Unfold.{unfoldAt}
 use Rattle.script_meaning.specs.Sexp.{Items, stop, _⨾_}
-use Rattle.script_meaning.specs.Values.{andThen, Meaning, meaning, Entry, find}
+use Rattle.script_meaning.specs.Values.{andThen, Meaning, meaning, find}
 use Rattle.script_meaning.specs.Functions.{functions, indexed, cut, distinct, applied, appliedAt}
 use Rattle.script_meaning.specs.Meaning.{term, commands, Script, script, done, run, begun, meant}
-use Rattle.script_meaning.specs.Script.{nodeName, nameOf, setLogic, checkSat, declarations}
+use Rattle.script_meaning.specs.Script.{nameOf, setLogic, checkSat, declarations}
 use Rattle.script_meaning.specs.Demand.{ModelOf, Holds}
 use Rattle.script_meaning.proofs.Reading.{read-lines}
 use Rattle.script_meaning.proofs.Vars.{isVar, is-var, name-other}
@@ -27,7 +26,7 @@ use Rattle.script_meaning.proofs.Registers.{Names, nothing, AllDeclared, declar
 use Rattle.script_meaning.proofs.Nodes.{Defined, before, atom-is, is-register}
 use Rattle.script_meaning.proofs.Stays.{holdsOf}
 use Rattle.script_lane_meaning.specs.LaneScript.{equations, laneOf, lanesDiffer, laneClaim, laneCommands, laneScriptOf}
-use Rattle.script_lane_meaning.specs.Demand.{laneAt, Met, Solved, LaneScriptMeans}
+use Rattle.script_lane_meaning.specs.Demand.{laneAt, LaneScriptMeans}
 use Rattle.script_lane_meaning.proofs.Values.{value-fits, poolModel, model-register, model-node}
 use Rattle.script_lane_meaning.proofs.Fine.{fine-script}
 use Rattle.script_lane_meaning.proofs.Run.{Right, meet, force}

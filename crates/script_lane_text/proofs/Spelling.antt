@@ -1,13 +1,13 @@
 -- The lines of a script by lanes, in the pieces in which they are written. Assumes nothing.
-use mathlib.Core.Path.{_≡_, refl, sym, ap, _∙_}
-use mathlib.Core.List.{List, [], _∷_, _++_, append-assoc}
+use mathlib.Core.Path.{_≡_, sym, ap, _∙_}
+use mathlib.Core.List.{List, [], _++_, append-assoc}
 use Prim.Native.Nat.{ℕ, zero, suc, _+_}
 use native.Mathlib.Nat.{add-zero, zero-add, add-suc, suc-add}
 use Rattle.terms.specs.Display.{bytes}
 use Rattle.pool.specs.Node.{Kind, widthAt, kindAt, kindNumber, cellAt}
 use Rattle.text_series.specs.Series.{upTo}
-use Rattle.script_meaning.specs.Sexp.{Sexp, Items, stop, _⨾_, show, showLines}
-use Rattle.script_meaning.specs.Script.{nodeName, sortBy, termOf, definedBy, declarations, checkSat}
+use Rattle.script_meaning.specs.Sexp.{Items, stop, _⨾_, show, showLines}
+use Rattle.script_meaning.specs.Script.{nodeName, sortBy, termOf, definedBy, checkSat}
 use Rattle.script_text.specs.Lines.{lineBy, declarationLine}
 use Rattle.script_text.proofs.Spelling.{kind-one, not-one, line-other}
 use Rattle.script_text.proofs.Whole.{lines-by, declarations-lines, declared}

@@ -1,13 +1,12 @@
 -- How long the parts of a script are. Assumes nothing.
 use mathlib.Core.Path.{_≡_, refl, sym, ap, _∙_, subst}
-use mathlib.Core.List.{List, [], _∷_, _++_}
-use Prim.Native.Nat.{ℕ, zero, suc, _+_, _-_, _≤_, _<_}
+use mathlib.Core.List.{List, _++_}
+use Prim.Native.Nat.{ℕ, zero, suc, _+_, _-_, _<_}
 use native.Mathlib.Numerals.{add-one}
 use native.Mathlib.Omega.{arith}
 use lib.ListN.{length, length-append}
 use Rattle.terms.specs.Display.{bytes, decimal, digitsTo}
 use Rattle.pool.specs.Node.{kindNumber, widthAt, wordAt}
-use Rattle.text_parts.specs.Text.{Ready}
 use Rattle.text_parts.proofs.Operands.{ready-of}
 use Rattle.text_series.specs.Series.{upTo}
 use Rattle.script_meaning.specs.Sexp.{show, showAll, showMore}

@@ -2,7 +2,7 @@
 use mathlib.Core.Bool.{Bool, true, false}
 use mathlib.Core.List.{List}
 use mathlib.Core.Logic.{_⊎_, inl, inr}
-use mathlib.Core.Path.{_≡_, refl, sym, ap, _∙_, subst}
+use mathlib.Core.Path.{_≡_, refl, _∙_, subst}
 use Prim.Native.Nat.{ℕ, zero, suc, _<_}
 use native.Mathlib.Omega.{arith}
 use lib.Dec.{leb}
@@ -16,7 +16,7 @@ use Rattle.script_write.specs.Answer as scripts
 use Rattle.script_blocks.proofs.Differ.{registers-chosen, differ-when-script-holds}
 use Rattle.line_routine.specs.Routine.{routineOf}
 use Rattle.script_lines.specs.declared.Given.{Given}
-use Rattle.script_lines.specs.Output.{askedRefusal, Asked, ScriptGiven}
+use Rattle.script_lines.specs.Output.{askedRefusal, ScriptGiven}
 use Rattle.script_lines.specs.Demand.{OutputMeans, AskedFits}
 
 -- what is not refused names two registers

@@ -1,15 +1,14 @@
 -- A command, run: a constant that is declared, a name that is defined, an assertion. Assumes nothing.
-use mathlib.Core.Path.{_≡_, refl, ap}
+use mathlib.Core.Path.{_≡_, refl}
 use mathlib.Core.Bool.{Bool, true, false, _&&_}
 use mathlib.Core.List.{List, _∷_}
-use mathlib.Core.Option.{Option, some, none}
+use mathlib.Core.Option.{some, none}
 use Prim.Native.Nat.{ℕ, zero, suc, _<_}
 use native.Mathlib.Omega.{arith}
-use lib.Dec.{ltb, eqb}
+use lib.Dec.{ltb}
 use borrow.Author.Tests.{lt-ltb, eq-eqb}
 use Rattle.terms.specs.Value.{bit}
-use Rattle.terms.specs.Display.{bytes, decimal}
-use Rattle.script_meaning.specs.Sexp.{Sexp, word, list, stop, _⨾_}
+use Rattle.script_meaning.specs.Sexp.{Sexp}
 use Rattle.script_meaning.specs.Values.{Meaning, meaning, Entry, _↦ᵉ_, find}
 use Rattle.script_meaning.specs.Functions.{functions}
 use Rattle.script_meaning.specs.Meaning.{term, sort, commands, isFresh, valuesOf, script, done, command}

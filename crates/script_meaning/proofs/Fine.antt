@@ -1,7 +1,7 @@
 -- Every word of a pool's script is plain, so that the script is read as it was written. Assumes nothing.
-use mathlib.Core.Path.{_≡_, refl, sym, ap, _∙_, subst}
-use mathlib.Core.Bool.{Bool, true, false, _&&_, false≢true}
-use mathlib.Core.List.{List, [], _∷_, _++_}
+use mathlib.Core.Path.{_≡_, refl}
+use mathlib.Core.Bool.{true, false, false≢true}
+use mathlib.Core.List.{List, [], _∷_}
 use Prim.Native.Nat.{ℕ, zero, suc, _+_, _-_, _≤_, _<_}
 use native.Mathlib.Omega.{arith}
 use lib.ListN.{length}
@@ -9,14 +9,14 @@ use Rattle.terms.specs.declared.BinOp.{BinOp}
 use Rattle.terms.specs.declared.BinOp.the-variants.{Add, Sub, Mul, And, Or, Xor, Shl, LShr, AShr}
 use Rattle.terms.specs.declared.CmpOp.{CmpOp}
 use Rattle.terms.specs.declared.CmpOp.the-variants.{Eq, Ult, Slt}
-use Rattle.terms.specs.Display.{bytes, decimal}
+use Rattle.terms.specs.Display.{decimal}
 use Rattle.pool.specs.Node.{Kind, bad, var, const, bv, compare, ite, extract, concat, zext, sext, Cell, cellAt, widthAt, wide}
 use Rattle.pool.specs.Rules.{widthBefore, okKind, Valid}
 use Rattle.pool.proofs.Facts.{valid-node}
-use Rattle.script_meaning.specs.Sexp.{Sexp, word, list, Items, stop, _⨾_}
+use Rattle.script_meaning.specs.Sexp.{Sexp, Items}
 use Rattle.script_meaning.specs.Read.{isPlain}
 use Rattle.script_meaning.specs.Values.{all}
-use Rattle.script_meaning.specs.Script.{binary, registerName, nodeName, nameBy, nameOf, operator, comparison}
+use Rattle.script_meaning.specs.Script.{binary, nameBy, nameOf, operator, comparison}
 use Rattle.script_meaning.specs.Script.{termBy, termOf, sortBy, definedBy, sortWidth, definition, definitions, declarations, commandsOf}
 use Rattle.script_meaning.proofs.Reading.{plain, fine, fineAll}
 use Rattle.script_meaning.proofs.Numbers.{decimal-some, binary-is-digits}

@@ -1,18 +1,17 @@
 -- Names of registers and nodes: each is its own, and no literal. Assumes nothing.
-use mathlib.Core.Path.{_≡_, refl, sym, ap, _∙_, subst}
-use mathlib.Core.Bool.{Bool, true, false, cond, _&&_, _||_, false≢true}
-use mathlib.Core.List.{List, [], _∷_, _++_}
-use mathlib.Core.Option.{Option, some, none}
-use Prim.Native.Nat.{ℕ, zero, suc, _+_, _≤_, _<_}
-use native.Mathlib.Omega.{arith}
-use lib.Dec.{leb, eqb}
-use borrow.Author.Tests.{eqb-true, eq-eqb, leb-true, le-leb}
+use mathlib.Core.Path.{_≡_, refl, sym, ap, _∙_}
+use mathlib.Core.Bool.{Bool, true, false, false≢true}
+use mathlib.Core.List.{List, [], _∷_}
+use mathlib.Core.Option.{some, none}
+use Prim.Native.Nat.{ℕ}
+use lib.Dec.{eqb}
+use borrow.Author.Tests.{eqb-true, eq-eqb}
 use Rattle.facts.proofs.Tests.{and-both}
 use Rattle.terms.specs.Display.{bytes, decimal}
 use Rattle.pool.specs.Node.{Kind, bad, var, const, bv, compare, ite, extract, concat, zext, sext, Cell}
 use Rattle.script_meaning.specs.Read.{isDigit, isSymbolic, isPlain}
 use Rattle.script_meaning.specs.Values.{all, same, isAmong, literal, Meaning, Entry, _↦ᵉ_, find}
-use Rattle.script_meaning.specs.Functions.{functions, taken}
+use Rattle.script_meaning.specs.Functions.{taken}
 use Rattle.script_meaning.specs.Meaning.{atom}
 use Rattle.script_meaning.specs.Script.{registerName, nodeName, nameBy}
 use Rattle.script_meaning.proofs.Numbers.{decimal-one, decimal-digits}

@@ -1,10 +1,10 @@
 -- Where each name before a node means its node's tree, the node's term does too. Assumes nothing.
 use mathlib.Core.Path.{_≡_, refl, sym, ap, _∙_, subst}
-use mathlib.Core.Bool.{Bool, true, false}
-use mathlib.Core.List.{List, [], _∷_}
+use mathlib.Core.Bool.{true, false}
+use mathlib.Core.List.{List, _∷_}
 use mathlib.Core.Logic.{⊎-elim}
-use mathlib.Core.Option.{Option, some, none}
-use Prim.Native.Nat.{ℕ, zero, suc, _+_, _-_, _^_, _≤_, _<_}
+use mathlib.Core.Option.{some, none}
+use Prim.Native.Nat.{ℕ, suc, _-_, _≤_, _<_}
 use native.Mathlib.Nat.{eq-or-lt-of-le, le-of-suc-le-suc}
 use native.Mathlib.Omega.{arith}
 use lib.Dec.{ltb}
@@ -18,7 +18,7 @@ use Rattle.pool.proofs.Facts.{valid-node}
 use Rattle.pool.proofs.Laws.{unfold-step}
 use Rattle.pool_check.proofs.Sound.{sound}
 use Rattle.pool_rules.proofs.Kept.{register, var-wide}
-use Rattle.script_meaning.specs.Values.{same, Meaning, meaning, Entry, _↦ᵉ_, find}
+use Rattle.script_meaning.specs.Values.{same, Meaning, meaning, _↦ᵉ_, find}
 use Rattle.script_meaning.specs.Meaning.{atom, term}
 use Rattle.script_meaning.specs.Script.{registerName, nodeName, nameBy, nameOf, termOf}
 use Rattle.script_meaning.proofs.Names.{other-decimal, find-here, find-past, atom-name}

@@ -1,13 +1,12 @@
 -- Numerals and binaries are read as the numbers that were written. Assumes nothing.
 use mathlib.Core.Logic.{_⊎_, inl, inr}
-use mathlib.Core.Path.{_≡_, refl, sym, ap, _∙_, subst}
-use mathlib.Core.Bool.{Bool, true, false, _&&_, not, false≢true}
+use mathlib.Core.Path.{_≡_, refl, sym, ap, _∙_}
+use mathlib.Core.Bool.{Bool, true}
 use mathlib.Core.List.{List, [], _∷_, _++_}
-use mathlib.Core.Option.{Option, some, none}
+use mathlib.Core.Option.{some}
 use Prim.Native.Nat.{ℕ, zero, suc, _+_, _-_, _*_, _/_, _%_, _^_, _≤_, _<_}
 use native.Mathlib.Nat.{div-lt-self}
 use native.Mathlib.Omega.{arith}
-use lib.Dec.{ltb, leb, eqb}
 use lib.ListN.{length}
 use lib.Pow.{mod-pow-add}
 use borrow.Author.Tests.{lt-ltb, le-leb, ne-eqb}
@@ -16,7 +15,7 @@ use Rattle.facts.proofs.Numbers.{before-or-from}
 use Rattle.terms.specs.Display.{digit, decimal}
 use Rattle.text_digits.proofs.Laws.{digits, digits-one, digits-more}
 use Rattle.script_meaning.specs.Read.{isDigit}
-use Rattle.script_meaning.specs.Values.{all, number, isNumeral, numeral, isBinaryDigit, when}
+use Rattle.script_meaning.specs.Values.{all, number, isNumeral, numeral, isBinaryDigit}
 use Rattle.script_meaning.specs.Script.{binary}
 
 -- ---- decimals

@@ -1,12 +1,12 @@
 -- What is written is read again: once for all s-expressions. Assumes nothing.
-use mathlib.Core.Path.{_≡_, refl, sym, ap, _∙_}
+use mathlib.Core.Path.{_≡_, refl, ap, _∙_}
 use mathlib.Core.Bool.{Bool, true, false, _&&_, false≢true}
 use mathlib.Core.List.{List, [], _∷_, _++_, append-assoc}
-use mathlib.Core.Option.{Option, some, none}
+use mathlib.Core.Option.{some}
 use Prim.Native.Nat.{ℕ}
 use Rattle.facts.proofs.Tests.{and-both}
 use Rattle.script_meaning.specs.Sexp.{Sexp, word, list, Items, stop, _⨾_, show, showAll, showMore, showLines}
-use Rattle.script_meaning.specs.Read.{isPlain, Reading, at, broken, ended, parted, opened, closed, spelt, readByte, reading, whole, read}
+use Rattle.script_meaning.specs.Read.{isPlain, Reading, at, broken, parted, opened, readByte, reading, whole, read}
 use Rattle.script_meaning.specs.Values.{all}
 
 -- words that are not empty, of plain characters

@@ -1,10 +1,10 @@
 -- A pool's script, run at a start: each name means its node's tree, and the assertion holds where the two chosen values differ.
 -- Assumes nothing.
-use mathlib.Core.Path.{_≡_, refl, sym, ap, _∙_, subst}
+use mathlib.Core.Path.{_≡_, refl, ap, _∙_, subst}
 use mathlib.Core.Bool.{Bool, true, false, not}
 use mathlib.Core.List.{List, [], _∷_}
-use mathlib.Core.Option.{Option, some, none}
-use Prim.Native.Nat.{ℕ, zero, suc, _+_, _^_, _≤_, _<_}
+use mathlib.Core.Option.{Option, some}
+use Prim.Native.Nat.{ℕ, zero, suc, _+_, _^_, _<_}
 use native.Mathlib.Omega.{arith}
 use lib.Dec.{eqb}
 use borrow.Author.Tests.{eq-eqb}
@@ -12,7 +12,7 @@ use Rattle.terms.specs.Display.{bytes}
 use Rattle.pool.specs.Node.{Kind, cellAt, widthAt}
 use Rattle.pool.specs.Rules.{Valid}
 use Rattle.script_meaning.specs.Sexp.{Items, stop, _⨾_}
-use Rattle.script_meaning.specs.Values.{andThen, Meaning, Entry, _↦ᵉ_, find}
+use Rattle.script_meaning.specs.Values.{andThen, Meaning, _↦ᵉ_, find}
 use Rattle.script_meaning.specs.Functions.{functions, distinct, applied}
 use Rattle.script_meaning.specs.Meaning.{commands, Script, script, done, run}
 use Rattle.script_meaning.specs.Script.{registerName, nodeName, nameOf, apply2, termOf, sortWidth, assertion, definedBy, definition, definitions, declarations, checkSat}

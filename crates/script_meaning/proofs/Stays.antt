@@ -6,9 +6,9 @@ use mathlib.Core.Option.{Option, some, none}
 use Prim.Native.Nat.{ℕ}
 use lib.Dec.{ltb, eqb}
 use Rattle.script_meaning.specs.Sexp.{Sexp, word, list, Items, stop, _⨾_}
-use Rattle.script_meaning.specs.Values.{andThen, when, Meaning, meaning, find}
+use Rattle.script_meaning.specs.Values.{andThen, when, meaning, find}
 use Rattle.script_meaning.specs.Meaning.{term, sort, Command, declare, define, claim, check, commands}
-use Rattle.script_meaning.specs.Meaning.{Script, script, isFresh, asName, isStop, added, parts, valuesOf, done, command, run}
+use Rattle.script_meaning.specs.Meaning.{Script, script, isFresh, asName, isStop, parts, valuesOf, done, command, run}
 
 -- no script: no assertion that holds
 abbrev pub holdsOf : Option Script → Bool

@@ -1,31 +1,30 @@
 -- The term of a node, read, has the value of the node's tree. Assumes nothing.
-use mathlib.Core.Path.{_≡_, refl, sym, ap, _∙_, subst}
-use mathlib.Core.Bool.{Bool, true, false, cond, _&&_, not, false≢true}
+use mathlib.Core.Path.{_≡_, refl, sym, ap, _∙_}
+use mathlib.Core.Bool.{true, false, false≢true}
 use mathlib.Core.List.{List, [], _∷_, _++_}
-use mathlib.Core.Option.{Option, some, none}
-use Prim.Native.Nat.{ℕ, zero, suc, _+_, _-_, _*_, _/_, _%_, _^_, _≤_, _<_}
+use mathlib.Core.Option.{some}
+use Prim.Native.Nat.{ℕ, suc, _+_, _-_, _/_, _%_, _^_, _≤_, _<_}
 use native.Mathlib.Nat.{mod-eq-of-lt}
 use native.Mathlib.Omega.{arith}
-use lib.Dec.{ltb, leb, eqb}
 use lib.ListN.{length}
 use borrow.Author.Tests.{lt-ltb, le-leb, eq-eqb}
 use Rattle.terms.specs.declared.BinOp.{BinOp}
 use Rattle.terms.specs.declared.BinOp.the-variants.{Add, Sub, Mul, And, Or, Xor, Shl, LShr, AShr}
 use Rattle.terms.specs.declared.CmpOp.{CmpOp}
 use Rattle.terms.specs.declared.CmpOp.the-variants.{Eq, Ult, Slt}
-use Rattle.terms.specs.Expr.{Expr, Var, Const, Bv, Compare, Ite, Extract, Concat, ZeroExtend, SignExtend, width}
-use Rattle.terms.specs.Value.{value, apply, holds, bit, bvsext}
-use Rattle.terms.specs.Display.{bytes, decimal}
+use Rattle.terms.specs.Expr.{Expr, width}
+use Rattle.terms.specs.Value.{value}
+use Rattle.terms.specs.Display.{bytes}
 use Rattle.pool.specs.Node.{Kind, bad, var, const, bv, compare, ite, extract, concat, zext, sext, Cell, wide}
 use Rattle.pool.specs.Rules.{okKind}
 use Rattle.pool.specs.Unfold.{shapeOf}
 use Rattle.pool_rules.proofs.Kept.{wide-one, const-wide, const-fits, bv-tests, compare-tests, ite-tests, extract-tests, concat-tests, zext-tests}
-use Rattle.script_meaning.specs.Sexp.{Sexp, word, list, Items, stop, _⨾_}
-use Rattle.script_meaning.specs.Values.{andThen, when, isNone, all, number, numeral, isBinaryDigit, literal, Meaning, meaning, Entry, find}
+use Rattle.script_meaning.specs.Sexp.{Sexp, word}
+use Rattle.script_meaning.specs.Values.{all, number, isBinaryDigit, literal, Meaning, meaning, Entry, find}
 use Rattle.script_meaning.specs.Functions as tables
-use Rattle.script_meaning.specs.Functions.{Function, equal, distinct, choose, join, functions, cut, zeros, signs, indexed, isVector, sameSort, applied, appliedAt}
-use Rattle.script_meaning.specs.Meaning.{words, numerals, indexedBy, called, atom, term}
-use Rattle.script_meaning.specs.Script.{binary, operator, comparison, apply1, applyTo, apply2, apply3, index1, index2, termBy}
+use Rattle.script_meaning.specs.Functions.{Function, equal, choose, join, functions, cut, zeros, signs, indexed, applied, appliedAt}
+use Rattle.script_meaning.specs.Meaning.{atom, term}
+use Rattle.script_meaning.specs.Script.{binary, operator, apply1, applyTo, apply2, apply3, index1, index2, termBy}
 use Rattle.script_meaning.proofs.Vars.{isVar}
 use Rattle.script_meaning.proofs.Numbers.{decimal-numeral, binary-number, binary-length, binary-digits}
 

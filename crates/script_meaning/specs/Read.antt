@@ -1,12 +1,12 @@
 -- How SMT-LIB 2.6 reads bytes as s-expressions (3.1, 3.2). It is read from the last byte to the first: a list's parts then stand in order
 -- as they come. Comments, strings and quoted symbols are left out: a text with one is not read.
-use mathlib.Core.Bool.{Bool, true, false, cond, _&&_, _||_}
+use mathlib.Core.Bool.{Bool, false, cond, _&&_, _||_}
 use mathlib.Core.List.{List, [], _∷_}
 use mathlib.Core.Option.{Option, some, none}
 use Prim.Native.Nat.{ℕ}
 use lib.Dec.{leb, eqb}
 use Rattle.terms.specs.Display.{bytes}
-use Rattle.script_meaning.specs.Sexp.{Sexp, word, list, Items, stop, _⨾_}
+use Rattle.script_meaning.specs.Sexp.{word, list, Items, stop, _⨾_}
 
 abbrev pub isIn : ℕ → List ℕ → Bool
 isIn c [] = false

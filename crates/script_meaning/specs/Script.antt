@@ -1,5 +1,5 @@
 -- The script of a pool (document 02, S-1).
-use mathlib.Core.Bool.{Bool, true, false}
+use mathlib.Core.Bool.{Bool}
 use mathlib.Core.List.{List, [], _∷_, _++_}
 use Prim.Native.Nat.{ℕ, zero, suc, _+_, _-_, _/_, _%_, _^_}
 use Rattle.terms.specs.declared.BinOp.{BinOp}

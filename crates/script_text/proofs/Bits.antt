@@ -1,5 +1,5 @@
 -- The bits of two words. Assumes nothing.
-use mathlib.Core.Path.{_≡_, refl, sym, ap, _∙_}
+use mathlib.Core.Path.{_≡_, sym, ap, _∙_}
 use Prim.Native.Nat.{ℕ, zero, suc, _+_, _-_, _*_, _/_, _%_, _^_, _≤_, _<_}
 use native.Mathlib.Nat.{add-mul-div-left, div-div-eq-div-mul, div-eq-of-lt}
 use native.Mathlib.Omega.{arith}

@@ -3,12 +3,10 @@ use mathlib.Core.Path.{_≡_, refl, sym, ap, _∙_, subst}
 use mathlib.Core.Bool.{Bool, true, false, false≢true}
 use mathlib.Core.List.{List, _++_}
 use mathlib.Core.Logic.{⊎-elim}
-use Prim.Native.Nat.{ℕ, suc, _+_, _-_, _*_, _≤_, _<_}
+use Prim.Native.Nat.{ℕ, _+_, _-_, _≤_, _<_}
 use native.Mathlib.Omega.{arith}
-use lib.Dec.{ltb}
-use lib.ListN.{length}
 use borrow.Author.Tests.{lt-ltb}
-use Rattle.terms.specs.Display.{bytes, decimal}
+use Rattle.terms.specs.Display.{bytes}
 use Rattle.terms.specs.declared.BinOp.{BinOp}
 use Rattle.terms.specs.declared.BinOp.the-variants.{Add, Sub, Mul, And, Or, Xor, Shl, LShr, AShr}
 use Rattle.terms.specs.declared.CmpOp.{CmpOp}
@@ -20,7 +18,7 @@ use Rattle.pool.proofs.Facts.{kind-code, valid-node}
 use Rattle.pool_rules.proofs.Kept.{wide-most, const-wide, bv-tests, compare-tests, ite-tests, extract-tests, concat-tests, zext-tests}
 use Rattle.pool_fields.specs.Fields.{opA, opB, opC}
 use Rattle.text_parts.specs.Text.{Ready}
-use Rattle.script_meaning.specs.Sexp.{Sexp, word, show}
+use Rattle.script_meaning.specs.Sexp.{Sexp, show}
 use Rattle.script_meaning.specs.Script.{binary, nameOf, functionOf, apply1, apply2, apply3, index1, index2, termBy, termOf}
 
 bv-code : (o : BinOp) → bvCode o ≤ 11

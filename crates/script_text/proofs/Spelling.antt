@@ -3,11 +3,11 @@ use mathlib.Core.Path.{_≡_, refl, sym, ap, _∙_}
 use mathlib.Core.Bool.{Bool, true, false, false≢true}
 use mathlib.Core.List.{List, [], _++_}
 use mathlib.Core.Logic.{⊎-elim}
-use Prim.Native.Nat.{ℕ, suc, _+_, _*_, _≤_, _<_}
+use Prim.Native.Nat.{ℕ, suc, _+_, _≤_, _<_}
 use native.Mathlib.Nat.{eq-or-lt-of-le}
 use native.Mathlib.Omega.{arith}
 use Rattle.terms.specs.Display.{bytes}
-use Rattle.pool.specs.Node.{Kind, bad, var, const, bv, compare, ite, extract, concat, zext, sext, widthAt, kindAt, kinds, kindNumber, wordAt, codeOf, Cell, cellAt}
+use Rattle.pool.specs.Node.{Kind, bad, var, const, bv, compare, ite, extract, concat, zext, sext, widthAt, kindAt, kinds, kindNumber, wordAt, codeOf, cellAt}
 use Rattle.pool.proofs.Facts.{kind-code}
 use Rattle.script_meaning.specs.Sexp.{show}
 use Rattle.script_meaning.specs.Script.{registerName, nodeName, nameBy, nameOf, sortBy, termOf, definition}

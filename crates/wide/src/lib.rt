@@ -6,12 +6,11 @@ use word::power;
 use word::product;
 use word::sub_borrow;
 ghost use mathlib.Core.Path.{_≡_};
-ghost use mathlib.Core.Bool.{Bool};
-ghost use Prim.Native.Nat.{_+_, _-_, _*_, _/_, _%_, _^_, _<_, _≤_};
+ghost use Prim.Native.Nat.{_-_, _/_, _%_, _^_, _<_, _≤_};
 ghost use lib.Dec.{ltb, eqb};
 ghost use lib.Bits.{bitAnd, bitOr, bitXor};
 ghost use Rattle.terms.specs.Value.{bvadd, bvsub, bvmul, bvshl};
-ghost use Rattle.wide.specs.Number.{words, num};
+ghost use Rattle.wide.specs.Number.{num};
 
 pub mod word;
 

@@ -1,6 +1,6 @@
 -- refusal_by: the number of the size, or the first refused record.
 use native.Mathlib.Omega.{arith}
-use mathlib.Core.Path.{_≡_, sym, ap, _∙_}
+use mathlib.Core.Path.{sym, ap, _∙_}
 use Rattle.neon.specs.Refusal.{Refusal}
 use Rattle.block_check.specs.Records.{recordsOf}
 use Rattle.block_check.proofs.Refusals.{by-size, by-records}

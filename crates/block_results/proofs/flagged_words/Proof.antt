@@ -5,7 +5,6 @@ use mathlib.Core.Path.{_≡_, refl, ap, _∙_}
 use mathlib.Core.List.{List}
 use lib.ListN.{set, getD, take, replicate, length}
 use lib.Seq.{sets}
-use Rattle.block_results.specs.Words.{answerWords}
 use Rattle.block_results.proofs.Putting.{answer-length, put-word, put-before}
 use borrow.Author.Needs.{needs}
 use Rattle.block_results.proofs.flagged_words.Statement.{statement}

@@ -1,5 +1,4 @@
 -- lower_instruction gives its answer: a refusal that leaves the pool, or the lowering of a legal form
-use native.Mathlib.Omega.{arith}
 use mathlib.Core.Path.{refl, sym, _∙_}
 use Rattle.instruction.proofs.Answering.{asked, lowered}
 use borrow.Author.Needs.{needs}

@@ -4,7 +4,6 @@ use Rattle.line_fields.specs.Fields.{fields}
 use Rattle.line_routine.specs.Routine.{lineAt}
 use Rattle.line_routine.proofs.Answers.{part-is, wrote-six}
 use native.Mathlib.Omega.{arith}
-use native.Mathlib.Numerals.{towards-suc}
 use lib.ListN.{length-set}
 use mathlib.Core.Path.{refl}
 use borrow.Author.Needs.{needs}

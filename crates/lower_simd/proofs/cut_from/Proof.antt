@@ -1,7 +1,7 @@
 -- cut_from goes down from Extract to Extract: the node number falls, and what the cut has risen by is kept
 use native.Mathlib.Omega.{arith}
 use Prim.Native.Nat.{_+_}
-use mathlib.Core.Path.{_≡_, sym, _∙_}
+use mathlib.Core.Path.{sym, _∙_}
 use Rattle.lower_simd.proofs.Cutting.{Kept, kept-none, Rises, rising, kept-more, from-kept}
 use Rattle.lower_simd.proofs.cut_from.Statement.{statement}
 use Rattle.lower_simd.proofs.cut_from.Tie as tie

@@ -1,6 +1,5 @@
 -- union is the union of two nodes' sets, and stays below 2^32
 use lib.Bits.{or-lt}
-use Rattle.pool.specs.Node.{setAt}
 use mathlib.Core.Path.{ap₂}
 use lib.Bits.{bitOr}
 use borrow.Author.Needs.{needs}

@@ -4,7 +4,7 @@ use mathlib.Core.Path.{_≡_}
 use Prim.Native.Nat.{_/_, _<_}
 use native.Mathlib.Omega.{arith}
 use Rattle.pool.specs.Node.{wordAt}
-use Rattle.pool_fields.specs.Fields.{opA, opB, opC}
+use Rattle.pool_fields.specs.Fields.{opB, opC}
 use Rattle.pool_rules.proofs.At.{Own, width-before, set-before}
 use Rattle.pool_rules.proofs.AtPair.{IsPair, pair-at, late-a, late-rest}
 use borrow.Author.Needs.{needs}

@@ -1,5 +1,4 @@
 -- `run_lines::is_same` meets its contract.
-use mathlib.Core.Path.{_≡_, sym, refl, ap, _∙_}
 use native.Mathlib.Omega.{arith}
 use Rattle.run_lines.proofs.Texts.{same-words}
 use Rattle.run_lines.proofs.is_same.Statement.{statement}

@@ -1,7 +1,7 @@
 -- `run_lines::put_after` meets its contract.
-use mathlib.Core.Path.{_≡_, sym, refl, ap, _∙_}
+use mathlib.Core.Path.{ap, _∙_}
 use native.Mathlib.Omega.{arith}
-use Rattle.text_digits.proofs.Laws.{wrote-then, wrote-as, wrote-none}
+use Rattle.text_digits.proofs.Laws.{wrote-then, wrote-as}
 use mathlib.Core.Bool.{Bool}
 use mathlib.Core.List.{List, append-nil}
 use Prim.Native.Nat.{ℕ}

@@ -1,6 +1,5 @@
 -- `run_lines::put_mark` meets its contract.
-use mathlib.Core.Path.{_≡_, sym, refl, ap, _∙_}
-use native.Mathlib.Omega.{arith}
+use mathlib.Core.Path.{ap}
 use Rattle.text_digits.proofs.Laws.{wrote-none, wrote-as}
 use Rattle.run_lines.specs.Output.{mark}
 use borrow.Author.Needs.{needs}

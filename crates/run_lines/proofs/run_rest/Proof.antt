@@ -1,5 +1,5 @@
 -- `run_lines::run_rest` meets its contract.
-use mathlib.Core.Path.{_≡_, sym, refl, ap, _∙_}
+use mathlib.Core.Path.{refl}
 use native.Mathlib.Omega.{arith}
 use Rattle.run_lines.proofs.Runs.{lines-fit, lines-refused, block-refused, block-ran}
 use Prim.Native.Nat.{_*_, _≤_}

@@ -1,6 +1,5 @@
 -- `run_lines::run_text` meets its contract.
-use mathlib.Core.Path.{_≡_, sym, refl, ap, _∙_}
-use native.Mathlib.Omega.{arith}
+use mathlib.Core.Path.{refl}
 use Rattle.run_lines.proofs.Runs.{too-long, start-refused, start-read}
 use borrow.Author.Needs.{needs}
 use Rattle.run_lines.proofs.run_text.Statement.{statement}

@@ -1,11 +1,9 @@
 -- `run_registers::all_hex` meets its contract.
-use mathlib.Core.Path.{_≡_, sym, refl, ap, _∙_}
+use mathlib.Core.Path.{_≡_, sym}
 use native.Mathlib.Omega.{arith}
 use borrow.Author.Needs.{needs}
 use Prim.Native.Nat.{ℕ, _-_, _≤_}
-use native.Mathlib.Numerals.{add-one}
 use mathlib.Core.Path.{subst}
-use mathlib.Core.Bool.{Bool}
 use Rattle.run_registers.specs.Digits.{allHex}
 use Rattle.run_registers.proofs.Digits.{all-next, all-none}
 use Rattle.run_registers.proofs.all_hex.Statement.{statement}

@@ -1,6 +1,4 @@
 -- `run_registers::character` meets its contract.
-use mathlib.Core.Path.{_≡_, sym, refl, ap, _∙_}
-use native.Mathlib.Omega.{arith}
 use borrow.Author.Tests.{lt-ltb, le-ltb}
 use borrow.Author.Needs.{needs}
 use Rattle.run_registers.proofs.character.Statement.{statement}

@@ -1,5 +1,5 @@
 -- `run_registers::hex_value` meets its contract.
-use mathlib.Core.Path.{_≡_, sym, refl, ap, _∙_}
+use mathlib.Core.Path.{sym}
 use native.Mathlib.Omega.{arith}
 use Rattle.run_registers.proofs.Digits.{in-range}
 use borrow.Author.Needs.{needs}

@@ -1,5 +1,5 @@
 -- `run_registers::is_register` meets its contract.
-use mathlib.Core.Path.{_≡_, sym, refl, ap, _∙_}
+use mathlib.Core.Path.{sym}
 use native.Mathlib.Omega.{arith}
 use Rattle.run_registers.proofs.Starts.{no-register, gap-after, none-after}
 use borrow.Author.Needs.{needs}

@@ -1,6 +1,4 @@
 -- `run_registers::line_after` meets its contract.
-use mathlib.Core.Path.{_≡_, sym, refl, ap, _∙_}
-use native.Mathlib.Omega.{arith}
 use Rattle.run_registers.proofs.Starts.{line-over, line-ends, line-goes-on}
 use borrow.Author.Needs.{needs}
 use Rattle.run_registers.proofs.line_after.Statement.{statement}

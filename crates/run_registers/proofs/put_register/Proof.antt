@@ -1,5 +1,4 @@
 -- `run_registers::put_register` meets its contract.
-use mathlib.Core.Path.{_≡_, sym, refl, ap, _∙_}
 use native.Mathlib.Omega.{arith}
 use Rattle.text_digits.proofs.Laws.{wrote-then, wrote-as, wrote-length}
 use Rattle.run_registers.proofs.Digits.{digits-length, two-words}

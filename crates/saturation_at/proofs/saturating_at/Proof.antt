@@ -1,7 +1,7 @@
 -- saturating_at: one lane or two, as the kind uses them.
 use native.Mathlib.Omega.{arith}
 use mathlib.Core.Bool.{true}
-use mathlib.Core.Path.{_≡_, refl, sym, subst, _∙_}
+use mathlib.Core.Path.{_≡_, sym, subst, _∙_}
 use Prim.Native.Nat.{ℕ, _+_, _*_, _≤_}
 use Rattle.lower_kinds.specs.Sources.{usesSecond}
 use Rattle.saturation_at.proofs.At.{at-two, at-one, source-least}

@@ -1,6 +1,5 @@
 -- second_factor: the element, or the lane of the first source.
 use mathlib.Core.Path.{refl}
-use borrow.Author.Needs.{needs}
 use Rattle.saturation_bits.proofs.second_factor.Statement.{statement}
 use Rattle.saturation_bits.proofs.second_factor.Tie as tie
 

@@ -1,6 +1,6 @@
 -- lower_block_saturation: past the test the block is accepted, and the run from the start leaves all that is promised.
 use native.Mathlib.Omega.{arith}
-use mathlib.Core.Path.{_≡_, refl}
+use mathlib.Core.Path.{refl}
 use Rattle.saturation_block.proofs.Done.{Fits, fits, started-ok, all-done}
 use borrow.Author.Needs.{needs}
 use Rattle.saturation_block.proofs.lower_block_saturation.Statement.{statement}

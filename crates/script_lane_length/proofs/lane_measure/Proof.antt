@@ -1,7 +1,5 @@
 -- `lane_measure` gives the length of the whole script. Assumes nothing.
-use mathlib.Core.Path.{_≡_, refl, sym, ap, _∙_, subst}
 use native.Mathlib.Omega.{arith}
-use lib.ListN.{length}
 use Rattle.script_lane_length.proofs.Sizes.{size-script}
 use borrow.Author.Needs.{needs}
 use Rattle.script_lane_length.proofs.lane_measure.Statement.{statement}

@@ -1,13 +1,13 @@
 -- `put_declarations` writes the lines of the 32 registers: at r the loop has written those of the first r.
 use mathlib.Core.Path.{_≡_, refl, _∙_, subst}
-use Prim.Native.Nat.{ℕ, _+_, _-_, _≤_, _<_}
+use Prim.Native.Nat.{ℕ, _-_, _≤_}
 use native.Mathlib.Omega.{arith}
 use lib.ListN.{length}
 use Rattle.text_digits.specs.Writing.{Wrote}
 use Rattle.text_digits.proofs.Laws.{wrote-length}
 use Rattle.text_series.specs.Series.{upTo}
 use Rattle.text_series.proofs.Texts.{room-next, wrote-next, wrote-first}
-use Rattle.script_text.specs.Lines.{lineAt, declarationLine}
+use Rattle.script_text.specs.Lines.{declarationLine}
 use Rattle.script_text.proofs.put_declarations.Statement.{statement}
 use Rattle.script_text.proofs.put_declarations.Tie as tie
 

@@ -1,5 +1,5 @@
 -- `text::write_known` meets its contract: the buffer that comes back is the one that was lent.
-use mathlib.Core.Path.{_≡_, sym, ap, _∙_}
+use mathlib.Core.Path.{sym, ap, _∙_}
 use denote.Ref.{now, name}
 use borrow.Author.Needs.{needs}
 use Rattle.text.proofs.write_known.Statement.{statement}

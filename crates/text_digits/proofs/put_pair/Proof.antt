@@ -1,5 +1,5 @@
 -- `text_digits::put_pair` meets its contract: the two bytes are those of the number's pair.
-use mathlib.Core.Path.{_≡_, ap, _∙_}
+use mathlib.Core.Path.{ap, _∙_}
 use Prim.Native.Nat.{ℕ, _*_, _/_, _%_, _^_}
 use native.Mathlib.Omega.{arith}
 use lib.ListN.{length-set}

@@ -1,5 +1,4 @@
 -- left_bit: SQSHLU by its exact product, the others by what the shift loses.
-use native.Mathlib.Omega.{arith}
 use mathlib.Core.Path.{refl}
 use Rattle.saturation_lane.proofs.Shifts.{left-exact, left-lost, not-third}
 use borrow.Author.Needs.{needs}

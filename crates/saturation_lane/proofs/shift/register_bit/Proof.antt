@@ -1,6 +1,6 @@
 -- register_bit: 0 for a negative amount, else what the shift loses.
 use native.Mathlib.Omega.{arith}
-use mathlib.Core.List.{[], _∷_}
+use mathlib.Core.List.{[]}
 use Rattle.lower.proofs.Run.{Begun, begun, Next, next}
 use Rattle.saturation_lane.proofs.Shifts.{register}
 use borrow.Author.Needs.{needs}

@@ -1,6 +1,6 @@
 -- shift_bit: each kind's arm builds its bit; a shift to the right is none of these.
 use native.Mathlib.Omega.{arith}
-use mathlib.Core.Path.{subst, ap, sym, _∙_, _≡_}
+use mathlib.Core.Path.{subst, _≡_}
 use mathlib.Core.Bool.{true}
 use Rattle.trees.specs.declared.ShiftKind.{ShiftKind}
 use Rattle.lower_kinds.specs.Sources.{AmountIn}

@@ -1,13 +1,10 @@
 -- `put_binary` writes `binary`: at k the digits of the k low bits are still to be written.
-use mathlib.Core.List.{List}
 use mathlib.Core.Path.{_≡_, refl, sym, ap, _∙_}
-use Prim.Native.Nat.{ℕ, suc, _+_, _-_, _≤_, _<_}
+use Prim.Native.Nat.{ℕ, _+_, _-_, _≤_, _<_}
 use native.Mathlib.Omega.{arith}
-use native.Mathlib.Numerals.{add-one}
-use lib.ListN.{length, set, length-set}
+use lib.ListN.{length, length-set}
 use lib.Seq.{sets}
 use Rattle.pool.specs.Node.{wide}
-use Rattle.text_digits.specs.Writing.{Wrote}
 use Rattle.script_meaning.specs.Script.{binary}
 use Rattle.script_meaning.proofs.Numbers.{binary-length}
 use Rattle.script_text.proofs.Bits.{next-bit}

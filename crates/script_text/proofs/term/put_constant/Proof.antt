@@ -1,5 +1,5 @@
 -- `put_constant` writes #b and the binary digits.
-use Rattle.text_digits.proofs.Laws.{room-front, room-step, room-as, wrote-then, wrote-as}
+use Rattle.text_digits.proofs.Laws.{room-front, room-step, wrote-then}
 use borrow.Author.Needs.{needs}
 use Rattle.script_text.proofs.term.put_constant.Statement.{statement}
 use Rattle.script_text.proofs.term.put_constant.Tie as tie

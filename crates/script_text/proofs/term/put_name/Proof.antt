@@ -1,5 +1,5 @@
 -- `put_name` writes a node's name: its register's for a Var, else its own.
-use Rattle.text_digits.proofs.Laws.{room-front, room-step, room-as, wrote-then, wrote-as}
+use Rattle.text_digits.proofs.Laws.{room-as, wrote-as}
 use mathlib.Core.Path.{_≡_, sym, ap, _∙_}
 use Rattle.script_meaning.specs.Script.{registerName, nodeName, nameOf}
 use Rattle.script_text.proofs.Spelling.{register-named, node-named}

@@ -1,8 +1,7 @@
 -- `text_length::nodes::hex_length` meets its contract: a digit is four bits, and the highest bit is below the zeros that lead.
 use native.Mathlib.Omega.{arith}
-use mathlib.Core.Path.{_≡_, sym, ap, _∙_}
+use mathlib.Core.Path.{_≡_, sym}
 use lib.Count.{leading-le}
-use lib.ListN.{length}
 use Rattle.terms.specs.Display.{hexadecimal}
 use Rattle.pool.specs.Node.{wide}
 use Rattle.text_digits.proofs.Laws.{length-digit}

@@ -1,9 +1,7 @@
 -- `text_length::nodes::length_from` meets its contract: the lengths of the nodes passed are kept, the last one's too.
-use Prim.Native.Nat.{ℕ, _+_, _-_, _≤_, _<_}
+use Prim.Native.Nat.{_+_, _-_, _<_}
 use mathlib.Core.Path.{_≡_, refl, _∙_}
-use mathlib.Core.Logic.{⊎-elim}
 use native.Mathlib.Omega.{arith}
-use native.Mathlib.Nat.{eq-or-lt-of-le}
 use lib.ListN.{length, length-set}
 use borrow.Author.Needs.{needs}
 use Rattle.text_length.specs.Known.{Known}

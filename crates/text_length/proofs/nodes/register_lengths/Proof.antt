@@ -1,6 +1,6 @@
 -- `text_length::nodes::register_lengths` meets its contract: the first 32 places get the lengths of v0 to v31.
 use Prim.Native.Nat.{ℕ, _+_, _-_, _≤_, _<_}
-use mathlib.Core.Path.{_≡_, refl}
+use mathlib.Core.Path.{_≡_}
 use native.Mathlib.Omega.{arith}
 use lib.ListN.{length, getD, length-set, length-replicate}
 use Rattle.terms.specs.Display.{decimal}
