@@ -58,7 +58,9 @@ returns c =
     let at-has-a = at-first .before in
     let at-word = at-has-a .before in
     let at-kind-of = at-word .before in (
-      rw (at-word .kind-word-at .ensures) (key-made _ _ _ (at-kind-of .kind-of .result) _ _ _ _ _ _ _ _ _ _ _ (at-kind-of .kind-of .ensures) (at-has-a .has-a .ensures) (at-has-b .has-b .ensures) (at-has-c .has-c .ensures)
+      rw (at-word .kind-word-at .ensures)
+          (key-made _ _ _ (at-kind-of .kind-of .result) _ _ _ _ _ _ _ _ _ _ _ (at-kind-of .kind-of .ensures) (at-has-a .has-a .ensures) (at-has-b .has-b .ensures)
+          (at-has-c .has-c .ensures)
           (at-first .first .ensures) (at-second .second .ensures) (at-third .third .ensures) (at-class-if .class-if .ensures .0) (at-class-if2 .class-if2 .ensures .0)
           (at-class-if3 .class-if3 .ensures .0) (at-low .low .ensures) (c .high .ensures)),
       at-class-if .class-if .ensures .1,

@@ -19,18 +19,21 @@ second-requires c κs = search needs
 length-at-requires-2 : tie.Need-length-at-requires-2
 length-at-requires-2 c κs = search needs
 
+abbrev entry : tie.After-length-at2 → tie.Start
+entry c = c .before .before .before .before .before .before
+
 -- the two lengths
-one : (c : tie.After-length-at2) → let s = c .before .before .before .before .before .before in
+one : (c : tie.After-length-at2) → let s = entry c in
     c .before .before .length-at .result ≡ getD (s .args .lengths .now) (opA (s .args .p .now) (s .args .n .0)) 0
 one c = let l = c .before .before in rw (l .before .first .ensures) at (l .length-at .ensures)
 
-two : (c : tie.After-length-at2) → let s = c .before .before .before .before .before .before in
+two : (c : tie.After-length-at2) → let s = entry c in
     c .length-at2 .result ≡ getD (s .args .lengths .now) (opB (s .args .p .now) (s .args .n .0)) 0
 two c = rw (c .before .second .ensures) at (c .length-at2 .ensures)
 
 add-result : tie.Need-add-result
 add-result c =
-    let s = c .before .before .before .before .before .before in
+    let s = entry c in
     omega (arith, one c, two c, s .pre .1 .0 .small, s .pre .1 .1 .small)
 
 returns : tie.Need-returns
