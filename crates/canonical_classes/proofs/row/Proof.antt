@@ -9,15 +9,18 @@ use borrow.Author.Needs.{needs}
 use Rattle.canonical_classes.proofs.row.Statement.{statement}
 use Rattle.canonical_classes.proofs.row.Tie as tie
 
+abbrev level : tie.Else1 → ℕ
+level c = c .before .args .level
+
 -- past the tests
-past-24 : (c : tie.Else1) → ltb (c .before .args .level) 24 ≡ false
-past-24 c = le-ltb _ 24 (omega (arith, c .if1 .left))
+past-24 : (c : tie.Else1) → ltb (level c) 24 ≡ false
+past-24 c = le-ltb (level c) 24 (omega (arith, c .if1 .left))
 
-past-88 : (c : tie.Else2) → ltb (c .before .before .args .level) 88 ≡ false
-past-88 c = le-ltb _ 88 (omega (arith, c .if2 .left))
+past-88 : (c : tie.Else2) → ltb (level (c .before)) 88 ≡ false
+past-88 c = le-ltb (level (c .before)) 88 (omega (arith, c .if2 .left))
 
-past-152 : (c : tie.Else3) → ltb (c .before .before .before .args .level) 152 ≡ false
-past-152 c = le-ltb _ 152 (omega (arith, c .if3 .left))
+past-152 : (c : tie.Else3) → ltb (level (c .before .before)) 152 ≡ false
+past-152 c = le-ltb (level (c .before .before)) 152 (omega (arith, c .if3 .left))
 
 returns : tie.Need-returns
 returns c =
@@ -51,7 +54,7 @@ returns-4 c =
 returns-5 : tie.Need-returns-5
 returns-5 c =
     let p = c .before in
-    rw (past-24 (p .before .before), past-88 (p .before), past-152 p, le-ltb _ 216 (omega (arith, c .if4 .left)))
+    rw (past-24 (p .before .before), past-88 (p .before), past-152 p, le-ltb (level (p .before .before)) 216 (omega (arith, c .if4 .left)))
 
 pub row-spec : {M : Type 1} → statement M
 row-spec =

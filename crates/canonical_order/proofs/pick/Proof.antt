@@ -19,7 +19,7 @@ wide-requires c κs = search needs
 
 -- what is tested
 test : (c : tie.After-wide) → let a = c .before .before .args in (a .there && eqb (getD (a .number .now) (a .m .0) 0) 65535) ≡ (a .there && eqb (c .wide .result) 65535)
-test c = sym (ap (λ (x : ℕ). _ && eqb x 65535) (c .wide .ensures .0))
+test c = let a = c .before .before .args in sym (ap (λ (x : ℕ). a .there && eqb x 65535) (c .wide .ensures .0))
 
 returns : tie.Need-returns
 returns c = rw (test (c .before) ∙ c .if1 .taken)

@@ -75,7 +75,7 @@ two e f = let s = entry e in second-less (pool s) (node s) (s .pre .0) _ (e .bef
 
 -- an operator
 operator-is : (c : tie.Then2) → single (kind (c .before .before)) ≡ false
-operator-is c = not-single {k = _} (λ e. omega (arith, e, c .if2 .taken)) (omega (arith, c .if2 .taken))
+operator-is c = not-single {k = kind (c .before .before)} (λ e. omega (arith, e, c .if2 .taken)) (omega (arith, c .if2 .taken))
 
 -- an Ite or a Concat
 joins-is : (c : tie.Else4) → single (kind (c .before .before .before .before)) ≡ false
