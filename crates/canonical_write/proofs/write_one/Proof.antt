@@ -16,7 +16,7 @@ begun c = c .before .before .before
 
 -- the node that is written, before its words are read
 abbrev read : tie.After-kind-word-at → tie.After-entry
-read c = c .before .before
+read c = c .before .before .before
 
 -- it is one of the term
 node-in : (c : tie.After-entry) → c .entry .result ≤ begun c .args .root .0
@@ -30,12 +30,11 @@ entry-requires c κs = search needs
 
 new-operands-requires : tie.Need-new-operands-requires
 new-operands-requires c κs =
-    let at-entry = c .before in
-    let s = begun at-entry in
-    (readable at-entry, third-small (s .args .pool .now) (s .args .root .0 + 1) (at-entry .entry .result) (s .pre .0 .0) (omega (arith, node-in at-entry)) (omega (arith, at-entry .entry .ensures .1)))
+    let s = begun c in
+    (readable c, third-small (s .args .pool .now) (s .args .root .0 + 1) (c .entry .result) (s .pre .0 .0) (omega (arith, node-in c)) (omega (arith, c .entry .ensures .1)))
 
 kind-word-at-requires : tie.Need-kind-word-at-requires
-kind-word-at-requires c κs = readable (c .before)
+kind-word-at-requires c κs = readable (c .before .before)
 
 low-requires : tie.Need-low-requires
 low-requires c κs = readable (read c)
@@ -55,7 +54,7 @@ returns c =
     let at-high = at-push .before in
     let at-low = at-high .before in
     let at-word = at-low .before in
-    let at-operands = at-word .before in
+    let at-operands = at-word .before .before in
     let at-entry = read at-word in
     let known = at-entry .before .before .shared-slice-known .given in
     let s = begun at-entry in
