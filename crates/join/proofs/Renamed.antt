@@ -52,7 +52,7 @@ module _ (ws : List ℕ) (count : ℕ) (v : Valid ws count) (new : List ℕ) (f 
   pub renamed : (n : ℕ) → n < count → unfoldAt new (f n) ≡ unfoldAt ws n
   renamed n h = renamed-below (suc n) n (omega arith) h
 
-  -- a copy sees the widths that the node saw
+  -- the widths of a copy's operands are those of the node's
   width-copy : (n m q : ℕ) → n < count → m < n → q ≡ f m → (ltb q (f n) ≡ ltb m n) × (widthBefore new (f n) q ≡ widthBefore ws n m)
   width-copy n m q h l e =
       let a : ltb (f m) (f n) ≡ true = lt-ltb (f m) (f n) (rising m n l) in

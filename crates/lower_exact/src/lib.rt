@@ -1,5 +1,5 @@
-// The exact value of a lane of the saturating, halving and narrowing operations, at a width where it cannot overflow: what
-// saturating_lane of the Rust's neon/lower/arith.rs clamps.
+// The Rust's neon/lower/arith.rs: what saturating_lane clamps, the exact value of a lane of the saturating, halving and narrowing
+// operations, at a width where it cannot overflow.
 use lower_kinds::operators::shift_op;
 use pool::Built;
 use pool::Node;

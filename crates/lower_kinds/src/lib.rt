@@ -1,4 +1,4 @@
-// What the kinds and the flags of the Rust's lane functions say: the operator or the range that they choose, and the sources
-// that they use. In the Rust these are choices inside the functions.
+// The Rust's neon/lower/arith.rs and width.rs: what kinds and flags say there inside the lane functions, the operator or the range that
+// they choose and the sources that they use.
 pub mod operators;
 pub mod sources;

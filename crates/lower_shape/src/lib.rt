@@ -1,4 +1,4 @@
-// The shape of an instruction: its family with the Rust's arguments, at its lanes.
+// The Rust's neon/arith.rs and neon/width.rs: the shape of an instruction, its family with its arguments, at its lanes.
 pub mod arith;
 pub mod width;
 

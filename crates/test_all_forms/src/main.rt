@@ -104,9 +104,12 @@ fn words_of(pool: &[u64], places: u64) -> usize
     pool.len()
 }
 
-// One case in a pool of its own, of at most 803 places. The nodes added.
+// The registers, the low halves of three of them, and what one instruction may add.
+const POOL_WORDS: usize = 4 * (35 + pool::Node::RESERVE);
+
+// One case in a pool of its own. The nodes added.
 fn run(case: &[u8; 48]) -> usize {
-    let mut words = [0u64; 3212];
+    let mut words = [0u64; POOL_WORDS];
     registers(&mut words);
     let count = column(case, 1) as usize;
     let end = words_of(&words, column(case, 0));

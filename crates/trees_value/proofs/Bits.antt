@@ -49,7 +49,7 @@ module _ (r : ℕ → ℕ) where
         is-add r (is-count n k hn (omega arith))
         (is-zext r hn (record { low = omega arith; high = bit-lt k x }) (is-bit k))
 
-    -- the ladder over the first k bits
+    -- the choices by the first k bits
     pub is-leading : (n k : ℕ) → 0 < n → k ≤ n → Is r (leadingZeros v n k) n (pos (n - k + equalRun 0 k x))
     unfolding leadingZeros equalRun
     is-leading n zero hn h = is-eq r (ap pos (omega arith)) (is-const r n n (below n))

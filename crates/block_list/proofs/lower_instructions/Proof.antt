@@ -49,7 +49,7 @@ use Rattle.block_map.proofs.RegisterMap.Laws as T′
 use Rattle.block_check.proofs.Checked as T₂
 use Rattle.block_check.proofs.Checked.Laws as T₂′
 use Rattle.block_map.proofs.RegisterMap.refused.Symbol as no-map-def
-use Rattle.block_map.proofs.RegisterMap.refused.Symbol.{name as #register-map·refused}
+use Rattle.block_map.proofs.RegisterMap.refused.Symbol.{name as #block-map·refused}
 use Rattle.block_map.proofs.RegisterMap.refused.Met as no-map-thm
 use Rattle.block.proofs.start_pool.Symbol as start-pool-def
 use Rattle.block.proofs.start_pool.Symbol.{name as #block·start-pool}
@@ -59,15 +59,15 @@ use Rattle.block_list_check.proofs.Locals.{bare, row}
 use Rattle.block_list.proofs.Called.{R, S, Called, calledOf, list-val, map-val, records, args}
 use Rattle.block_list.proofs.Called.{Own, Owned}
 use Rattle.block_list_check.proofs.block_refusal.Symbol as block-refusal-def
-use Rattle.block_list_check.proofs.block_refusal.Symbol.{name as #blocks-check·block-refusal}
+use Rattle.block_list_check.proofs.block_refusal.Symbol.{name as #block-list-check·block-refusal}
 use Rattle.block_list_check.proofs.block_refusal.Met as block-refusal-thm
 use Rattle.block_list.proofs.run_instructions.Symbol as run-instructions-def
-use Rattle.block_list.proofs.run_instructions.Symbol.{name as #blocks·run-instructions}
+use Rattle.block_list.proofs.run_instructions.Symbol.{name as #block-list·run-instructions}
 use Rattle.block_list.proofs.run_instructions.Met as run-instructions-thm
 use Rattle.block_list.proofs.lower_instructions.Proof.Callees.{Q, stayed, Refusing, NoMap, Start, Run, refused, fit, x, at, Post}
 use Rattle.block_list.proofs.lower_instructions.Proof.Callees.{to-refusing, goes-refusing, Refusal, refusing-told, to-no-map, goes-no-map, Unmapped, no-map-told}
 use Rattle.block_list.proofs.lower_instructions.Proof.Accepted.{Locals, En, Rest, Params, Told, leaves, accepts}
-use Rattle.block_list.proofs.lower_instructions.Key.{name as #blocks·lower-instructions}
+use Rattle.block_list.proofs.lower_instructions.Key.{name as #block-list·lower-instructions}
 use Rattle.block_list.proofs.lower_instructions as lower-instructions
 use Rattle.block_list.proofs.lower_instructions.Statement as stated
 use Rattle.block_list.proofs.lower_instructions.Code as code
@@ -85,9 +85,9 @@ module _ {M : Type 1} (𝓤 : URA M) (H : Heap 𝓤) (A : Atoms 𝓤) (W : Given
   abbrev Emptying : Contract 𝓤
   Emptying = NoMap 𝓤 H A at-mem ran
 
-  module _ (𝓣 : Tables 𝓤 H) (fm : FmC 𝓤 H (W .laws) (𝓣 .C)) (refusing-known : Triple 𝓤 (𝓣 .C #blocks-check·block-refusal) Asking)
-      (no-map-known : Triple 𝓤 (𝓣 .C #register-map·refused) Emptying) (start-known : Triple 𝓤 (𝓣 .C #block·start-pool) (Start 𝓤 H A at-mem ran))
-      (run-known : Triple 𝓤 (𝓣 .C #blocks·run-instructions) (Run 𝓤 H A at-mem ran)) where
+  module _ (𝓣 : Tables 𝓤 H) (fm : FmC 𝓤 H (W .laws) (𝓣 .C)) (refusing-known : Triple 𝓤 (𝓣 .C #block-list-check·block-refusal) Asking)
+      (no-map-known : Triple 𝓤 (𝓣 .C #block-map·refused) Emptying) (start-known : Triple 𝓤 (𝓣 .C #block·start-pool) (Start 𝓤 H A at-mem ran))
+      (run-known : Triple 𝓤 (𝓣 .C #block-list·run-instructions) (Run 𝓤 H A at-mem ran)) where
     -- the body, once the parameters are in their places
     begins : (s : Locals) → Sq W (Owned c ps₀ h₀ (Rest 𝓤 H A W at-mem ran c bounds s (bare refused (s .l₄) (Params 𝓤 H A W at-mem ran c bounds s))))
         (runs (𝓣 .C) (𝓣 .Λ) (En 𝓤 H A W at-mem ran c bounds s) code.Mir.t-1 (atRet (En 𝓤 H A W at-mem ran c bounds s) Done))
@@ -155,8 +155,8 @@ module _ {M : Type 1} (𝓤 : URA M) (H : Heap 𝓤) (A : Atoms 𝓤) (W : Given
         }))))))))))))))))
 
 module _ {M : Type 1} (𝓤 : URA M) (H : Heap 𝓤) (A : Atoms 𝓤) (W : Given 𝓤 H A) (at-mem : Memory → SProp 𝓤) (ran : Routine → Fun 𝓤) (𝓣 : Tables 𝓤 H)
-    (refusing-known : Triple 𝓤 (𝓣 .C #blocks-check·block-refusal) (Refusing 𝓤 H A at-mem ran)) (no-map-known : Triple 𝓤 (𝓣 .C #register-map·refused) (NoMap 𝓤 H A at-mem ran))
-    (start-known : Triple 𝓤 (𝓣 .C #block·start-pool) (Start 𝓤 H A at-mem ran)) (run-known : Triple 𝓤 (𝓣 .C #blocks·run-instructions) (Run 𝓤 H A at-mem ran)) where
+    (refusing-known : Triple 𝓤 (𝓣 .C #block-list-check·block-refusal) (Refusing 𝓤 H A at-mem ran)) (no-map-known : Triple 𝓤 (𝓣 .C #block-map·refused) (NoMap 𝓤 H A at-mem ran))
+    (start-known : Triple 𝓤 (𝓣 .C #block·start-pool) (Start 𝓤 H A at-mem ran)) (run-known : Triple 𝓤 (𝓣 .C #block-list·run-instructions) (Run 𝓤 H A at-mem ran)) where
   abbrev Code : List Val → (Val → SProp 𝓤) → SProp 𝓤
   Code = WpFn 𝓤 H (𝓣 .C) (𝓣 .Λ) code.function
 
@@ -178,9 +178,10 @@ pub lower-instructions-spec : {M : Type 1} → stated.statement M
 unfolding code.routine tablesOf
 lower-instructions-spec 𝓤 H 𝓜 𝓖 𝓡 =
     entered 𝓤 H (tripleOf 𝓤 H (𝓖 .A) lower-instructions.signature (lower-instructions.spec 𝓤 H (𝓖 .A) (𝓜 .mem) (𝓡 .run)))
-    (tables 𝓤 H 𝓜 𝓡 code.env .C) (tables 𝓤 H 𝓜 𝓡 code.env .Λ) #blocks·lower-instructions code.function (code.unfolded 𝓤 H 𝓜 𝓡)
+    (tables 𝓤 H 𝓜 𝓡 code.env .C) (tables 𝓤 H 𝓜 𝓡 code.env .Λ) #block-list·lower-instructions code.function (code.unfolded 𝓤 H 𝓜 𝓡)
     (lower-instructions-meets 𝓤 H (𝓖 .A) (givenOf 𝓤 H 𝓜 𝓖) (𝓜 .mem) (𝓡 .run) (tablesOf 𝓤 H 𝓜 (tables 𝓤 H 𝓜 𝓡 code.env))
-    (cited 𝓤 H (Refusing 𝓤 H (𝓖 .A) (𝓜 .mem) (𝓡 .run)) 𝓜 𝓡 code.env #blocks-check·block-refusal block-refusal-def.routine code.calls-block-list-check·block-refusal (block-refusal-thm.met 𝓤 H 𝓜 𝓖 𝓡))
-    (cited 𝓤 H (NoMap 𝓤 H (𝓖 .A) (𝓜 .mem) (𝓡 .run)) 𝓜 𝓡 code.env #register-map·refused no-map-def.routine code.calls-block-map·RegisterMap·refused (no-map-thm.met 𝓤 H 𝓜 𝓖 𝓡))
+    (cited 𝓤 H (Refusing 𝓤 H (𝓖 .A) (𝓜 .mem) (𝓡 .run)) 𝓜 𝓡 code.env #block-list-check·block-refusal block-refusal-def.routine code.calls-block-list-check·block-refusal
+    (block-refusal-thm.met 𝓤 H 𝓜 𝓖 𝓡))
+    (cited 𝓤 H (NoMap 𝓤 H (𝓖 .A) (𝓜 .mem) (𝓡 .run)) 𝓜 𝓡 code.env #block-map·refused no-map-def.routine code.calls-block-map·RegisterMap·refused (no-map-thm.met 𝓤 H 𝓜 𝓖 𝓡))
     (cited 𝓤 H (Start 𝓤 H (𝓖 .A) (𝓜 .mem) (𝓡 .run)) 𝓜 𝓡 code.env #block·start-pool start-pool-def.routine code.calls-block·start-pool (start-pool-thm.met 𝓤 H 𝓜 𝓖 𝓡))
-    (cited 𝓤 H (Run 𝓤 H (𝓖 .A) (𝓜 .mem) (𝓡 .run)) 𝓜 𝓡 code.env #blocks·run-instructions run-instructions-def.routine code.calls-block-list·run-instructions (run-instructions-thm.met 𝓤 H 𝓜 𝓖 𝓡)))
+    (cited 𝓤 H (Run 𝓤 H (𝓖 .A) (𝓜 .mem) (𝓡 .run)) 𝓜 𝓡 code.env #block-list·run-instructions run-instructions-def.routine code.calls-block-list·run-instructions (run-instructions-thm.met 𝓤 H 𝓜 𝓖 𝓡)))

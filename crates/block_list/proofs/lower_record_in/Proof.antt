@@ -53,11 +53,11 @@ use Rattle.block_map.proofs.RegisterMap as T
 use Rattle.block_map.proofs.RegisterMap.Laws as T′
 use Rattle.block_record.proofs.lower_record as lower-record
 use Rattle.block_record.proofs.lower_record.Symbol as lower-record-def
-use Rattle.block_record.proofs.lower_record.Symbol.{name as #lower-record·lower-record}
+use Rattle.block_record.proofs.lower_record.Symbol.{name as #block-record·lower-record}
 use Rattle.block_record.proofs.lower_record.Met as lower-record-thm
 use Rattle.block_list_check.proofs.Six.{Fits, six}
 use Rattle.block_list.proofs.Walking.{needs3, says3}
-use Rattle.block_list.proofs.lower_record_in.Key.{name as #blocks·lower-record-in}
+use Rattle.block_list.proofs.lower_record_in.Key.{name as #block-list·lower-record-in}
 use Rattle.block_list.proofs.lower_record_in as lower-record-in
 use Rattle.block_list.proofs.lower_record_in.Statement as stated
 use Rattle.block_list.proofs.lower_record_in.Code as code
@@ -134,7 +134,7 @@ module _ {M : Type 1} (𝓤 : URA M) (H : Heap 𝓤) (A : Atoms 𝓤) (W : Given
       says3 ! (ok .0) (ok .1) (ok .2) $ nothing ! $ move ! (1 ∷ 0 ∷ []) $ join ! $ frame ! $
       six W ! c fits $ move ! (2 ∷ 0 ∷ []) $ fjoin ! $ move ! (1 ∷ 0 ∷ []) $ fjoin ! $ done !
 
-  module _ (C : Calls 𝓤 H) (Λ : Loops 𝓤 H) (fm : FmC 𝓤 H (W .laws) C) (known : Triple 𝓤 (C #lower-record·lower-record) (Lower 𝓤 H A at-mem run)) where
+  module _ (C : Calls 𝓤 H) (Λ : Loops 𝓤 H) (fm : FmC 𝓤 H (W .laws) C) (known : Triple 𝓤 (C #block-record·lower-record) (Lower 𝓤 H A at-mem run)) where
     walk : Ok → ent 𝓤 (onEntry 𝓤 H A lower-record-in.signature (κ, (κ₂, tt)) (q, (q₂, tt)) x at) (WpFn 𝓤 H C Λ code.function args Post)
     walk ok =
         qed W ((‵ (flft κ q) ⊛ ‵ (flft κ₂ q₂) ⊛ ‵ ftrue) ∷ ‵ (owns (MutSlice (named 0) κ u64 ∷ MutRef (named 1) κ₂ R ∷ u64 ∷ u64 ∷ u64 ∷ u64 ∷ u64 ∷ u64 ∷ []) x at) ∷ []) ∵
@@ -175,7 +175,7 @@ module _ {M : Type 1} (𝓤 : URA M) (H : Heap 𝓤) (A : Atoms 𝓤) (W : Given
         keep ! (3 ∷ 5 ∷ 0 ∷ 1 ∷ 2 ∷ []) $ by ! (exits g (zs .0) e l))))))))))))))))))))))
 
 module _ {M : Type 1} (𝓤 : URA M) (H : Heap 𝓤) (A : Atoms 𝓤) (W : Given 𝓤 H A) (at-mem : Memory → SProp 𝓤) (run : Routine → Fun 𝓤) (𝓣 : Tables 𝓤 H)
-    (known : Triple 𝓤 (𝓣 .C #lower-record·lower-record) (Lower 𝓤 H A at-mem run)) where
+    (known : Triple 𝓤 (𝓣 .C #block-record·lower-record) (Lower 𝓤 H A at-mem run)) where
   abbrev Code : List Val → (Val → SProp 𝓤) → SProp 𝓤
   Code = WpFn 𝓤 H (𝓣 .C) (𝓣 .Λ) code.function
 
@@ -214,6 +214,6 @@ pub lower-record-in-spec : {M : Type 1} → stated.statement M
 unfolding code.routine tablesOf
 lower-record-in-spec 𝓤 H 𝓜 𝓖 𝓡 =
     entered 𝓤 H (tripleOf 𝓤 H (𝓖 .A) lower-record-in.signature (lower-record-in.spec 𝓤 H (𝓖 .A) (𝓜 .mem) (𝓡 .run)))
-    (tables 𝓤 H 𝓜 𝓡 code.env .C) (tables 𝓤 H 𝓜 𝓡 code.env .Λ) #blocks·lower-record-in code.function (code.unfolded 𝓤 H 𝓜 𝓡)
+    (tables 𝓤 H 𝓜 𝓡 code.env .C) (tables 𝓤 H 𝓜 𝓡 code.env .Λ) #block-list·lower-record-in code.function (code.unfolded 𝓤 H 𝓜 𝓡)
     (lower-record-in-meets 𝓤 H (𝓖 .A) (givenOf 𝓤 H 𝓜 𝓖) (𝓜 .mem) (𝓡 .run) (tablesOf 𝓤 H 𝓜 (tables 𝓤 H 𝓜 𝓡 code.env))
-    (cited 𝓤 H (Lower 𝓤 H (𝓖 .A) (𝓜 .mem) (𝓡 .run)) 𝓜 𝓡 code.env #lower-record·lower-record lower-record-def.routine code.calls-block-record·lower-record (lower-record-thm.met 𝓤 H 𝓜 𝓖 𝓡)))
+    (cited 𝓤 H (Lower 𝓤 H (𝓖 .A) (𝓜 .mem) (𝓡 .run)) 𝓜 𝓡 code.env #block-record·lower-record lower-record-def.routine code.calls-block-record·lower-record (lower-record-thm.met 𝓤 H 𝓜 𝓖 𝓡)))

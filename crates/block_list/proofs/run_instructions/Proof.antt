@@ -66,9 +66,9 @@ use Rattle.block_list.proofs.Called.{Own, Pool, Map, PoolLent, PoolKept
 use Rattle.block_list.proofs.run_instructions.Proof.Callee.{stayed, Step, x, at, Post, exits, to-step, goes-step, Ensured, Stepped}
 use Rattle.block_list.proofs.Walking.{needs3}
 use Rattle.block_list.proofs.lower_record_in.Symbol as lower-record-in-def
-use Rattle.block_list.proofs.lower_record_in.Symbol.{name as #blocks·lower-record-in}
+use Rattle.block_list.proofs.lower_record_in.Symbol.{name as #block-list·lower-record-in}
 use Rattle.block_list.proofs.lower_record_in.Met as lower-record-in-thm
-use Rattle.block_list.proofs.run_instructions.Key.{name as #blocks·run-instructions}
+use Rattle.block_list.proofs.run_instructions.Key.{name as #block-list·run-instructions}
 use Rattle.block_list.proofs.run_instructions as run-instructions
 use Rattle.block_list.proofs.run_instructions.Statement as stated
 use Rattle.block_list.proofs.run_instructions.Code as code
@@ -99,7 +99,7 @@ module _ {M : Type 1} (𝓤 : URA M) (H : Heap 𝓤) (A : Atoms 𝓤) (W : Given
   abbrev Ok : Type 0
   Ok = Places ps₀ (h₀ .count) (reserve * n c) × MapOk h₀ × AllLegal ys
 
-  module _ (𝓣 : Tables 𝓤 H) (fm : FmC 𝓤 H (W .laws) (𝓣 .C)) (known : Triple 𝓤 (𝓣 .C #blocks·lower-record-in) Calling) (ok : Ok)
+  module _ (𝓣 : Tables 𝓤 H) (fm : FmC 𝓤 H (W .laws) (𝓣 .C)) (known : Triple 𝓤 (𝓣 .C #block-list·lower-record-in) Calling) (ok : Ok)
       (l₀ l₁ l₂ l₃ l₄ l₅ l₆ l₇ l₈ l₉ l₁₀ l₁₁ l₁₂ l₁₃ : ℕ) where
     abbrev C : Calls 𝓤 H
     C = 𝓣 .C
@@ -238,7 +238,7 @@ module _ {M : Type 1} (𝓤 : URA M) (H : Heap 𝓤) (A : Atoms 𝓤) (W : Given
         assigns ! (of-opd ! (lit ! tt)) (from ! (stop !)) (init ! 24 refl (tt, record { fits = lit< tt })) $ first ! $ blocks ! $
         loops ! 𝓣 Nearer Nearer-wf At turns (0, ps₀, h₀, zero-le, refl, ran-none ps₀ h₀ ys (ok .1))
 
-  walk : (𝓣 : Tables 𝓤 H) → FmC 𝓤 H (W .laws) (𝓣 .C) → Triple 𝓤 (𝓣 .C #blocks·lower-record-in) Calling → Ok
+  walk : (𝓣 : Tables 𝓤 H) → FmC 𝓤 H (W .laws) (𝓣 .C) → Triple 𝓤 (𝓣 .C #block-list·lower-record-in) Calling → Ok
       → ent 𝓤 (onEntry 𝓤 H A run-instructions.signature (κ, (κ₂, (κ₃, tt))) (q, (q₂, (q₃, tt))) (x c) (at c)) (WpFn 𝓤 H (𝓣 .C) (𝓣 .Λ) code.function (args c) Done)
   walk 𝓣 fm known ok =
       qed W ((‵ (flft κ q) ⊛ ‵ (flft κ₂ q₂) ⊛ ‵ (flft κ₃ q₃) ⊛ ‵ ftrue) ∷ ‵ (owns (MutSlice (named 0) κ u64 ∷ ShrSlice (named 1) κ₂ R ∷ MutRef (named 2) κ₃ S ∷ []) (x c) (at c)) ∷ []) ∵
@@ -252,7 +252,7 @@ module _ {M : Type 1} (𝓤 : URA M) (H : Heap 𝓤) (A : Atoms 𝓤) (W : Given
       keep ! (28 ∷ 29 ∷ 30 ∷ 31 ∷ 32 ∷ 33 ∷ row 0 28) $ begins 𝓣 fm known ok l₀ l₁ l₂ l₃ l₄ l₅ l₆ l₇ l₈ l₉ l₁₀ l₁₁ l₁₂ l₁₃))))))))))))))
 
 module _ {M : Type 1} (𝓤 : URA M) (H : Heap 𝓤) (A : Atoms 𝓤) (W : Given 𝓤 H A) (at-mem : Memory → SProp 𝓤) (ran : Routine → Fun 𝓤) (𝓣 : Tables 𝓤 H)
-    (known : Triple 𝓤 (𝓣 .C #blocks·lower-record-in) (Step 𝓤 H A at-mem ran)) where
+    (known : Triple 𝓤 (𝓣 .C #block-list·lower-record-in) (Step 𝓤 H A at-mem ran)) where
   abbrev Code : List Val → (Val → SProp 𝓤) → SProp 𝓤
   Code = WpFn 𝓤 H (𝓣 .C) (𝓣 .Λ) code.function
 
@@ -275,6 +275,6 @@ pub run-instructions-spec : {M : Type 1} → stated.statement M
 unfolding code.routine tablesOf
 run-instructions-spec 𝓤 H 𝓜 𝓖 𝓡 =
     entered 𝓤 H (tripleOf 𝓤 H (𝓖 .A) run-instructions.signature (run-instructions.spec 𝓤 H (𝓖 .A) (𝓜 .mem) (𝓡 .run)))
-    (tables 𝓤 H 𝓜 𝓡 code.env .C) (tables 𝓤 H 𝓜 𝓡 code.env .Λ) #blocks·run-instructions code.function (code.unfolded 𝓤 H 𝓜 𝓡)
+    (tables 𝓤 H 𝓜 𝓡 code.env .C) (tables 𝓤 H 𝓜 𝓡 code.env .Λ) #block-list·run-instructions code.function (code.unfolded 𝓤 H 𝓜 𝓡)
     (run-instructions-meets 𝓤 H (𝓖 .A) (givenOf 𝓤 H 𝓜 𝓖) (𝓜 .mem) (𝓡 .run) (tablesOf 𝓤 H 𝓜 (tables 𝓤 H 𝓜 𝓡 code.env))
-    (cited 𝓤 H (Step 𝓤 H (𝓖 .A) (𝓜 .mem) (𝓡 .run)) 𝓜 𝓡 code.env #blocks·lower-record-in lower-record-in-def.routine code.calls-block-list·lower-record-in (lower-record-in-thm.met 𝓤 H 𝓜 𝓖 𝓡)))
+    (cited 𝓤 H (Step 𝓤 H (𝓖 .A) (𝓜 .mem) (𝓡 .run)) 𝓜 𝓡 code.env #block-list·lower-record-in lower-record-in-def.routine code.calls-block-list·lower-record-in (lower-record-in-thm.met 𝓤 H 𝓜 𝓖 𝓡)))

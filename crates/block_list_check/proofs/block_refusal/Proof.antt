@@ -56,14 +56,14 @@ use Rattle.block_check.proofs.size_number.Symbol as size-number-def
 use Rattle.block_check.proofs.size_number.Symbol.{name as #block-check·size-number}
 use Rattle.block_check.proofs.size_number.Met as size-number-thm
 use Rattle.block_record_check.proofs.record_number.Symbol as record-number-def
-use Rattle.block_record_check.proofs.record_number.Symbol.{name as #record-check·record-number}
+use Rattle.block_record_check.proofs.record_number.Symbol.{name as #block-record-check·record-number}
 use Rattle.block_record_check.proofs.record_number.Met as record-number-thm
 use Rattle.block_list_check.proofs.Listed.{none, Passed, passed-none, passed-more, refused-size, refused-here, refused-none}
 use Rattle.block_list_check.proofs.Six.{Fits}
 use Rattle.block_list_check.proofs.Locals.{bare, holds, bares, row}
 use Rattle.block_list_check.proofs.block_refusal.Proof.Callees.{R, stayed, Called, n, p, list, records, x, args, at, Own, answer, mach, Size, Number, Post, exits}
 use Rattle.block_list_check.proofs.block_refusal.Proof.Callees.{to-size, goes-size, Sized, size-told, to-number, goes-number, Numbered, number-told}
-use Rattle.block_list_check.proofs.block_refusal.Key.{name as #blocks-check·block-refusal}
+use Rattle.block_list_check.proofs.block_refusal.Key.{name as #block-list-check·block-refusal}
 use Rattle.block_list_check.proofs.block_refusal as block-refusal
 use Rattle.block_list_check.proofs.block_refusal.Statement as stated
 use Rattle.block_list_check.proofs.block_refusal.Code as code
@@ -108,7 +108,7 @@ module _ {M : Type 1} (𝓤 : URA M) (H : Heap 𝓤) (A : Atoms 𝓤) (W : Given
   Nearer-wf = InvImage·wf (λ (u : Upto). n c - u .0) (Nat·lt-wfRel .wf)
 
   module _ (𝓣 : Tables 𝓤 H) (fm : FmC 𝓤 H (W .laws) (𝓣 .C)) (known : Triple 𝓤 (𝓣 .C #block-check·size-number) Sizes)
-      (known₂ : Triple 𝓤 (𝓣 .C #record-check·record-number) Numbers) (l₀ l₁ l₂ l₃ l₄ l₅ l₆ l₇ l₈ l₉ l₁₀ l₁₁ l₁₂ : ℕ) where
+      (known₂ : Triple 𝓤 (𝓣 .C #block-record-check·record-number) Numbers) (l₀ l₁ l₂ l₃ l₄ l₅ l₆ l₇ l₈ l₉ l₁₀ l₁₁ l₁₂ : ℕ) where
     abbrev C : Calls 𝓤 H
     C = 𝓣 .C
 
@@ -248,7 +248,7 @@ module _ {M : Type 1} (𝓤 : URA M) (H : Heap 𝓤) (A : Atoms 𝓤) (W : Given
         assigns ! (of-opd ! (lit ! tt)) (from ! (stop !)) (init ! 18 refl (tt, record { fits = lit< tt })) $
         first ! $ blocks ! $ loops ! 𝓣 Nearer Nearer-wf At turns (0, zero-le, passed-none (p c) ys e (nltb→le 0 r small)))))))
 
-  walk : (𝓣 : Tables 𝓤 H) → FmC 𝓤 H (W .laws) (𝓣 .C) → Triple 𝓤 (𝓣 .C #block-check·size-number) Sizes → Triple 𝓤 (𝓣 .C #record-check·record-number) Numbers
+  walk : (𝓣 : Tables 𝓤 H) → FmC 𝓤 H (W .laws) (𝓣 .C) → Triple 𝓤 (𝓣 .C #block-check·size-number) Sizes → Triple 𝓤 (𝓣 .C #block-record-check·record-number) Numbers
       → ent 𝓤 (onEntry 𝓤 H A block-refusal.signature (κ, tt) (q, tt) (x c) (at c)) (WpFn 𝓤 H (𝓣 .C) (𝓣 .Λ) code.function (args c) Done)
   walk 𝓣 fm known known₂ =
       qed W ((‵ (flft κ q) ⊛ ‵ ftrue) ∷ ‵ (owns (usize ∷ ShrSlice (named 0) κ R ∷ []) (x c) (at c)) ∷ []) ∵
@@ -262,7 +262,7 @@ module _ {M : Type 1} (𝓤 : URA M) (H : Heap 𝓤) (A : Atoms 𝓤) (W : Given
       keep ! (26 ∷ 27 ∷ row 0 26) $ begins 𝓣 fm known known₂ l₀ l₁ l₂ l₃ l₄ l₅ l₆ l₇ l₈ l₉ l₁₀ l₁₁ l₁₂)))))))))))))
 
 module _ {M : Type 1} (𝓤 : URA M) (H : Heap 𝓤) (A : Atoms 𝓤) (W : Given 𝓤 H A) (at-mem : Memory → SProp 𝓤) (ran : Routine → Fun 𝓤) (𝓣 : Tables 𝓤 H)
-    (known : Triple 𝓤 (𝓣 .C #block-check·size-number) (Size 𝓤 H A at-mem ran)) (known₂ : Triple 𝓤 (𝓣 .C #record-check·record-number) (Number 𝓤 H A at-mem ran)) where
+    (known : Triple 𝓤 (𝓣 .C #block-check·size-number) (Size 𝓤 H A at-mem ran)) (known₂ : Triple 𝓤 (𝓣 .C #block-record-check·record-number) (Number 𝓤 H A at-mem ran)) where
   abbrev Code : List Val → (Val → SProp 𝓤) → SProp 𝓤
   Code = WpFn 𝓤 H (𝓣 .C) (𝓣 .Λ) code.function
 
@@ -286,7 +286,8 @@ pub block-refusal-spec : {M : Type 1} → stated.statement M
 unfolding code.routine tablesOf
 block-refusal-spec 𝓤 H 𝓜 𝓖 𝓡 =
     entered 𝓤 H (tripleOf 𝓤 H (𝓖 .A) block-refusal.signature (block-refusal.spec 𝓤 H (𝓖 .A) (𝓜 .mem) (𝓡 .run)))
-    (tables 𝓤 H 𝓜 𝓡 code.env .C) (tables 𝓤 H 𝓜 𝓡 code.env .Λ) #blocks-check·block-refusal code.function (code.unfolded 𝓤 H 𝓜 𝓡)
+    (tables 𝓤 H 𝓜 𝓡 code.env .C) (tables 𝓤 H 𝓜 𝓡 code.env .Λ) #block-list-check·block-refusal code.function (code.unfolded 𝓤 H 𝓜 𝓡)
     (block-refusal-meets 𝓤 H (𝓖 .A) (givenOf 𝓤 H 𝓜 𝓖) (𝓜 .mem) (𝓡 .run) (tablesOf 𝓤 H 𝓜 (tables 𝓤 H 𝓜 𝓡 code.env))
     (cited 𝓤 H (Size 𝓤 H (𝓖 .A) (𝓜 .mem) (𝓡 .run)) 𝓜 𝓡 code.env #block-check·size-number size-number-def.routine code.calls-block-check·size-number (size-number-thm.met 𝓤 H 𝓜 𝓖 𝓡))
-    (cited 𝓤 H (Number 𝓤 H (𝓖 .A) (𝓜 .mem) (𝓡 .run)) 𝓜 𝓡 code.env #record-check·record-number record-number-def.routine code.calls-block-record-check·record-number (record-number-thm.met 𝓤 H 𝓜 𝓖 𝓡)))
+    (cited 𝓤 H (Number 𝓤 H (𝓖 .A) (𝓜 .mem) (𝓡 .run)) 𝓜 𝓡 code.env #block-record-check·record-number record-number-def.routine code.calls-block-record-check·record-number
+    (record-number-thm.met 𝓤 H 𝓜 𝓖 𝓡)))

@@ -1,4 +1,4 @@
--- `run::answer` meets its contract.
+-- `run::answer` calls what it calls on inputs that they take: the bytes read, a buffer with room, the text written.
 use native.Mathlib.Omega.{arith}
 use lib.ListN.{length-take}
 use borrow.Author.Needs.{needs}

@@ -1,4 +1,4 @@
--- `run::end_line` meets its contract.
+-- `run::end_line` writes inside the buffer, and its end is not past it.
 use native.Mathlib.Omega.{arith}
 use lib.ListN.{length-set}
 use borrow.Author.Needs.{needs}

@@ -1,4 +1,4 @@
--- `run::write` meets its contract.
+-- `run::write` writes the front of the buffer, which has that many bytes.
 use native.Mathlib.Omega.{arith}
 use lib.ListN.{length-take}
 use borrow.Author.Needs.{needs}

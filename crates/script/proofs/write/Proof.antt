@@ -1,4 +1,4 @@
--- `script::write` meets its contract.
+-- `script::write` writes the front of the buffer, which has that many bytes.
 use native.Mathlib.Omega.{arith}
 use lib.ListN.{length-take}
 use borrow.Author.Needs.{needs}

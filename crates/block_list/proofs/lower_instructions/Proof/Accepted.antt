@@ -48,7 +48,7 @@ use Rattle.block_list.proofs.Listed.{start-room, run-ok, all-accepted}
 use Rattle.block_list_check.proofs.Locals.{bare, holds, bares, row}
 use Rattle.block_list.proofs.Called.{R, S, word, slice, words, map-ref, lent-word, lent, lent-map, Called, m, pool-val, list-val, map-val, records}
 use Rattle.block_list.proofs.Called.{Own, Pool, Map, PoolLent, PoolKept, MapLent, MapKept, Owned}
-use Rattle.block_list.proofs.run_instructions.Symbol.{name as #blocks·run-instructions}
+use Rattle.block_list.proofs.run_instructions.Symbol.{name as #block-list·run-instructions}
 use Rattle.block_list.proofs.lower_instructions.Proof.Callees.{Start, Run, refused, map-ty, mach, Fits, Post, exits}
 use Rattle.block_list.proofs.lower_instructions.Proof.Callees.{to-start, goes-start, Begun, begun, to-run, goes-run, Ran, ran-to}
 use Rattle.block_list.proofs.lower_instructions as lower-instructions
@@ -115,7 +115,7 @@ module _ {M : Type 1} (𝓤 : URA M) (H : Heap 𝓤) (A : Atoms 𝓤) (W : Given
         free0 ! $ by ! (exits 𝓤 H A W at-mem ran c bounds r ps h e l fits)
 
     module _ (𝓣 : Tables 𝓤 H) (fm : FmC 𝓤 H (W .laws) (𝓣 .C)) (start-known : Triple 𝓤 (𝓣 .C #block·start-pool) Starting)
-        (run-known : Triple 𝓤 (𝓣 .C #blocks·run-instructions) Running) (r : Checked) (e : Told r) (small : r .number ≤ 0) (fits : Fits r) where
+        (run-known : Triple 𝓤 (𝓣 .C #block-list·run-instructions) Running) (r : Checked) (e : Told r) (small : r .number ≤ 0) (fits : Fits r) where
       -- the pool is started at ps and the map is h: the records run
       runs-on : (ps : List ℕ) (h : RegisterMap) → length ps ≡ m c → Started ps₀ ps 32 → h ≡ firstMap
           → Sq W (Owned c ps h (Rest (holds refused l₄ (mach r) Params))) (runs (𝓣 .C) (𝓣 .Λ) En code.Mir.t-9 (atRet En Done))
