@@ -1,10 +1,10 @@
 // Word 0 of a node: its kind, its width and the set of the registers beneath it (document 01, "Pool"; document 02, S-4). The libraries read
-// it and make it here only.
+// it and make it here only. So do they make word 1, a node's operands; pool_fields reads it.
 use crate::Node;
 ghost use mathlib.Core.Path.{_≡_};
 ghost use Prim.Native.Nat.{_+_, _*_, _<_, _^_};
 ghost use lib.ListN.{length, getD};
-ghost use Rattle.pool.specs.Node.{kindWord, kindNumber, widthAt, setAt};
+ghost use Rattle.pool.specs.Node.{kindWord, operandWord, kindNumber, widthAt, setAt};
 
 // The numbers of the kinds of node, in document 01's order: Var and Const have no operand, Add to AShr are of vectors, Eq to Slt conditions.
 pub struct Kind(pub u64);
@@ -54,6 +54,14 @@ pub fn kind_word(kind: u64, width: u64, set: u64) -> u64
     ensures { λ r. ⌜ r ≡ kindWord kind width set ⌝ }
 {
     kind + 65536 * width + 4294967296 * set
+}
+
+// Word 1, of up to three operands; node 0 stands for one that the kind has not.
+pub fn operands_word(a: Node, b: Node, c: Node) -> u64
+    requires { ⌜ (a .0 < 65536) × (b .0 < 65536) × (c .0 < 65536) ⌝ }
+    ensures { λ r. ⌜ r ≡ operandWord (a .0) (b .0) (c .0) ⌝ }
+{
+    (a.0 as u64) + 65536 * (b.0 as u64) + 4294967296 * (c.0 as u64)
 }
 
 // Word 0 as it stands, of a node that is copied or compared whole.

@@ -5,6 +5,7 @@ use pool::Node;
 use pool::push;
 use pool::words::Kind;
 use pool::words::kind_word;
+use pool::words::operands_word;
 use pool::words::set_of;
 use pool::words::width_of;
 use terms::BinOp;
@@ -12,7 +13,7 @@ use terms::CmpOp;
 ghost use mathlib.Core.Path.{_≡_};
 ghost use Prim.Native.Nat.{_+_, _*_, _≤_, _<_, _%_, _^_};
 ghost use lib.ListN.{length};
-ghost use Rattle.pool.specs.Node.{operandWord, widthAt, bvCode, compareCode};
+ghost use Rattle.pool.specs.Node.{widthAt, bvCode, compareCode};
 ghost use Rattle.pool.specs.Growth.{Room};
 ghost use Rattle.pool_nodes.specs.Builders.{unionAt, MadeVar, MadeConst, MadeBv, MadeCompare, MadeIte, MadeExtract, MadeConcat, MadeZeroExtend, MadeSignExtend};
 
@@ -30,14 +31,6 @@ fn union(pool: &[u64], a: Node, b: Node) -> u64
     ensures { λ r. ⌜ (r ≡ unionAt (now (pool .entry)) (a .0) (b .0)) × (r < 2 ^ 32) ⌝ }
 {
     set_of(pool, a) | set_of(pool, b)
-}
-
-// Word 1, of up to three operands.
-fn operand_word(a: Node, b: Node, c: Node) -> u64
-    requires { ⌜ (a .0 < 65536) × (b .0 < 65536) × (c .0 < 65536) ⌝ }
-    ensures { λ r. ⌜ r ≡ operandWord (a .0) (b .0) (c .0) ⌝ }
-{
-    (a.0 as u64) + 65536 * (b.0 as u64) + 4294967296 * (c.0 as u64)
 }
 
 // A register: one of the first 32 nodes.
@@ -98,7 +91,7 @@ pub fn bv(pool: &mut [u64], count: usize, op: BinOp, a: Node, b: Node) -> Built
     ensures { λ r. ⌜ MadeBv (now (pool .entry)) count (now (pool .exit)) r op a b ⌝ }
 {
     let w0 = kind_word(bv_code(op), width(pool, a), union(pool, a, b));
-    push(pool, count, w0, operand_word(a, b, Node(0)), 0, 0)
+    push(pool, count, w0, operands_word(a, b, Node(0)), 0, 0)
 }
 
 // The condition `op(a, b)`.
@@ -108,7 +101,7 @@ pub fn compare(pool: &mut [u64], count: usize, op: CmpOp, a: Node, b: Node) -> B
     ensures { λ r. ⌜ MadeCompare (now (pool .entry)) count (now (pool .exit)) r op a b ⌝ }
 {
     let w0 = kind_word(compare_code(op), 0, union(pool, a, b));
-    push(pool, count, w0, operand_word(a, b, Node(0)), 0, 0)
+    push(pool, count, w0, operands_word(a, b, Node(0)), 0, 0)
 }
 
 pub fn ite(pool: &mut [u64], count: usize, cond: Node, then_expr: Node, else_expr: Node) -> Built
@@ -122,7 +115,7 @@ pub fn ite(pool: &mut [u64], count: usize, cond: Node, then_expr: Node, else_exp
         pool,
         count,
         w0,
-        operand_word(cond, then_expr, else_expr),
+        operands_word(cond, then_expr, else_expr),
         0,
         0,
     )
@@ -139,7 +132,7 @@ pub fn extract(pool: &mut [u64], count: usize, src: Node, hi: Bit, lo: Bit) -> B
         pool,
         count,
         w0,
-        operand_word(src, Node(0), Node(0)),
+        operands_word(src, Node(0), Node(0)),
         hi.0,
         lo.0,
     )
@@ -152,7 +145,7 @@ pub fn concat(pool: &mut [u64], count: usize, high: Node, low: Node) -> Built
 {
     let bits = width(pool, high) + width(pool, low);
     let w0 = kind_word(Kind::CONCAT, bits, union(pool, high, low));
-    push(pool, count, w0, operand_word(high, low, Node(0)), 0, 0)
+    push(pool, count, w0, operands_word(high, low, Node(0)), 0, 0)
 }
 
 pub fn zero_ext(pool: &mut [u64], count: usize, src: Node, to_bits: u64) -> Built
@@ -161,7 +154,7 @@ pub fn zero_ext(pool: &mut [u64], count: usize, src: Node, to_bits: u64) -> Buil
     ensures { λ r. ⌜ MadeZeroExtend (now (pool .entry)) count (now (pool .exit)) r src «to_bits» ⌝ }
 {
     let w0 = kind_word(Kind::ZERO_EXTEND, to_bits, set_of(pool, src));
-    push(pool, count, w0, operand_word(src, Node(0), Node(0)), 0, 0)
+    push(pool, count, w0, operands_word(src, Node(0), Node(0)), 0, 0)
 }
 
 pub fn sign_ext(pool: &mut [u64], count: usize, src: Node, to_bits: u64) -> Built
@@ -170,5 +163,5 @@ pub fn sign_ext(pool: &mut [u64], count: usize, src: Node, to_bits: u64) -> Buil
     ensures { λ r. ⌜ MadeSignExtend (now (pool .entry)) count (now (pool .exit)) r src «to_bits» ⌝ }
 {
     let w0 = kind_word(Kind::SIGN_EXTEND, to_bits, set_of(pool, src));
-    push(pool, count, w0, operand_word(src, Node(0), Node(0)), 0, 0)
+    push(pool, count, w0, operands_word(src, Node(0), Node(0)), 0, 0)
 }

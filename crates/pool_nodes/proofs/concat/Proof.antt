@@ -19,8 +19,8 @@ union-requires c κs = search needs
 kind-word-requires : tie.Need-kind-word-requires
 kind-word-requires c κs = search needs
 
-operand-word-requires : tie.Need-operand-word-requires
-operand-word-requires c κs = search needs
+operands-word-requires : tie.Need-operands-word-requires
+operands-word-requires c κs = search needs
 
 push-requires : tie.Need-push-requires
 push-requires c κs = search needs
@@ -31,14 +31,14 @@ same-length c = search needs
 returns : tie.Need-returns
 returns c =
     let l-push = c .before .before in
-    let l-operand-word = l-push .before in
-    let l-kind-word = l-operand-word .before .before in
+    let l-operands-word = l-push .before in
+    let l-kind-word = l-operands-word .before .before in
     let l-union = l-kind-word .before in
     let l-width2 = l-union .before .before in
     let l-width = l-width2 .before .before in
     let st = l-width .before .before .before in
     concat-built (st .pre .0) (st .pre .1 .0) (st .pre .1 .1) (l-width .width .ensures .0) (l-width2 .width2 .ensures .0) (l-union .union .ensures .0) (l-kind-word .kind-word .ensures)
-    (l-operand-word .operand-word .ensures) (l-push .push .ensures)
+    (l-operands-word .operands-word .ensures) (l-push .push .ensures)
 
 pub concat-spec : {M : Type 1} → statement M
 concat-spec =
@@ -49,7 +49,7 @@ concat-spec =
     add-bits
     union-requires
     kind-word-requires
-    operand-word-requires
+    operands-word-requires
     push-requires
     same-length
     returns)

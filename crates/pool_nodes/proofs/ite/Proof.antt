@@ -23,8 +23,8 @@ set-of-requires c κs = search needs
 width-requires : tie.Need-width-requires
 width-requires c κs = search needs
 
-operand-word-requires : tie.Need-operand-word-requires
-operand-word-requires c κs = search needs
+operands-word-requires : tie.Need-operands-word-requires
+operands-word-requires c κs = search needs
 
 push-requires : tie.Need-push-requires
 push-requires c κs = search needs
@@ -39,12 +39,12 @@ kind-word-requires c κs =
 returns : tie.Need-returns
 returns c =
     let l-push = c .before .before in
-    let l-operand-word = l-push .before in
-    let l-kind-word = l-operand-word .before .before in
+    let l-operands-word = l-push .before in
+    let l-kind-word = l-operands-word .before .before in
     let l-width = l-kind-word .before in
     let s = two-sets l-width .before .before .before in
     ite-built (s .pre .0) (s .pre .1 .0) (s .pre .1 .1) (l-width .width .ensures .0) (ap₂ bitOr (two-sets l-width .union .ensures .0) (else-set l-width .set-of .ensures .0))
-    (l-kind-word .kind-word .ensures) (l-operand-word .operand-word .ensures) (l-push .push .ensures)
+    (l-kind-word .kind-word .ensures) (l-operands-word .operands-word .ensures) (l-push .push .ensures)
 
 pub ite-spec : {M : Type 1} → statement M
 ite-spec =
@@ -54,7 +54,7 @@ ite-spec =
     set-of-requires
     width-requires
     kind-word-requires
-    operand-word-requires
+    operands-word-requires
     push-requires
     same-length
     returns)
