@@ -4,7 +4,7 @@ use pool::Node;
 use pool::words::Kind;
 use pool::words::kind_of;
 ghost use mathlib.Core.Path.{_≡_};
-ghost use Prim.Native.Nat.{_+_, _*_, _<_};
+ghost use Prim.Native.Nat.{_+_, _*_, _/_, _<_};
 ghost use lib.ListN.{length};
 ghost use Rattle.pool.specs.Node.{wordAt};
 ghost use Rattle.pool_fields.specs.Fields.{opA, opB, opC, leftOf, rightOf};
@@ -40,6 +40,15 @@ pub fn operand_word(p: &[u64], n: Node) -> u64
 {
     let at = 4 * n.0;
     p[at + 1]
+}
+
+// B and, above it, C: all that stands above A.
+pub fn second_and_third(p: &[u64], n: Node) -> u64
+    requires { ⌜ 4 * n .0 + 3 < length (now p) ⌝ }
+    ensures { λ r. ⌜ r ≡ wordAt (now (p .entry)) (n .0) 1 / 65536 ⌝ }
+{
+    let at = 4 * n.0;
+    p[at + 1] / 65536
 }
 
 // The left one of the two operands that an operator or a comma stands between in the text.

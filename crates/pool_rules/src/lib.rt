@@ -11,6 +11,7 @@ use pool_fields::high;
 use pool_fields::low;
 use pool_fields::operand_word;
 use pool_fields::second;
+use pool_fields::second_and_third;
 use pool_fields::third;
 ghost use mathlib.Core.Path.{_≡_};
 ghost use Prim.Native.Nat.{_+_, _*_, _≤_, _<_, _^_};
@@ -82,8 +83,8 @@ pub fn pair_ok(p: &[u64], n: Node, kind: u64) -> bool
     ensures { λ r. ⌜ r ≡ okAs (kindAt kind) (now (p .entry)) (n .0) ⌝ }
 {
     let a = first(p, n);
-    // B and, above it, C, which has to be 0
-    let rest = operand_word(p, n) / 65536;
+    // C, above B, has to be 0
+    let rest = second_and_third(p, n);
     if n.0 <= a.0 {
         return false;
     }

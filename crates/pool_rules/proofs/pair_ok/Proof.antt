@@ -20,8 +20,8 @@ is-pair st = let h = st .pre .1 in record { from = h .0; below = h .1; no-ite = 
 first-requires : tie.Need-first-requires
 first-requires c κs = search needs
 
-operand-word-requires : tie.Need-operand-word-requires
-operand-word-requires c κs = search needs
+second-and-third-requires : tie.Need-second-and-third-requires
+second-and-third-requires c κs = search needs
 
 returns : tie.Need-returns
 returns c =
@@ -31,9 +31,9 @@ returns c =
 
 returns-2 : tie.Need-returns-2
 returns-2 c =
-    let l-operand-word = c .before .before .before .before in
-    let st = entry (l-operand-word .before) in
-    late-rest (now (st .args .p)) (st .args .n .0) (st .args .kind) (is-pair st) (omega (arith, l-operand-word .operand-word .ensures, c .if2 .taken))
+    let l-second-and-third = c .before .before .before .before in
+    let st = entry (l-second-and-third .before) in
+    late-rest (now (st .args .p)) (st .args .n .0) (st .args .kind) (is-pair st) (omega (arith, l-second-and-third .second-and-third .ensures, c .if2 .taken))
 
 width-of-requires : tie.Need-width-of-requires
 width-of-requires c κs = search needs
@@ -75,19 +75,19 @@ returns-3 c =
     let l-width-of = l-width-of2 .before in
     let l-if2 = l-width-of .before in
     let l-if1 = l-if2 .before in
-    let l-operand-word = l-if1 .before .before .before in
-    let l-first = l-operand-word .before in
+    let l-second-and-third = l-if1 .before .before .before in
+    let l-first = l-second-and-third .before in
     let st = entry l-first in
     let ws = now (st .args .p) in
     let n = st .args .n .0 in
     let own : Own ws n (l-width-of3 .width-of3 .result) (l-low .low .result) (l-high .high .result) (l-set-of .set-of .result) =
     record { width-is = l-width-of3 .width-of3 .ensures .0; x-is = l-low .low .ensures; y-is = l-high .high .ensures; set-is = l-set-of .set-of .ensures .0 } in
-    let word = l-operand-word .operand-word .ensures in
+    let word = l-second-and-third .second-and-third .ensures in
     let la : l-first .first .result .0 < n = omega (arith, l-if1 .if1 .left) in
     let rest : wordAt ws n 1 / 65536 < n = omega (arith, word, l-if2 .if2 .left) in
     let no-c : opC ws n ≡ 0 = omega (arith, rest, st .pre .0 .1) in
-    let at-b : l-operand-word .operand-word .result / 65536 ≡ opB ws n = omega (arith, word, no-c) in
-    let lb : l-operand-word .operand-word .result / 65536 < n = omega (arith, l-if2 .if2 .left) in
+    let at-b : l-second-and-third .second-and-third .result ≡ opB ws n = omega (arith, word, no-c) in
+    let lb : l-second-and-third .second-and-third .result < n = omega (arith, l-if2 .if2 .left) in
     pair-at ws n (omega (arith, l-first .first .ensures, la)) (rw at-b at lb) no-c (st .args .kind) (is-pair st) own
     (width-before ws n (l-first .first .ensures) la (l-width-of .width-of .ensures .0)) (width-before ws n at-b lb (l-width-of2 .width-of2 .ensures .0))
     (set-before ws n (l-first .first .ensures) la (l-set-of2 .set-of2 .ensures .0)) (set-before ws n at-b lb (l-set-of3 .set-of3 .ensures .0)) (l-width-over .width-over .ensures)
@@ -97,7 +97,7 @@ pair-ok-spec =
     tie.close
     (tie.spec
     first-requires
-    operand-word-requires
+    second-and-third-requires
     returns
     returns-2
     width-of-requires
