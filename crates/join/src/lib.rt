@@ -6,6 +6,7 @@ use pool::words::Kind;
 use pool::words::kind_of;
 use pool::words::kind_word;
 use pool::words::kind_word_at;
+use pool::words::operands_word;
 use pool::words::set_of;
 use pool_check::check_plain;
 use pool_check::of_width;
@@ -44,7 +45,7 @@ fn is_register(pool: &[u64], n: Node) -> bool
 fn starts(pool: &[u64], count: usize) -> bool
     ensures { λ r. ⌜ r ≡ (poolOk (now (pool .entry)) count && startsWithRegisters (now (pool .entry)) count) ⌝ }
 {
-    if !check_plain(pool, count, 32) {
+    if !check_plain(pool, count, Node(32)) {
         return false;
     }
     if count < 32 {
@@ -135,12 +136,12 @@ fn put_eq(first: &[u64], c: usize, second: &[u64], d: usize, x: Node, y: Node, o
     ensures { λ r. ⌜ now (out .exit) ≡ writeEq (now (first .entry)) c (now (second .entry)) d (x .0) (y .0) (now (out .entry)) ⌝ }
 {
     let set = set_of(first, x) | set_of(second, y);
-    let b = y.0 as u64 + raised(c as u64 - 32, y);
+    let b = Node(y.0 + raised(c as u64 - 32, y) as usize);
     push(
         out,
         c + d - 32,
         kind_word(Kind::EQ, 0, set),
-        x.0 as u64 + 65536 * b,
+        operands_word(x, b, Node(0)),
         0,
         0,
     );

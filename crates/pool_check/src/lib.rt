@@ -20,9 +20,9 @@ ghost use Rattle.pool_check.specs.Plain.{plainAt, plainFrom};
 
 // Whether node n obeys the rules, and is no Var from node `plain` on. Kinds that are rarer than those of two operands are asked for first, one
 // by one: where kinds come in random order the processor then guesses wrong less often.
-fn node_ok(pool: &[u64], n: Node, plain: usize) -> bool
+fn node_ok(pool: &[u64], n: Node, plain: Node) -> bool
     requires { ⌜ (4 * n .0 + 3 < length (now pool)) × (n .0 < none) ⌝ }
-    ensures { λ r. ⌜ r ≡ (okNode (now (pool .entry)) (n .0) && plainAt (now (pool .entry)) plain (n .0)) ⌝ }
+    ensures { λ r. ⌜ r ≡ (okNode (now (pool .entry)) (n .0) && plainAt (now (pool .entry)) (plain .0) (n .0)) ⌝ }
 {
     let kind = kind_of(pool, n);
     if kind == Kind::CONST {
@@ -46,7 +46,7 @@ fn node_ok(pool: &[u64], n: Node, plain: usize) -> bool
     }
     if kind < Kind::ADD {
         if kind == Kind::VAR {
-            return (n.0 < plain) & var_ok(pool, n);
+            return (n.0 < plain.0) & var_ok(pool, n);
         }
         return false;
     }
@@ -54,35 +54,35 @@ fn node_ok(pool: &[u64], n: Node, plain: usize) -> bool
 }
 
 // The first node below count that node_ok refuses; count where there is none.
-fn refused(pool: &[u64], count: usize, plain: usize) -> usize
+fn first_refused(pool: &[u64], count: usize, plain: Node) -> Node
     requires { ⌜ (4 * count ≤ length (now pool)) × (count ≤ none) ⌝ }
-    ensures { λ r. ⌜ eqb r count ≡ (okPool (now (pool .entry)) count && plainFrom (now (pool .entry)) plain count) ⌝ }
+    ensures { λ r. ⌜ eqb (r .0) count ≡ (okPool (now (pool .entry)) count && plainFrom (now (pool .entry)) (plain .0) count) ⌝ }
 {
     let mut n = 0;
     while n < count {
         if !node_ok(pool, Node(n), plain) {
-            return n;
+            return Node(n);
         }
         n += 1;
     }
-    n
+    Node(n)
 }
 
 // Whether the pool has count places, each node below count obeys the rules, and none from node `plain` on is a Var.
-pub fn check_plain(pool: &[u64], count: usize, plain: usize) -> bool
-    ensures { λ r. ⌜ r ≡ (poolOk (now (pool .entry)) count && plainFrom (now (pool .entry)) plain count) ⌝ }
+pub fn check_plain(pool: &[u64], count: usize, plain: Node) -> bool
+    ensures { λ r. ⌜ r ≡ (poolOk (now (pool .entry)) count && plainFrom (now (pool .entry)) (plain .0) count) ⌝ }
 {
     if pool::places(pool) < count {
         return false;
     }
-    refused(pool, count, plain) == count
+    first_refused(pool, count, plain).0 == count
 }
 
 // Whether the pool has count places, and each node below count obeys the rules.
 pub fn pool_check(pool: &[u64], count: usize) -> bool
     ensures { λ r. ⌜ r ≡ poolOk (now (pool .entry)) count ⌝ }
 {
-    check_plain(pool, count, count)
+    check_plain(pool, count, Node(count))
 }
 
 // 1 for a bad pool, 5 for a node that it has not, else 0.

@@ -14,14 +14,14 @@ returns c =
     let a = c .before .before .before .args in
     rw (lt-leb (a .count) (places (a .pool .now)) (omega (arith, c .before .places .ensures, c .if1 .taken)))
 
-refused-requires : tie.Need-refused-requires
-refused-requires c κs = search needs
+first-refused-requires : tie.Need-first-refused-requires
+first-refused-requires c κs = search needs
 
 returns-2 : tie.Need-returns-2
 returns-2 c =
-    let test = c .before in
+    let test = c .before .before in
     let a = test .before .before .before .args in
-    rw (le-leb (a .count) (places (a .pool .now)) (omega (arith, test .before .places .ensures, test .if1 .left))) (c .refused .ensures)
+    rw (le-leb (a .count) (places (a .pool .now)) (omega (arith, test .before .places .ensures, test .if1 .left))) (c .before .first-refused .ensures)
 
 pub check-plain-spec : {M : Type 1} → statement M
-check-plain-spec = tie.close (tie.spec places-requires returns refused-requires returns-2)
+check-plain-spec = tie.close (tie.spec places-requires returns first-refused-requires returns-2)

@@ -23,7 +23,7 @@ module _ (c : tie.After-kind-of) where
   ws = entry .args .pool .now
 
   abbrev plain : ℕ
-  plain = entry .args .plain
+  plain = entry .args .plain .0
 
   abbrev n : ℕ
   n = entry .args .n .0
@@ -110,7 +110,7 @@ var-ok-requires c κs = search needs
 returns-7 : tie.Need-returns-7
 unfolding kindAt kinds
 returns-7 c =
-    let test = c .before .before in
+    let test = c .before .before .before in
     let k = past-concat (test .before .before) in
     a-var (ws k) (plain k) (n k) (k .kind-of .ensures) (test .if8 .taken) (by-number (ws k) (n k) (sym (test .if8 .taken) ∙ k .kind-of .ensures) (c .var-ok .ensures))
 
