@@ -12,7 +12,7 @@ use Rattle.pool.specs.Node.{kindNumber}
 use Rattle.pool_fields.specs.Fields.{opA, opB, opC}
 use Rattle.pool_operands.specs.Operands.{hasA, hasB, hasC}
 use Rattle.canonical_classes.specs.declared.Key.{Key}
-use Rattle.canonical_classes.specs.Key.{classIf, keyOf, wayOf, rowOf, nextOf}
+use Rattle.canonical_classes.specs.Key.{classIf, keyOf, operandsOf, wayOf, rowOf, nextOf}
 use Rattle.canonical_classes.specs.Class.{Comes, Once, Kept, Bounded}
 use Rattle.canonical_classes.proofs.Search.{bucket-less, way-less, next-first, next-later}
 
@@ -84,17 +84,13 @@ row-way : (k : Key) (level i v : ℕ) → rowOf k level ≡ v → level % 64 ≡
 unfolding wayOf
 row-way k level i v e f = ap (λ (x : ℕ). x / 2 ^ (level % 64) % 2) e ∙ ap (λ (j : ℕ). v / 2 ^ j % 2) f
 
--- the operands' classes as one number
-abbrev operands : Key → ℕ
-operands k = k .a + 65536 * k .b + 4294967296 * k .c
-
 row-x : (k : Key) (l : ℕ) → 24 ≤ l → l < 88 → rowOf k l ≡ k .x
 row-x k l h g = rw (le-ltb l 24 h, lt-ltb l 88 g)
 
 row-y : (k : Key) (l : ℕ) → 88 ≤ l → l < 152 → rowOf k l ≡ k .y
 row-y k l h g = rw (le-ltb l 24 (omega arith), le-ltb l 88 h, lt-ltb l 152 g)
 
-row-operands : (k : Key) (l : ℕ) → 152 ≤ l → l < 216 → rowOf k l ≡ operands k
+row-operands : (k : Key) (l : ℕ) → 152 ≤ l → l < 216 → rowOf k l ≡ operandsOf k
 row-operands k l h g = rw (le-ltb l 24 (omega arith), le-ltb l 88 (omega arith), le-ltb l 152 h, lt-ltb l 216 g)
 
 row-word : (k : Key) (l : ℕ) → 216 ≤ l → l < 280 → rowOf k l ≡ k .word
@@ -103,20 +99,20 @@ row-word k l h g = rw (le-ltb l 24 (omega arith), le-ltb l 88 (omega arith), le-
 -- numbers of a machine word
 pub record Small (k : Key) : Type 0 where
   pub word-less : k .word < 18446744073709551616
-  pub a-less : k .a < 65536
-  pub b-less : k .b < 65536
-  pub c-less : k .c < 65536
+  pub a-less : k .a .0 < 65536
+  pub b-less : k .b .0 < 65536
+  pub c-less : k .c .0 < 65536
   pub x-less : k .x < 18446744073709551616
   pub y-less : k .y < 18446744073709551616
 
 module _ (k : Key) (S : Small k) where
-  a-in : operands k % 65536 ≡ k .a
+  a-in : operandsOf k % 65536 ≡ k .a .0
   a-in = omega (arith, S .a-less)
 
-  b-in : operands k / 65536 % 65536 ≡ k .b
+  b-in : operandsOf k / 65536 % 65536 ≡ k .b .0
   b-in = omega (arith, S .a-less, S .b-less)
 
-  c-in : operands k / 4294967296 ≡ k .c
+  c-in : operandsOf k / 4294967296 ≡ k .c .0
   c-in = omega (arith, S .a-less, S .b-less)
 
 module _ (k k′ : Key) (ways : (i : ℕ) → 0 < i → i < 280 → wayOf k i ≡ wayOf k′ i) where
@@ -134,13 +130,13 @@ module _ (k k′ : Key) (ways : (i : ℕ) → 0 < i → i < 280 → wayOf k i �
   keys-agree S S′ =
       let ex : k .x ≡ k′ .x = part-same 24 _ _ refl (omega arith) (omega arith) (row-x k) (row-x k′) (S .x-less) (S′ .x-less) in
       let ey : k .y ≡ k′ .y = part-same 88 _ _ refl (omega arith) (omega arith) (row-y k) (row-y k′) (S .y-less) (S′ .y-less) in
-      let eo : operands k ≡ operands k′ = part-same 152 _ _ refl (omega arith) (omega arith) (row-operands k) (row-operands k′)
+      let eo : operandsOf k ≡ operandsOf k′ = part-same 152 _ _ refl (omega arith) (omega arith) (row-operands k) (row-operands k′)
       (omega (arith, S .a-less, S .b-less, S .c-less)) (omega (arith, S′ .a-less, S′ .b-less, S′ .c-less)) in
       let ew : k .word ≡ k′ .word = part-same 216 _ _ refl (omega arith) (omega arith) (row-word k) (row-word k′) (S .word-less) (S′ .word-less) in
-      let ea : k .a ≡ k′ .a = sym (a-in k S) ∙ ap (λ (v : ℕ). v % 65536) eo ∙ a-in k′ S′ in
-      let eb : k .b ≡ k′ .b = sym (b-in k S) ∙ ap (λ (v : ℕ). v / 65536 % 65536) eo ∙ b-in k′ S′ in
-      let ec : k .c ≡ k′ .c = sym (c-in k S) ∙ ap (λ (v : ℕ). v / 4294967296) eo ∙ c-in k′ S′ in
-      λ i. record { word = ew i; a = ea i; b = eb i; c = ec i; x = ex i; y = ey i }
+      let ea : k .a .0 ≡ k′ .a .0 = sym (a-in k S) ∙ ap (λ (v : ℕ). v % 65536) eo ∙ a-in k′ S′ in
+      let eb : k .b .0 ≡ k′ .b .0 = sym (b-in k S) ∙ ap (λ (v : ℕ). v / 65536 % 65536) eo ∙ b-in k′ S′ in
+      let ec : k .c .0 ≡ k′ .c .0 = sym (c-in k S) ∙ ap (λ (v : ℕ). v / 4294967296) eo ∙ c-in k′ S′ in
+      λ i. record { word = ew i; a = record { 0 = ea i }; b = record { 0 = eb i }; c = record { 0 = ec i }; x = ex i; y = ey i }
 
 -- ---- the search
 

@@ -161,9 +161,9 @@ module _ (ws : List ℕ) (count : ℕ) (v : Valid ws count) (words : (i : ℕ) �
         let w : getD ws (4 * m) 0 ≡ getD ws (4 * n) 0 = ap (λ (k : Key). k .word) e in
         let kn : kindNumber ws m ≡ kindNumber ws n = rw w in
         let κ : kindIn ws m ≡ kindIn ws n = ap kindAt kn in
-        let ea : classIf (hasA (kindNumber ws m)) class (k .a) ≡ classIf (hasA (kindNumber ws n)) class (l .a) = ap (λ (k : Key). k .a) e in
-        let eb : classIf (hasB (kindNumber ws m)) class (k .b) ≡ classIf (hasB (kindNumber ws n)) class (l .b) = ap (λ (k : Key). k .b) e in
-        let ec : classIf (hasC (kindNumber ws m)) class (k .c) ≡ classIf (hasC (kindNumber ws n)) class (l .c) = ap (λ (k : Key). k .c) e in
+        let ea : classIf (hasA (kindNumber ws m)) class (k .a) ≡ classIf (hasA (kindNumber ws n)) class (l .a) = ap (λ (k : Key). k .a .0) e in
+        let eb : classIf (hasB (kindNumber ws m)) class (k .b) ≡ classIf (hasB (kindNumber ws n)) class (l .b) = ap (λ (k : Key). k .b .0) e in
+        let ec : classIf (hasC (kindNumber ws m)) class (k .c) ≡ classIf (hasC (kindNumber ws n)) class (l .c) = ap (λ (k : Key). k .c .0) e in
         let less : Earlier (kindIn ws n) m k = subst (λ (κ : Kind). Earlier κ m k) κ (rm .less) in
         let oa : (h : hasA (codeOf (kindIn ws n)) ≡ true) → unfoldAt ws (k .a) ≡ unfoldAt ws (l .a) = λ h.
         let am : k .a < m = less .a-less h in
@@ -228,4 +228,4 @@ module _ (ws : List ℕ) (count : ℕ) (v : Valid ws count) (words : (i : ℕ) �
         C .one (k .c) (l .c) (omega arith) (omega arith) (sym (pm .c-is g) ∙ ap (λ (t : Expr). at (parts t) 2) e ∙ pn .c-is g))) in
         let xx : k .x ≡ l .x = rm .x-is ∙ ap (λ (t : Expr). cellIn [] t .x) e ∙ sym (rn .x-is) in
         let yy : k .y ≡ l .y = rm .y-is ∙ ap (λ (t : Expr). cellIn [] t .y) e ∙ sym (rn .y-is) in
-        λ i. record { word = w i; a = fa i; b = fb i; c = fc i; x = xx i; y = yy i }
+        λ i. record { word = w i; a = record { 0 = fa i }; b = record { 0 = fb i }; c = record { 0 = fc i }; x = xx i; y = yy i }

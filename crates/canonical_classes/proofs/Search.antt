@@ -10,6 +10,7 @@ use lib.Dec.{ltb}
 use borrow.Author.Tests.{eqb-true, eq-eqb, ne-eqb, ltb-true, ltb-false}
 use Rattle.facts.proofs.Tests.{and-both}
 use Rattle.canonical_classes.specs.declared.Key.{Key}
+use Rattle.pool.specs.declared.Node.{Node}
 use Rattle.pool.specs.Node.{wordAt, kindNumber}
 use Rattle.pool_fields.specs.Fields.{opA, opB, opC}
 use Rattle.pool_operands.specs.Operands.{hasA, hasB, hasC}
@@ -26,20 +27,20 @@ keys-same k l h =
     let p2 = and-both _ _ (p3 .0) in
     let p1 = and-both _ _ (p2 .0) in
     let e0 : k .word ≡ l .word = eqb-true _ _ (p1 .0) in
-    let e1 : k .a ≡ l .a = eqb-true _ _ (p1 .1) in
-    let e2 : k .b ≡ l .b = eqb-true _ _ (p2 .1) in
-    let e3 : k .c ≡ l .c = eqb-true _ _ (p3 .1) in
+    let e1 : k .a .0 ≡ l .a .0 = eqb-true _ _ (p1 .1) in
+    let e2 : k .b .0 ≡ l .b .0 = eqb-true _ _ (p2 .1) in
+    let e3 : k .c .0 ≡ l .c .0 = eqb-true _ _ (p3 .1) in
     let e4 : k .x ≡ l .x = eqb-true _ _ (p4 .1) in
     let e5 : k .y ≡ l .y = eqb-true _ _ (p5 .1) in
-    λ i. record { word = e0 i; a = e1 i; b = e2 i; c = e3 i; x = e4 i; y = e5 i }
+    λ i. record { word = e0 i; a = record { 0 = e1 i }; b = record { 0 = e2 i }; c = record { 0 = e3 i }; x = e4 i; y = e5 i }
 
 same-self : (k : Key) → sameKey k k ≡ true
 same-self k =
     rw (
       eq-eqb (k .word) (k .word) refl,
-      eq-eqb (k .a) (k .a) refl,
-      eq-eqb (k .b) (k .b) refl,
-      eq-eqb (k .c) (k .c) refl,
+      eq-eqb (k .a .0) (k .a .0) refl,
+      eq-eqb (k .b .0) (k .b .0) refl,
+      eq-eqb (k .c .0) (k .c .0) refl,
       eq-eqb (k .x) (k .x) refl,
       eq-eqb (k .y) (k .y) refl,
     )
@@ -48,9 +49,9 @@ pub keys-differ : (k l : Key) → sameKey k l ≡ false → k ≡ l → ⊥
 keys-differ k l h e = false≢true (sym h ∙ ap (sameKey k) (sym e) ∙ same-self k)
 
 -- a key from its parts
-pub key-made : (ws class : List ℕ) (n kind a b c ca cb cc x y : ℕ) (p q r : Bool) → kind ≡ kindNumber ws n → p ≡ hasA kind → q ≡ hasB kind → r ≡ hasC kind
+pub key-made : (ws class : List ℕ) (n kind a b c : ℕ) (ca cb cc : Node) (x y : ℕ) (p q r : Bool) → kind ≡ kindNumber ws n → p ≡ hasA kind → q ≡ hasB kind → r ≡ hasC kind
     → a ≡ opA ws n → b ≡ opB ws n → c ≡ opC ws n
-    → ca ≡ classIf p class a → cb ≡ classIf q class b → cc ≡ classIf r class c
+    → ca .0 ≡ classIf p class a → cb .0 ≡ classIf q class b → cc .0 ≡ classIf r class c
     → x ≡ wordAt ws n 2 → y ≡ wordAt ws n 3
     → _≡_ {A = Key} (record { word = getD ws (4 * n) 0; a = ca; b = cb; c = cc; x = x; y = y }) (keyOf ws class n)
 unfolding keyOf
@@ -61,7 +62,7 @@ key-made ws class n kind a b c ca cb cc x y p q r ek ep eq er ea eb ec fa fb fc 
     let ga = fa ∙ (λ i. classIf (hp i) class (ea i)) in
     let gb = fb ∙ (λ i. classIf (hq i) class (eb i)) in
     let gc = fc ∙ (λ i. classIf (hr i) class (ec i)) in
-    λ i. record { word = getD ws (4 * n) 0; a = ga i; b = gb i; c = gc i; x = ex i; y = ey i }
+    λ i. record { word = getD ws (4 * n) 0; a = record { 0 = ga i }; b = record { 0 = gb i }; c = record { 0 = gc i }; x = ex i; y = ey i }
 
 -- ---- the slots of a key
 

@@ -76,7 +76,7 @@ module _ (ws : List ℕ) (count : ℕ) (v : Valid ws count) (words : (i : ℕ) �
         (λ e. let l : k .b < m = r .less .b-less (rw (r .code) at e) in getD-set-other class n (k .b) x 0 (omega arith)) in
         let fc = if-same (hasC (kindNumber ws m)) (set class n x) class (k .c)
         (λ e. let l : k .c < m = r .less .c-less (rw (r .code) at e) in getD-set-other class n (k .c) x 0 (omega arith)) in
-        λ i. record { word = getD ws (4 * m) 0; a = fa i; b = fb i; c = fc i; x = k .x; y = k .y }
+        λ i. record { word = getD ws (4 * m) 0; a = record { 0 = fa i }; b = record { 0 = fb i }; c = record { 0 = fc i }; x = k .x; y = k .y }
 
     at-n : (x : ℕ) → getD (set class n x) n 0 ≡ x
     at-n x = getD-set-same class n x 0 (omega (arith, K .class-long))

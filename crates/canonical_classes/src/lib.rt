@@ -2,6 +2,7 @@
 use pool::Node;
 use pool::words::kind_of;
 use pool::words::kind_word_at;
+use pool::words::operands_word;
 use pool_fields::first;
 use pool_fields::high;
 use pool_fields::low;
@@ -18,44 +19,45 @@ ghost use Rattle.pool_fields.specs.Fields.{opC};
 ghost use Rattle.canonical_classes.specs.Key.{classIf, keyOf, sameKey, mixOf, bucketOf, otherMixOf, spreadOf, rowOf, wayOf, nextOf};
 ghost use Rattle.canonical_classes.specs.Class.{Empty, Low, Rises, Found, Classes, Long, Laid, Linked, Kept, slotsOf};
 
-// A node's word 0, the classes of its operands, 0 for an operand that its kind has not, and its words 2 and 3.
+// A node's word 0, the classes of its operands, node 0 for an operand that its kind has not, and its words 2 and 3.
 pub struct Key {
     pub word: u64,
-    pub a: u64,
-    pub b: u64,
-    pub c: u64,
+    pub a: Node,
+    pub b: Node,
+    pub c: Node,
     pub x: u64,
     pub y: u64,
 }
 
-fn wide(x: u16) -> u64
+pub fn wide(x: u16) -> usize
     ensures { λ r. ⌜ (r ≡ x) × (r < 65536) ⌝ }
 {
-    x as u64
+    x as usize
 }
 
-fn class_of(class: &[u16; 65536], m: Node) -> u64
+// The node that an array has for node m. The class of m, the first node with its tree, is what `class` has for it.
+pub fn node_at(array: &[u16; 65536], m: Node) -> Node
     requires { ⌜ m .0 < 65536 ⌝ }
-    ensures { λ r. ⌜ (r ≡ getD (now (class .entry)) (m .0) 0) × (r < 65536) ⌝ }
+    ensures { λ r. ⌜ (r .0 ≡ getD (now (array .entry)) (m .0) 0) × (r .0 < 65536) ⌝ }
 {
     let at = m.0;
-    wide(class[at])
+    Node(wide(array[at]))
 }
 
-// The class of the node m, 0 where there is no such operand.
-fn class_if(there: bool, class: &[u16; 65536], m: Node) -> u64
+// The class of the node m, node 0 where there is no such operand.
+fn class_if(there: bool, class: &[u16; 65536], m: Node) -> Node
     requires { ⌜ m .0 < 65536 ⌝ }
-    ensures { λ r. ⌜ (r ≡ classIf there (now (class .entry)) (m .0)) × (r < 65536) ⌝ }
+    ensures { λ r. ⌜ (r .0 ≡ classIf there (now (class .entry)) (m .0)) × (r .0 < 65536) ⌝ }
 {
     if there {
-        return class_of(class, m);
+        return node_at(class, m);
     }
-    0
+    Node(0)
 }
 
 fn key_of(pool: &[u64], class: &[u16; 65536], n: Node) -> Key
     requires { ⌜ (4 * n .0 + 3 < length (now pool)) × (opC (now pool) (n .0) < 65536) ⌝ }
-    ensures { λ r. ⌜ (r ≡ keyOf (now (pool .entry)) (now (class .entry)) (n .0)) × (r .a < 65536) × (r .b < 65536) × (r .c < 65536) ⌝ }
+    ensures { λ r. ⌜ (r ≡ keyOf (now (pool .entry)) (now (class .entry)) (n .0)) × (r .a .0 < 65536) × (r .b .0 < 65536) × (r .c .0 < 65536) ⌝ }
 {
     let kind = kind_of(pool, n);
     Key {
@@ -71,7 +73,12 @@ fn key_of(pool: &[u64], class: &[u16; 65536], n: Node) -> Key
 fn same(k: Key, l: Key) -> bool
     ensures { λ r. ⌜ r ≡ sameKey k l ⌝ }
 {
-    (k.word == l.word) & (k.a == l.a) & (k.b == l.b) & (k.c == l.c) & (k.x == l.x) & (k.y == l.y)
+    (k.word == l.word)
+        & (k.a.0 == l.a.0)
+        & (k.b.0 == l.b.0)
+        & (k.c.0 == l.c.0)
+        & (k.x == l.x)
+        & (k.y == l.y)
 }
 
 // Spreads a number's bits.
@@ -83,10 +90,10 @@ fn mix(x: u64) -> u64
 
 // A number below 65,536 that goes by the key. 4611686018427387904 is 2^62.
 fn bucket(k: Key) -> usize
-    requires { ⌜ (k .a < 65536) × (k .b < 65536) × (k .c < 65536) ⌝ }
+    requires { ⌜ (k .a .0 < 65536) × (k .b .0 < 65536) × (k .c .0 < 65536) ⌝ }
     ensures { λ r. ⌜ (r ≡ bucketOf k) × (r < 65536) ⌝ }
 {
-    let h = mix(mix(k.word) + k.a + 65536 * k.b + 4294967296 * k.c);
+    let h = mix(mix(k.word) + operands_word(k.a, k.b, k.c));
     let g = mix(h + k.x % 4611686018427387904);
     (mix(g + k.y % 4611686018427387904) / 1048576 % 65536) as usize
 }
@@ -99,16 +106,16 @@ fn other_mix(x: u64) -> u64
 
 // Another number that goes by the key, by another mix of its words in another order: keys that are built to fall into one bucket part by it.
 fn spread(k: Key) -> u64
-    requires { ⌜ (k .a < 65536) × (k .b < 65536) × (k .c < 65536) ⌝ }
+    requires { ⌜ (k .a .0 < 65536) × (k .b .0 < 65536) × (k .c .0 < 65536) ⌝ }
     ensures { λ r. ⌜ r ≡ spreadOf k ⌝ }
 {
     let h = other_mix(other_mix(k.y) + k.x % 4611686018427387904);
-    other_mix(other_mix(h + k.a + 65536 * k.b + 4294967296 * k.c) + k.word % 4611686018427387904)
+    other_mix(other_mix(h + operands_word(k.a, k.b, k.c)) + k.word % 4611686018427387904)
 }
 
 // Bits of the spread and a key's words as one row of bits: those in which `level` stands. 68719476736 is 2^36.
 fn row(k: Key, spread: u64, level: u64) -> u64
-    requires { ⌜ (k .a < 65536) × (k .b < 65536) × (k .c < 65536) × (spread ≡ spreadOf k) ⌝ }
+    requires { ⌜ (k .a .0 < 65536) × (k .b .0 < 65536) × (k .c .0 < 65536) × (spread ≡ spreadOf k) ⌝ }
     ensures { λ r. ⌜ r ≡ rowOf k level ⌝ }
 {
     if level < 24 {
@@ -121,14 +128,14 @@ fn row(k: Key, spread: u64, level: u64) -> u64
         return k.y;
     }
     if level < 216 {
-        return k.a + 65536 * k.b + 4294967296 * k.c;
+        return operands_word(k.a, k.b, k.c);
     }
     k.word
 }
 
 // Bit `level` of the row.
 fn way(k: Key, spread: u64, level: u64) -> usize
-    requires { ⌜ (k .a < 65536) × (k .b < 65536) × (k .c < 65536) × (spread ≡ spreadOf k) ⌝ }
+    requires { ⌜ (k .a .0 < 65536) × (k .b .0 < 65536) × (k .c .0 < 65536) × (spread ≡ spreadOf k) ⌝ }
     ensures { λ r. ⌜ (r ≡ wayOf k level) × (r < 2) ⌝ }
 {
     ((row(k, spread, level) >> (level % 64)) % 2) as usize
@@ -136,7 +143,7 @@ fn way(k: Key, spread: u64, level: u64) -> usize
 
 // The slot to go on to from node m, which has another key.
 fn next(k: Key, spread: u64, m: Node, level: u64) -> usize
-    requires { ⌜ (k .a < 65536) × (k .b < 65536) × (k .c < 65536) × (spread ≡ spreadOf k) × (m .0 < 65535) ⌝ }
+    requires { ⌜ (k .a .0 < 65536) × (k .b .0 < 65536) × (k .c .0 < 65536) × (spread ≡ spreadOf k) × (m .0 < 65535) ⌝ }
     ensures { λ r. ⌜ (r ≡ nextOf k (m .0) level) × (r < 131072 + 2 * (m .0 + 1)) ⌝ }
 {
     if level == 0 {
@@ -151,12 +158,12 @@ fn link_at(first: &[u16; 65536], second: &[u16; 65536], ways: &[u16; 131072], sl
     ensures { λ r. ⌜ (r ≡ getD (slotsOf (now (first .entry)) (now (second .entry)) (now (ways .entry))) slot 0) × (r < 65536) ⌝ }
 {
     if slot < 65536 {
-        return wide(first[slot]) as usize;
+        return wide(first[slot]);
     }
     if slot < 131072 {
-        return wide(second[slot - 65536]) as usize;
+        return wide(second[slot - 65536]);
     }
-    wide(ways[slot - 131072]) as usize
+    wide(ways[slot - 131072])
 }
 
 // Puts the link to node n into a slot.

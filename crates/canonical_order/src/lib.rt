@@ -1,4 +1,6 @@
 // The nodes beneath a root in the order in which a left-first walk finishes them, each tree once (document 02, S-13).
+use canonical_classes::node_at;
+use canonical_classes::wide;
 use pool::Node;
 use pool::words::kind_of;
 use pool_fields::first;
@@ -9,34 +11,18 @@ use pool_operands::has_b;
 use pool_operands::has_c;
 ghost use mathlib.Core.Path.{_≡_};
 ghost use Prim.Native.Nat.{_+_, _*_, _≤_, _<_};
-ghost use lib.ListN.{length, getD};
+ghost use lib.ListN.{length};
 ghost use Rattle.pool.specs.Rules.{Valid};
 ghost use Rattle.pool_fields.specs.Fields.{opC};
 ghost use Rattle.canonical_classes.specs.Class.{Classes, Long};
 ghost use Rattle.canonical_order.specs.Walk.{pick, nextOpen, AllNone, Walking, Stepped, Numbered};
-
-fn wide(x: u16) -> usize
-    ensures { λ r. ⌜ (r ≡ x) × (r < 65536) ⌝ }
-{
-    x as usize
-}
-
-// The first node with the tree of node m.
-fn class_of(class: &[u16; 65536], m: Node) -> Node
-    requires { ⌜ m .0 < 65536 ⌝ }
-    ensures { λ r. ⌜ (r .0 ≡ getD (now (class .entry)) (m .0) 0) × (r .0 < 65536) ⌝ }
-{
-    let at = m.0;
-    Node(wide(class[at]))
-}
 
 // m where it is an operand that has no number yet, else what was found before.
 fn pick(there: bool, m: Node, number: &[u16; 65536], rest: Node) -> Node
     requires { ⌜ m .0 < 65536 ⌝ }
     ensures { λ r. ⌜ r .0 ≡ pick there (m .0) (now (number .entry)) (rest .0) ⌝ }
 {
-    let at = m.0;
-    if there & (wide(number[at]) == 65535) {
+    if there & (node_at(number, m).0 == Node::NONE) {
         return m;
     }
     rest
@@ -50,12 +36,12 @@ fn next_open(pool: &[u64], class: &[u16; 65536], number: &[u16; 65536], n: Node)
     let kind = kind_of(pool, n);
     let c = pick(
         has_c(kind),
-        class_of(class, third(pool, n)),
+        node_at(class, third(pool, n)),
         number,
         Node::none(),
     );
-    let b = pick(has_b(kind), class_of(class, second(pool, n)), number, c);
-    pick(has_a(kind), class_of(class, first(pool, n)), number, b)
+    let b = pick(has_b(kind), node_at(class, second(pool, n)), number, c);
+    pick(has_a(kind), node_at(class, first(pool, n)), number, b)
 }
 
 // Where the walk stands: nodes with a number, nodes that wait for an operand.

@@ -216,7 +216,7 @@ pub operands-made : (ws class number : List ℕ) (n kind : ℕ) (p q r : Bool) (
     → x ≡ numberIf p class number a
     → y ≡ numberIf q class number b
     → z ≡ numberIf r class number c
-    → x + 65536 * y + 4294967296 * z ≡ newOperands ws class number n
+    → operandWord x y z ≡ newOperands ws class number n
 unfolding newOperands
 operands-made ws class number n kind p q r a b c x y z ek ep eq er ea eb ec fx fy fz =
     let hp : p ≡ hasA (kindNumber ws n) = ep ∙ ap hasA ek in

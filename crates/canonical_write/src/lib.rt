@@ -1,9 +1,11 @@
 // The canonical pool of a root (document 02, S-13): its distinct subtrees in the order in which a left-first walk finishes them.
 use canonical_classes::classes;
+use canonical_classes::node_at;
 use canonical_order::walk;
 use pool::Node;
 use pool::words::kind_of;
 use pool::words::kind_word_at;
+use pool::words::operands_word;
 use pool_check::node_number;
 use pool_fields::first;
 use pool_fields::high;
@@ -15,7 +17,7 @@ use pool_operands::has_b;
 use pool_operands::has_c;
 ghost use mathlib.Core.Path.{_≡_};
 ghost use Prim.Native.Nat.{_+_, _*_, _≤_, _<_};
-ghost use lib.ListN.{length, getD};
+ghost use lib.ListN.{length};
 ghost use Rattle.pool.specs.Rules.{Valid};
 ghost use Rattle.pool_fields.specs.Fields.{opC};
 ghost use Rattle.canonical_classes.specs.Class.{Classes, Long, Empty};
@@ -28,28 +30,15 @@ pub struct Canonised {
     pub count: usize,
 }
 
-fn wide(x: u16) -> u64
-    ensures { λ r. ⌜ (r ≡ x) × (r < 65536) ⌝ }
-{
-    x as u64
-}
-
-fn entry(a: &[u16; 65536], m: u64) -> u64
-    requires { ⌜ m < 65536 ⌝ }
-    ensures { λ r. ⌜ (r ≡ getD (now (a .entry)) m 0) × (r < 65536) ⌝ }
-{
-    wide(a[m as usize])
-}
-
-// The new number of an operand, 0 where there is none.
-fn number_if(there: bool, class: &[u16; 65536], number: &[u16; 65536], m: Node) -> u64
+// The operand m under its new number, node 0 where there is none.
+fn number_if(there: bool, class: &[u16; 65536], number: &[u16; 65536], m: Node) -> Node
     requires { ⌜ m .0 < 65536 ⌝ }
-    ensures { λ r. ⌜ (r ≡ numberIf there (now (class .entry)) (now (number .entry)) (m .0)) × (r < 65536) ⌝ }
+    ensures { λ r. ⌜ (r .0 ≡ numberIf there (now (class .entry)) (now (number .entry)) (m .0)) × (r .0 < 65536) ⌝ }
 {
     if there {
-        return entry(number, entry(class, m.0 as u64));
+        return node_at(number, node_at(class, m));
     }
-    0
+    Node(0)
 }
 
 // Word 1 of a node, with the new numbers of its operands.
@@ -61,7 +50,7 @@ fn new_operands(pool: &[u64], class: &[u16; 65536], number: &[u16; 65536], n: No
     let a = number_if(has_a(kind), class, number, first(pool, n));
     let b = number_if(has_b(kind), class, number, second(pool, n));
     let c = number_if(has_c(kind), class, number, third(pool, n));
-    a + 65536 * b + 4294967296 * c
+    operands_word(a, b, c)
 }
 
 // Writes node j of the canonical pool.
@@ -72,20 +61,20 @@ fn write_one(
     number: &[u16; 65536],
     order: &[u16; 65536],
     k: usize,
-    j: usize,
+    j: Node,
     out: &mut [u64],
 )
     requires { ⌜ (Valid (now pool) (root .0 + 1)) × (4 * (root .0 + 1) ≤ length (now pool)) × (root .0 < 65535) ⌝ }
     requires { ⌜ Classes (now pool) (root .0 + 1) (now class) ⌝ }
     requires { ⌜ Numbered (now pool) (now class) (root .0) (now number) (now order) k ⌝ }
-    requires { ⌜ (j < k) × (4 * k ≤ length (now out)) × (k ≤ 65535) ⌝ }
-    ensures { λ r. ⌜ OneMore (now (pool .entry)) (root .0) j (now (out .entry)) (now (out .exit)) ⌝ }
+    requires { ⌜ (j .0 < k) × (4 * k ≤ length (now out)) × (k ≤ 65535) ⌝ }
+    ensures { λ r. ⌜ OneMore (now (pool .entry)) (root .0) (j .0) (now (out .entry)) (now (out .exit)) ⌝ }
 {
-    let n = Node(entry(order, j as u64) as usize);
+    let n = node_at(order, j);
     let w1 = new_operands(pool, class, number, n);
     pool::push(
         out,
-        j,
+        j.0,
         kind_word_at(pool, n),
         w1,
         low(pool, n),
@@ -111,7 +100,7 @@ fn write(
 {
     let mut j = 0;
     while j < k {
-        write_one(pool, class, root, number, order, k, j, out);
+        write_one(pool, class, root, number, order, k, Node(j), out);
         j += 1;
     }
 }

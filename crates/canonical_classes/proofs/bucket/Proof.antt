@@ -8,32 +8,23 @@ use Rattle.canonical_classes.proofs.bucket.Tie as tie
 mix-requires : tie.Need-mix-requires
 mix-requires c κs = search needs
 
+operands-word-requires : tie.Need-operands-word-requires
+operands-word-requires c κs = search needs
+
 add-mix : tie.Need-add-mix
 add-mix c = search needs
-
-mul-mix : tie.Need-mul-mix
-mul-mix c = search needs
-
-add-mix-2 : tie.Need-add-mix-2
-add-mix-2 c = search needs
-
-mul-mix-2 : tie.Need-mul-mix-2
-mul-mix-2 c = search needs
-
-add-mix-3 : tie.Need-add-mix-3
-add-mix-3 c = search needs
 
 mix-requires-2 : tie.Need-mix-requires-2
 mix-requires-2 c κs = search needs
 
-add-mix-4 : tie.Need-add-mix-4
-add-mix-4 c = search needs
+add-mix-2 : tie.Need-add-mix-2
+add-mix-2 c = search needs
 
 mix-requires-3 : tie.Need-mix-requires-3
 mix-requires-3 c κs = search needs
 
-add-mix-5 : tie.Need-add-mix-5
-add-mix-5 c = search needs
+add-mix-3 : tie.Need-add-mix-3
+add-mix-3 c = search needs
 
 mix-requires-4 : tie.Need-mix-requires-4
 mix-requires-4 c κs = search needs
@@ -47,14 +38,11 @@ bucket-spec =
     tie.close
     (tie.spec
     mix-requires
+    operands-word-requires
     add-mix
-    mul-mix
-    add-mix-2
-    mul-mix-2
-    add-mix-3
     mix-requires-2
-    add-mix-4
+    add-mix-2
     mix-requires-3
-    add-mix-5
+    add-mix-3
     mix-requires-4
     returns)

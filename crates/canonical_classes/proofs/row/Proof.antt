@@ -33,23 +33,14 @@ returns-2 c = rw (past-24 (c .before), lt-ltb _ 88 (c .if2 .taken))
 returns-3 : tie.Need-returns-3
 returns-3 c = rw (past-24 (c .before .before), past-88 (c .before), lt-ltb _ 152 (c .if3 .taken))
 
-mul-result : tie.Need-mul-result
-mul-result c = search needs
-
-add-result : tie.Need-add-result
-add-result c = search needs
-
-mul-result-2 : tie.Need-mul-result-2
-mul-result-2 c = search needs
-
-add-result-2 : tie.Need-add-result-2
-add-result-2 c = search needs
+operands-word-requires : tie.Need-operands-word-requires
+operands-word-requires c κs = search needs
 
 returns-4 : tie.Need-returns-4
 returns-4 c =
-    let t = c .before .before .before in
+    let t = c .before in
     let p = t .before in
-    rw (past-24 (p .before .before), past-88 (p .before), past-152 p, lt-ltb _ 216 (t .if4 .taken))
+    rw (past-24 (p .before .before), past-88 (p .before), past-152 p, lt-ltb _ 216 (t .if4 .taken)) (c .operands-word .ensures)
 
 returns-5 : tie.Need-returns-5
 returns-5 c =
@@ -63,9 +54,6 @@ row-spec =
     returns
     returns-2
     returns-3
-    mul-result
-    add-result
-    mul-result-2
-    add-result-2
+    operands-word-requires
     returns-4
     returns-5)

@@ -13,26 +13,17 @@ add-other-mix c = search needs
 other-mix-requires-2 : tie.Need-other-mix-requires-2
 other-mix-requires-2 c κs = search needs
 
+operands-word-requires : tie.Need-operands-word-requires
+operands-word-requires c κs = search needs
+
 add-other-mix-2 : tie.Need-add-other-mix-2
 add-other-mix-2 c = search needs
-
-mul-other-mix : tie.Need-mul-other-mix
-mul-other-mix c = search needs
-
-add-other-mix-3 : tie.Need-add-other-mix-3
-add-other-mix-3 c = search needs
-
-mul-other-mix-2 : tie.Need-mul-other-mix-2
-mul-other-mix-2 c = search needs
-
-add-other-mix-4 : tie.Need-add-other-mix-4
-add-other-mix-4 c = search needs
 
 other-mix-requires-3 : tie.Need-other-mix-requires-3
 other-mix-requires-3 c κs = search needs
 
-add-other-mix-5 : tie.Need-add-other-mix-5
-add-other-mix-5 c = search needs
+add-other-mix-3 : tie.Need-add-other-mix-3
+add-other-mix-3 c = search needs
 
 other-mix-requires-4 : tie.Need-other-mix-requires-4
 other-mix-requires-4 c κs = search needs
@@ -48,12 +39,9 @@ spread-spec =
     other-mix-requires
     add-other-mix
     other-mix-requires-2
+    operands-word-requires
     add-other-mix-2
-    mul-other-mix
-    add-other-mix-3
-    mul-other-mix-2
-    add-other-mix-4
     other-mix-requires-3
-    add-other-mix-5
+    add-other-mix-3
     other-mix-requires-4
     returns)

@@ -14,8 +14,8 @@ has-c-requires c κs = search needs
 third-requires : tie.Need-third-requires
 third-requires c κs = search needs
 
-class-of-requires : tie.Need-class-of-requires
-class-of-requires c κs = search needs
+node-at-requires : tie.Need-node-at-requires
+node-at-requires c κs = search needs
 
 none-requires : tie.Need-none-requires
 none-requires c κs = search needs
@@ -29,8 +29,8 @@ has-b-requires c κs = search needs
 second-requires : tie.Need-second-requires
 second-requires c κs = search needs
 
-class-of-requires-2 : tie.Need-class-of-requires-2
-class-of-requires-2 c κs = omega (arith, c .second .ensures)
+node-at-requires-2 : tie.Need-node-at-requires-2
+node-at-requires-2 c κs = omega (arith, c .second .ensures)
 
 pick-requires-2 : tie.Need-pick-requires-2
 pick-requires-2 c κs = search needs
@@ -41,30 +41,30 @@ has-a-requires c κs = search needs
 first-requires : tie.Need-first-requires
 first-requires c κs = search needs
 
-class-of-requires-3 : tie.Need-class-of-requires-3
-class-of-requires-3 c κs = omega (arith, c .first .ensures)
+node-at-requires-3 : tie.Need-node-at-requires-3
+node-at-requires-3 c κs = omega (arith, c .first .ensures)
 
 pick-requires-3 : tie.Need-pick-requires-3
 pick-requires-3 c κs = search needs
 
 returns : tie.Need-returns
 returns c =
-    let at-class-of3 = c .before in
-    let at-first = at-class-of3 .before in
+    let at-node-at3 = c .before in
+    let at-first = at-node-at3 .before in
     let at-has-a = at-first .before in
     let at-pick2 = at-has-a .before in
-    let at-class-of2 = at-pick2 .before in
-    let at-second = at-class-of2 .before in
+    let at-node-at2 = at-pick2 .before in
+    let at-second = at-node-at2 .before in
     let at-has-b = at-second .before in
     let at-pick = at-has-b .before in
     let at-none = at-pick .before in
-    let at-class-of = at-none .before in
-    let at-third = at-class-of .before in
+    let at-node-at = at-none .before in
+    let at-third = at-node-at .before in
     let at-has-c = at-third .before in
     let at-kind-of = at-has-c .before in
     open-made _ _ _ _ (at-kind-of .kind-of .result) _ _ _ _ _ _ _ _ _ _ _ _ _ (at-kind-of .kind-of .ensures) (at-has-a .has-a .ensures) (at-has-b .has-b .ensures)
-    (at-has-c .has-c .ensures) (at-first .first .ensures) (at-second .second .ensures) (at-third .third .ensures) (at-class-of3 .class-of3 .ensures .0)
-    (at-class-of2 .class-of2 .ensures .0) (at-class-of .class-of .ensures .0) (at-none .none .ensures) (at-pick .pick .ensures) (at-pick2 .pick2 .ensures) (c .pick3 .ensures)
+    (at-has-c .has-c .ensures) (at-first .first .ensures) (at-second .second .ensures) (at-third .third .ensures) (at-node-at3 .node-at3 .ensures .0)
+    (at-node-at2 .node-at2 .ensures .0) (at-node-at .node-at .ensures .0) (at-none .none .ensures) (at-pick .pick .ensures) (at-pick2 .pick2 .ensures) (c .pick3 .ensures)
 
 pub next-open-spec : {M : Type 1} → statement M
 next-open-spec =
@@ -73,15 +73,15 @@ next-open-spec =
     kind-of-requires
     has-c-requires
     third-requires
-    class-of-requires
+    node-at-requires
     none-requires
     pick-requires
     has-b-requires
     second-requires
-    class-of-requires-2
+    node-at-requires-2
     pick-requires-2
     has-a-requires
     first-requires
-    class-of-requires-3
+    node-at-requires-3
     pick-requires-3
     returns)

@@ -8,24 +8,18 @@ use borrow.Author.Needs.{needs}
 use Rattle.canonical_order.proofs.pick.Statement.{statement}
 use Rattle.canonical_order.proofs.pick.Tie as tie
 
-mul-wide : tie.Need-mul-wide
-mul-wide c = search needs
-
-element-copy-out-wide : tie.Need-element-copy-out-wide
-element-copy-out-wide c = search needs
-
-wide-requires : tie.Need-wide-requires
-wide-requires c κs = search needs
+node-at-requires : tie.Need-node-at-requires
+node-at-requires c κs = search needs
 
 -- what is tested
-test : (c : tie.After-wide) → let a = c .before .before .args in (a .there && eqb (getD (a .number .now) (a .m .0) 0) 65535) ≡ (a .there && eqb (c .wide .result) 65535)
-test c = let a = c .before .before .args in sym (ap (λ (x : ℕ). a .there && eqb x 65535) (c .wide .ensures .0))
+test : (c : tie.After-node-at) → let a = c .before .args in (a .there && eqb (getD (a .number .now) (a .m .0) 0) 65535) ≡ (a .there && eqb (c .node-at .result .0) 65535)
+test c = let a = c .before .args in sym (ap (λ (x : ℕ). a .there && eqb x 65535) (c .node-at .ensures .0))
 
 returns : tie.Need-returns
-returns c = rw (test (c .before) ∙ c .if1 .taken)
+returns c = rw (test (c .before .before) ∙ c .if1 .taken)
 
 returns-2 : tie.Need-returns-2
-returns-2 c = rw (test (c .before) ∙ c .if1 .left)
+returns-2 c = rw (test (c .before .before) ∙ c .if1 .left)
 
 pub pick-spec : {M : Type 1} → statement M
-pick-spec = tie.close (tie.spec mul-wide element-copy-out-wide wide-requires returns returns-2)
+pick-spec = tie.close (tie.spec node-at-requires returns returns-2)

@@ -1,5 +1,6 @@
 -- `new_operands` gives `newOperands`: word 1 with the new number of each operand that the kind has.
 use native.Mathlib.Omega.{arith}
+use mathlib.Core.Path.{_∙_}
 use Rattle.canonical_write.proofs.Words.{operands-made}
 use borrow.Author.Needs.{needs}
 use Rattle.canonical_write.proofs.new_operands.Statement.{statement}
@@ -35,21 +36,13 @@ third-requires c κs = search needs
 number-if-requires-3 : tie.Need-number-if-requires-3
 number-if-requires-3 c κs = search needs
 
-mul-result : tie.Need-mul-result
-mul-result c = search needs
-
-add-result : tie.Need-add-result
-add-result c = search needs
-
-mul-result-2 : tie.Need-mul-result-2
-mul-result-2 c = search needs
-
-add-result-2 : tie.Need-add-result-2
-add-result-2 c = search needs
+operands-word-requires : tie.Need-operands-word-requires
+operands-word-requires c κs = search needs
 
 returns : tie.Need-returns
 returns c =
-    let at-third = c .before in
+    let at-number-if3 = c .before in
+    let at-third = at-number-if3 .before in
     let at-has-c = at-third .before in
     let at-number-if2 = at-has-c .before in
     let at-second = at-number-if2 .before in
@@ -58,9 +51,10 @@ returns c =
     let at-first = at-number-if .before in
     let at-has-a = at-first .before in
     let at-kind-of = at-has-a .before in
-    operands-made _ _ _ _ (at-kind-of .kind-of .result) _ _ _ _ _ _ _ _ _ (at-kind-of .kind-of .ensures) (at-has-a .has-a .ensures) (at-has-b .has-b .ensures) (at-has-c .has-c .ensures)
+    c .operands-word .ensures
+    ∙ operands-made _ _ _ _ (at-kind-of .kind-of .result) _ _ _ _ _ _ _ _ _ (at-kind-of .kind-of .ensures) (at-has-a .has-a .ensures) (at-has-b .has-b .ensures) (at-has-c .has-c .ensures)
     (at-first .first .ensures) (at-second .second .ensures) (at-third .third .ensures) (at-number-if .number-if .ensures .0) (at-number-if2 .number-if2 .ensures .0)
-    (c .number-if3 .ensures .0)
+    (at-number-if3 .number-if3 .ensures .0)
 
 pub new-operands-spec : {M : Type 1} → statement M
 new-operands-spec =
@@ -76,8 +70,5 @@ new-operands-spec =
     has-c-requires
     third-requires
     number-if-requires-3
-    mul-result
-    add-result
-    mul-result-2
-    add-result-2
+    operands-word-requires
     returns)

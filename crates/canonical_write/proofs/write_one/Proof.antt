@@ -11,27 +11,27 @@ use borrow.Author.Needs.{needs}
 use Rattle.canonical_write.proofs.write_one.Statement.{statement}
 use Rattle.canonical_write.proofs.write_one.Tie as tie
 
-abbrev begun : tie.After-entry → tie.Start
+abbrev begun : tie.After-node-at → tie.Start
 begun c = c .before .before .before
 
 -- the node that is written, before its words are read
-abbrev read : tie.After-kind-word-at → tie.After-entry
+abbrev read : tie.After-kind-word-at → tie.After-node-at
 read c = c .before .before .before
 
 -- it is one of the term
-node-in : (c : tie.After-entry) → c .entry .result ≤ begun c .args .root .0
-node-in c = let s = begun c in omega (arith, c .entry .ensures .0, s .pre .1 .1 .0 .node (s .args .j) (s .pre .1 .1 .1 .0) .0)
+node-in : (c : tie.After-node-at) → c .node-at .result .0 ≤ begun c .args .root .0
+node-in c = let s = begun c in omega (arith, c .node-at .ensures .0, s .pre .1 .1 .0 .node (s .args .j .0) (s .pre .1 .1 .1 .0) .0)
 
-readable : (c : tie.After-entry) → 4 * c .entry .result + 3 < length (begun c .args .pool .now)
+readable : (c : tie.After-node-at) → 4 * c .node-at .result .0 + 3 < length (begun c .args .pool .now)
 readable c = omega (arith, node-in c, begun c .pre .0 .1)
 
-entry-requires : tie.Need-entry-requires
-entry-requires c κs = search needs
+node-at-requires : tie.Need-node-at-requires
+node-at-requires c κs = search needs
 
 new-operands-requires : tie.Need-new-operands-requires
 new-operands-requires c κs =
     let s = begun c in
-    (readable c, third-small (s .args .pool .now) (s .args .root .0 + 1) (c .entry .result) (s .pre .0 .0) (omega (arith, node-in c)) (omega (arith, c .entry .ensures .1)))
+    (readable c, third-small (s .args .pool .now) (s .args .root .0 + 1) (c .node-at .result .0) (s .pre .0 .0) (omega (arith, node-in c)) (omega (arith, c .node-at .ensures .1)))
 
 kind-word-at-requires : tie.Need-kind-word-at-requires
 kind-word-at-requires c κs = readable (c .before .before)
@@ -55,16 +55,16 @@ returns c =
     let at-low = at-high .before in
     let at-word = at-low .before in
     let at-operands = at-word .before .before in
-    let at-entry = read at-word in
-    let known = at-entry .before .before .shared-slice-known .given in
-    let s = begun at-entry in
+    let at-node = read at-word in
+    let known = at-node .before .before .shared-slice-known .given in
+    let s = begun at-node in
     let a = s .args in
     let ws = a .pool .now in
     let N = s .pre .1 .1 .0 in
     let l = s .pre .1 .1 .1 .0 in
-    let e = at-entry .entry .ensures .0 in
-    let w = new-words ws (a .class .now) (a .root .0) (s .pre .0 .0) (λ i. omega (arith, known i)) (s .pre .1 .0) (a .number .now) (a .order .now) (a .k) N (a .j) l in
-    one-more ws (a .root .0) (a .j) (a .out .now) (at-push .push .last .0) _ _ _ _ (omega (arith, N .count, l)) (omega (arith, l, s .pre .1 .1 .1 .1)) (at-push .push .ensures .words) (
+    let e = at-node .node-at .ensures .0 in
+    let w = new-words ws (a .class .now) (a .root .0) (s .pre .0 .0) (λ i. omega (arith, known i)) (s .pre .1 .0) (a .number .now) (a .order .now) (a .k) N (a .j .0) l in
+    one-more ws (a .root .0) (a .j .0) (a .out .now) (at-push .push .last .0) _ _ _ _ (omega (arith, N .count, l)) (omega (arith, l, s .pre .1 .1 .1 .1)) (at-push .push .ensures .words) (
       at-word .kind-word-at .ensures ∙ ap (λ (m : ℕ). getD ws (4 * m) 0) e ∙ w .0,
       at-operands .new-operands .ensures ∙ ap (newOperands ws (a .class .now) (a .number .now)) e ∙ w .1,
       at-low .low .ensures ∙ ap (λ (m : ℕ). wordAt ws m 2) e ∙ w .2,
@@ -75,7 +75,7 @@ pub write-one-spec : {M : Type 1} → statement M
 write-one-spec =
     tie.close
     (tie.spec
-    entry-requires
+    node-at-requires
     new-operands-requires
     kind-word-at-requires
     low-requires
