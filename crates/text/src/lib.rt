@@ -2,7 +2,7 @@
 // writes nothing.
 use pool::Node;
 use pool_check::node_number;
-use text_length::measure;
+use text_length::left_after_text;
 use text_write::write_node;
 ghost use Rattle.text_digits.specs.Writing.{Room, Wrote};
 ghost use Rattle.text_parts.specs.Text.{text, Ready};
@@ -35,7 +35,7 @@ pub fn write_text(pool: &[u64], count: usize, node: usize, buffer: &mut [u8]) ->
         return Written { number, length: 0 };
     }
     let most = buffer.len() + 1;
-    let left = measure(pool, Node(node), most);
+    let left = left_after_text(pool, Node(node), most);
     if left == 0 {
         return Written {
             number: 9,

@@ -176,14 +176,14 @@ fn one_digit(low: u64, high: u64) -> bool
 }
 
 // What is left of b when the number of hexadecimal digits of two words is taken off.
-pub fn less_hex(low: u64, high: u64, b: usize) -> usize
+pub fn left_after_hex(low: u64, high: u64, b: usize) -> usize
     ensures { λ r. ⌜ r ≡ b - length (hexadecimal (wide low high)) ⌝ }
 {
     let c = minus_or_zero(b, 1);
     if one_digit(low, high) {
         return c;
     }
-    less_hex(low / 16 + high % 16 * 1152921504606846976, high / 16, c)
+    left_after_hex(low / 16 + high % 16 * 1152921504606846976, high / 16, c)
 }
 
 // Two hexadecimal digits of a number below 256.

@@ -82,8 +82,8 @@ module _ (ws : List ℕ) (n : ℕ) (r : Ready ws n) (k : ℕ) (is-k : k ≡ kind
       omega (arith, extend-five k h l, simp length-append at (ap length (end-width ws n is-k h l refl)))
 
   -- what is left of b after the characters about an only operand, and after that operand
-  pub less-one : (b : ℕ) {c d : ℕ} → Single k → c ≡ b - (length (openText k) + length (endText ws n)) → d ≡ c - length (text ws (opA ws n)) → d ≡ b - length (text ws n)
-  less-one b s hc hd = omega (arith, simp length-append at (ap length (whole-single ws n r k is-k s)))
+  pub left-after-one : (b : ℕ) {c d : ℕ} → Single k → c ≡ b - (length (openText k) + length (endText ws n)) → d ≡ c - length (text ws (opA ws n)) → d ≡ b - length (text ws n)
+  left-after-one b s hc hd = omega (arith, simp length-append at (ap length (whole-single ws n r k is-k s)))
 
   -- an Ite's condition, which comes before its arms
   abbrev pub before : ℕ
@@ -101,12 +101,12 @@ module _ (ws : List ℕ) (n : ℕ) (r : Ready ws n) (k : ℕ) (is-k : k ≡ kind
       go false e = rw e (omega (arith, simp length-append at (ap length (rw (e, s) at (whole ws n r k is-k h)))))
 
   -- what is left of b after a node's own characters, an Ite's condition and each of two operands
-  pub less-two : (b : ℕ) {c d e f : ℕ} → 3 ≤ k → single k ≡ false → c ≡ b - (length (openText k) + cond (eqb k 15) 2 0 + length (betweenText k) + 1)
+  pub left-after-two : (b : ℕ) {c d e f : ℕ} → 3 ≤ k → single k ≡ false → c ≡ b - (length (openText k) + cond (eqb k 15) 2 0 + length (betweenText k) + 1)
       → d ≡ c - before
       → e ≡ d - length (text ws (leftOf ws n))
       → f ≡ e - length (text ws (rightOf ws n))
       → f ≡ b - length (text ws n)
-  less-two b h s hc hd he hf = omega (arith, two-size h s)
+  left-after-two b h s hc hd he hf = omega (arith, two-size h s)
 
   -- the first operand and the second come before the node
   pub first-less : 3 ≤ k → opA ws n < n

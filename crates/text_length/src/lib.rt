@@ -12,9 +12,8 @@ use pool_fields::left;
 use pool_fields::low;
 use pool_fields::right;
 use text_digits::decimal_length;
-use text_digits::less_hex;
+use text_digits::left_after_hex;
 use text_digits::minus_or_zero;
-use text_operators::operator_length;
 use text_parts::is_single;
 ghost use mathlib.Core.Path.{_≡_};
 ghost use mathlib.Core.Bool.{true, cond};
@@ -34,7 +33,7 @@ const BY_NODES: usize = 2097152;
 
 // What is left of b when the length of a Var's or a Const's text is taken off it, and 0 where the text is longer.
 // k is the number of the node's kind.
-fn less_leaf(p: &[u64], n: Node, k: u64, b: usize) -> usize
+fn left_after_leaf(p: &[u64], n: Node, k: u64, b: usize) -> usize
     requires { ⌜ Ready (now p) (n .0) × (k ≡ kindNumber (now p) (n .0)) × (k < 3) ⌝ }
     ensures { λ r. ⌜ r ≡ b - length (text (now (p .entry)) (n .0)) ⌝ }
 {
@@ -42,11 +41,11 @@ fn less_leaf(p: &[u64], n: Node, k: u64, b: usize) -> usize
         return minus_or_zero(b, decimal_length(low(p, n)) + 1);
     }
     let c = minus_or_zero(b, decimal_length(width_of(p, n)) + 3);
-    less_hex(low(p, n), high(p, n), c)
+    left_after_hex(low(p, n), high(p, n), c)
 }
 
 // The same for what stands about the operand of an Extract and of an extension.
-fn less_single(p: &[u64], n: Node, k: u64, b: usize) -> usize
+fn left_after_single(p: &[u64], n: Node, k: u64, b: usize) -> usize
     requires { ⌜ Ready (now p) (n .0) × (k ≡ kindNumber (now p) (n .0)) × (single k ≡ true) ⌝ }
     ensures { λ r. ⌜ r ≡ b - (length (openText k) + length (endText (now (p .entry)) (n .0))) ⌝ }
 {
@@ -63,7 +62,7 @@ fn own_length(k: u64) -> usize
     ensures { λ r. ⌜ r ≡ length (openText k) + cond (eqb k 15) 2 0 + length (betweenText k) + 1 ⌝ }
 {
     if k < Kind::ITE {
-        return operator_length(k) + 2;
+        return nodes::operator_characters(k);
     }
     if k == Kind::ITE { 9 } else { 10 }
 }
@@ -71,7 +70,7 @@ fn own_length(k: u64) -> usize
 // What is left of b when the length of a node's text is taken off it, and 0 where the text is longer. Its own characters
 // are taken off before its operands', so a text of any length is given up once b is used up. The pool is behind a second
 // reference, as in `write_term`.
-fn less_node(p: &&[u64], n: Node, b: usize) -> usize
+fn left_after_node(p: &&[u64], n: Node, b: usize) -> usize
     requires { ⌜ Ready (now (now p)) (n .0) ⌝ }
     ensures { λ r. ⌜ r ≡ b - length (text (now (now (p .entry))) (n .0)) ⌝ }
 {
@@ -80,25 +79,25 @@ fn less_node(p: &&[u64], n: Node, b: usize) -> usize
     }
     let k = kind_of(*p, n);
     if k < Kind::ADD {
-        return less_leaf(*p, n, k, b);
+        return left_after_leaf(*p, n, k, b);
     }
     if is_single(k) {
-        return less_node(p, first(*p, n), less_single(*p, n, k, b));
+        return left_after_node(p, first(*p, n), left_after_single(*p, n, k, b));
     }
     let mut c = minus_or_zero(b, own_length(k));
     if k == Kind::ITE {
-        c = less_node(p, first(*p, n), c);
+        c = left_after_node(p, first(*p, n), c);
     }
-    let d = less_node(p, left(*p, n), c);
-    less_node(p, right(*p, n), d)
+    let d = left_after_node(p, left(*p, n), c);
+    left_after_node(p, right(*p, n), d)
 }
 
-// As `less_node`, of a plain slice. Its time grows with b.
-pub fn measure(p: &[u64], n: Node, b: usize) -> usize
+// As `left_after_node`, of a plain slice. Its time grows with b.
+pub fn left_after_text(p: &[u64], n: Node, b: usize) -> usize
     requires { ⌜ Ready (now p) (n .0) ⌝ }
     ensures { λ r. ⌜ r ≡ b - length (text (now (p .entry)) (n .0)) ⌝ }
 {
-    less_node(&p, n, b)
+    left_after_node(&p, n, b)
 }
 
 // The length of a node's text, or one more than the ceiling where the text is longer, of a pool that is known to be good.
@@ -112,7 +111,7 @@ pub fn length_to(p: &[u64], n: Node, ceiling: u32) -> u64
             return nodes::length_of_many(p, n, most) as u64;
         }
     }
-    let left = measure(p, n, most);
+    let left = left_after_text(p, n, most);
     (most - left) as u64
 }
 

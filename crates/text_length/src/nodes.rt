@@ -72,7 +72,8 @@ fn extension_length(p: &[u64], n: Node) -> usize
     decimal_length(width_of(p, n)) + 8
 }
 
-fn operator_characters(k: u64) -> usize
+// How many characters of its own an operator has. A constant array would be copied to the frame of each level of nesting.
+pub fn operator_characters(k: u64) -> usize
     requires { ⌜ (3 ≤ k) × (k < 15) ⌝ }
     ensures { λ r. ⌜ (r ≡ length (openText k) + length (betweenText k) + 1) × (r < 16) ⌝ }
 {
@@ -125,13 +126,13 @@ fn known_length(p: &[u64], n: Node, b: usize, lengths: &[usize]) -> usize
 }
 
 // The length of a node's text up to b, where those of the nodes before `from` are known. It keeps the others'.
-pub fn length_from(p: &[u64], from: usize, n: Node, b: usize, lengths: &mut [usize]) -> usize
+pub fn length_from(p: &[u64], from: Node, n: Node, b: usize, lengths: &mut [usize]) -> usize
     requires { ⌜ Ready (now p) (n .0) ⌝ }
     requires { ⌜ (n .0 < length (now lengths)) × (b ≤ 4294967296) ⌝ }
-    requires { ⌜ Known (now p) b (now lengths) from ⌝ }
+    requires { ⌜ Known (now p) b (now lengths) (from .0) ⌝ }
     ensures { λ r. ⌜ r ≡ min (length (text (now (p .entry)) (n .0))) b ⌝ }
 {
-    let mut j = from;
+    let mut j = from.0;
     while j <= n.0 {
         lengths[j] = known_length(p, Node(j), b, lengths);
         j += 1;
@@ -173,7 +174,7 @@ pub fn length_past_registers(p: &[u64], n: Node, b: usize) -> usize
     ensures { λ r. ⌜ r ≡ min (length (text (now (p .entry)) (n .0))) b ⌝ }
 {
     let mut lengths = register_lengths();
-    length_from(p, 32, n, b, &mut lengths)
+    length_from(p, Node(32), n, b, &mut lengths)
 }
 
 // The same of any pool, by the node's number. The places take 8 kB of stack here, and 0.5 MB below.
@@ -183,7 +184,7 @@ pub fn length_of_few(p: &[u64], n: Node, b: usize) -> usize
     ensures { λ r. ⌜ r ≡ min (length (text (now (p .entry)) (n .0))) b ⌝ }
 {
     let mut lengths = some_places();
-    length_from(p, 0, n, b, &mut lengths)
+    length_from(p, Node(0), n, b, &mut lengths)
 }
 
 pub fn length_of_many(p: &[u64], n: Node, b: usize) -> usize
@@ -192,5 +193,5 @@ pub fn length_of_many(p: &[u64], n: Node, b: usize) -> usize
     ensures { λ r. ⌜ r ≡ min (length (text (now (p .entry)) (n .0))) b ⌝ }
 {
     let mut lengths = all_places();
-    length_from(p, 0, n, b, &mut lengths)
+    length_from(p, Node(0), n, b, &mut lengths)
 }

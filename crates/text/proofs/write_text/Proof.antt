@@ -34,7 +34,7 @@ abbrev measured : tie.Else2 → tie.Else1
 measured c = c .before .before
 
 enough : (c : tie.Else2) → let a = entry (measured c) .args in length (text (a .pool .now) (a .node)) ≤ length (a .buffer .now)
-enough c = omega (arith, c .before .measure .ensures, c .if2 .left)
+enough c = omega (arith, c .before .left-after-text .ensures, c .if2 .left)
 
 -- ---- the calls and the answers
 
@@ -52,15 +52,15 @@ returns c =
 add-most : tie.Need-add-most
 add-most c = search needs
 
-measure-requires : tie.Need-measure-requires
-measure-requires c κs = whole c
+left-after-text-requires : tie.Need-left-after-text-requires
+left-after-text-requires c κs = whole c
 
 returns-2 : tie.Need-returns-2
 returns-2 c =
     let e = c .before .before in
     let a = entry e .args in
     refused (a .pool .now) (a .count) (a .node) (a .buffer .now)
-    (sym (short (a .pool .now) (a .count) (a .node) (length (a .buffer .now)) (good e .0) (good e .1) (omega (arith, c .before .measure .ensures, c .if2 .taken))))
+    (sym (short (a .pool .now) (a .count) (a .node) (length (a .buffer .now)) (good e .0) (good e .1) (omega (arith, c .before .left-after-text .ensures, c .if2 .taken))))
     (omega arith)
 
 write-known-requires : tie.Need-write-known-requires
@@ -80,7 +80,7 @@ returns-3 c =
     let a = entry e .args in
     written (a .pool .now) (a .count) (a .node) (zero e)
     (fits (a .pool .now) (a .count) (a .node) (length (a .buffer .now)) (good e .0) (good e .1) (enough f))
-    (omega (arith, f .before .measure .ensures, enough f))
+    (omega (arith, f .before .left-after-text .ensures, enough f))
     (in-front (w .write-known .ensures) (enough f))
 
 pub write-text-spec : {M : Type 1} → statement M
@@ -90,7 +90,7 @@ write-text-spec =
     node-number-requires
     returns
     add-most
-    measure-requires
+    left-after-text-requires
     returns-2
     write-known-requires
     sub-t10

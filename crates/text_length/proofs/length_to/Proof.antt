@@ -12,8 +12,8 @@ length-of-many-requires c κs = search needs
 returns : tie.Need-returns
 returns c = search needs
 
-measure-requires : tie.Need-measure-requires
-measure-requires c κs = search needs
+left-after-text-requires : tie.Need-left-after-text-requires
+left-after-text-requires c κs = search needs
 
 sub-result : tie.Need-sub-result
 sub-result c = search needs
@@ -28,6 +28,6 @@ length-to-spec =
     add-most
     length-of-many-requires
     returns
-    measure-requires
+    left-after-text-requires
     sub-result
     returns-2)

@@ -10,10 +10,10 @@ use Rattle.text_length.proofs.nodes.length_from.Statement.{statement}
 use Rattle.text_length.proofs.nodes.length_from.Tie as tie
 
 abbrev Inv-loop : tie.InvT-loop
-Inv-loop p from n b lengths₀ j₀ lengths j = (length lengths ≡ length lengths₀) × Known p b lengths j
+Inv-loop p n b lengths₀ j₀ lengths j = (length lengths ≡ length lengths₀) × Known p b lengths j
 
 abbrev μ-loop : tie.MeasureT-loop
-μ-loop p from n b lengths₀ j₀ lengths j = n .0 + 1 - j
+μ-loop p n b lengths₀ j₀ lengths j = n .0 + 1 - j
 
 loop-holds : tie.Need-loop-holds Inv-loop μ-loop
 loop-holds c = (refl, c .before .before .pre .1 .1)

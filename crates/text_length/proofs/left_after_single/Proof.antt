@@ -1,12 +1,12 @@
--- `less_single` meets its contract: the length of what stands after an only operand is taken off.
+-- `left_after_single` meets its contract: the length of what stands after an only operand is taken off.
 use Prim.Native.Nat.{_<_}
 use native.Mathlib.Omega.{arith}
 use Rattle.pool.specs.Node.{wordAt}
 use Rattle.text_parts.proofs.Operands.{is-single, from-18, range-small, width-small}
 use Rattle.text_length.proofs.Sizes.{about-extract, about-extend}
 use borrow.Author.Needs.{needs}
-use Rattle.text_length.proofs.less_single.Statement.{statement}
-use Rattle.text_length.proofs.less_single.Tie as tie
+use Rattle.text_length.proofs.left_after_single.Statement.{statement}
+use Rattle.text_length.proofs.left_after_single.Tie as tie
 
 -- ---- the entry, of an Extract and of an extension
 
@@ -79,8 +79,8 @@ returns-2 c =
     let about = about-extend (s .args .p .now) (s .args .n .0) (s .pre .0) (s .args .k) (s .pre .1) (from-18 (is-single _ (s .pre .2)) (e .if1 .left)) in
     omega (arith, about, c .minus-or-zero3 .ensures, rw (l-width-of .width-of .ensures .0) at (l-decimal-length3 .decimal-length3 .ensures .0))
 
-pub less-single-spec : {M : Type 1} → statement M
-less-single-spec =
+pub left-after-single-spec : {M : Type 1} → statement M
+left-after-single-spec =
     tie.close
     (tie.spec
     cut-hi-requires

@@ -1,10 +1,10 @@
--- `less_leaf` meets its contract: the length of a Var's or a Const's text is taken off.
+-- `left_after_leaf` meets its contract: the length of a Var's or a Const's text is taken off.
 use native.Mathlib.Omega.{arith}
 use Rattle.text_parts.proofs.Operands.{is-const, register-small, width-small}
 use Rattle.text_length.proofs.Sizes.{size-var, size-const}
 use borrow.Author.Needs.{needs}
-use Rattle.text_length.proofs.less_leaf.Statement.{statement}
-use Rattle.text_length.proofs.less_leaf.Tie as tie
+use Rattle.text_length.proofs.left_after_leaf.Statement.{statement}
+use Rattle.text_length.proofs.left_after_leaf.Tie as tie
 
 -- ---- the entry, of a Var and of a Const
 
@@ -58,8 +58,8 @@ low-requires-2 c κs = search needs
 high-requires : tie.Need-high-requires
 high-requires c κs = search needs
 
-less-hex-requires : tie.Need-less-hex-requires
-less-hex-requires c κs = search needs
+left-after-hex-requires : tie.Need-left-after-hex-requires
+left-after-hex-requires c κs = search needs
 
 returns-2 : tie.Need-returns-2
 returns-2 c =
@@ -73,10 +73,10 @@ returns-2 c =
     let const = is-const (a .p .now) (a .n .0) (s .pre .0) (a .k) (s .pre .1) (s .pre .2) (l-width-of .before .if1 .left) in
     let size = size-const (a .p .now) (a .n .0) (s .pre .0) (a .k) (s .pre .1) const in
     let width = rw (l-width-of .width-of .ensures .0) at (l-decimal-length2 .decimal-length2 .ensures .0) in
-    omega (arith, size, l-minus-or-zero2 .minus-or-zero2 .ensures, width, rw (l-low2 .low2 .ensures, l-high .high .ensures) at (c .less-hex .ensures))
+    omega (arith, size, l-minus-or-zero2 .minus-or-zero2 .ensures, width, rw (l-low2 .low2 .ensures, l-high .high .ensures) at (c .left-after-hex .ensures))
 
-pub less-leaf-spec : {M : Type 1} → statement M
-less-leaf-spec =
+pub left-after-leaf-spec : {M : Type 1} → statement M
+left-after-leaf-spec =
     tie.close
     (tie.spec
     low-requires
@@ -90,5 +90,5 @@ less-leaf-spec =
     minus-or-zero-requires-2
     low-requires-2
     high-requires
-    less-hex-requires
+    left-after-hex-requires
     returns-2)

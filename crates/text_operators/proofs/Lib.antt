@@ -1,2 +1,0 @@
--- What stands between two operands, and its length.
-pub mod Lengths
