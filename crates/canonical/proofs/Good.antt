@@ -1,9 +1,9 @@
 -- The distinct subtrees of a term that keeps the rules keep them too. Assumes nothing.
 use mathlib.Core.List.{List, [], _∷_, _++_}
-use Prim.Native.Nat.{ℕ, zero, suc, _≤_, _<_}
+use Prim.Native.Nat.{ℕ, zero, suc, _<_}
 use native.Mathlib.Omega.{arith}
 use lib.ListN.{length}
-use Rattle.terms.specs.Expr.{Expr, Var, Const, Bv, Compare, Ite, Extract, Concat, ZeroExtend, SignExtend, width}
+use Rattle.terms.specs.Expr.{Expr, Var, Const, Bv, Compare, Ite, Extract, Concat, ZeroExtend, SignExtend}
 use Rattle.terms.specs.Rules.{Good}
 use Rattle.canonical.specs.Order.{parts, walk, add, addAll, postorder}
 use Rattle.canonical.proofs.Lists.{by-add}
@@ -47,16 +47,3 @@ pub all-at : (P : Expr → Type 0) (l : List Expr) (i : ℕ) → All P l → i <
 all-at P [] i a h = absurd (omega arith)
 all-at P (x ∷ l) zero a h = a .0
 all-at P (x ∷ l) (suc i) a h = all-at P l i (a .1) (omega arith)
-
--- no subtree is wider than 129 bits
-pub good-wide : (t : Expr) → Good t → width t ≤ 129
-unfolding Good width
-good-wide (Var r) g = omega arith
-good-wide (Const v w) g = g .1
-good-wide (Bv o a b) g = good-wide a (g .0)
-good-wide (Compare o a b) g = omega arith
-good-wide (Ite c a b) g = good-wide a (g .1)
-good-wide (Extract a hi lo) g = omega (arith, good-wide a (g .0), g .1, g .2)
-good-wide (Concat a b) g = g .4
-good-wide (ZeroExtend a w) g = g .3
-good-wide (SignExtend a w) g = g .3

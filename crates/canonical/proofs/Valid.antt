@@ -11,12 +11,13 @@ use Rattle.terms.specs.Expr.{Expr, Var, Const, Bv, Compare, Ite, Extract, Conca
 use Rattle.terms.specs.Rules.{Good}
 use Rattle.terms.specs.Registers.{registers}
 use Rattle.pool.specs.Node.{Cell, cellAt, widthAt, setAt}
+use Rattle.pool.proofs.Facts.{good-wide}
 use Rattle.pool.specs.Rules.{wideOk, widthBefore, setBefore, setRule, okCell, okNode, okPool, Valid}
 use Rattle.canonical.specs.Order.{parts, place}
 use Rattle.canonical.specs.Words.{cellIn}
 use Rattle.canonical.proofs.Lists.{at-place}
 use Rattle.canonical.proofs.Trees.{All, at, Before, Closed}
-use Rattle.canonical.proofs.Good.{good-wide, all-at}
+use Rattle.canonical.proofs.Good.{all-at}
 use Rattle.canonical.proofs.Words.{cell-width}
 
 -- ---- each node keeps its rule

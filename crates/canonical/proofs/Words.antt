@@ -13,16 +13,16 @@ use Rattle.terms.specs.declared.CmpOp.the-variants.{Eq, Ult, Slt}
 use Rattle.terms.specs.Expr.{Expr, Var, Const, Bv, Compare, Ite, Extract, Concat, ZeroExtend, SignExtend, width}
 use Rattle.terms.specs.Rules.{Good}
 use Rattle.terms.specs.Registers.{registers}
-use Rattle.pool.specs.Node.{Kind, bad, var, const, bv, compare, ite, extract, concat, zext, sext, kinds, kindAt, bvCode, compareCode, codeOf, kindWord, Cell, decode, cellAt}
+use Rattle.pool.specs.Node.{Kind, bad, var, const, bv, compare, ite, extract, concat, zext, sext, kinds, kindAt, bvCode, compareCode, bv-kind, compare-kind, codeOf, kindWord, Cell, decode, cellAt}
 use Rattle.pool.specs.Node.{kindOf, widthOf, setOf, setAt, none}
 use Rattle.pool.specs.Unfold.{shape, earlier, unfoldAt}
 use Rattle.pool.proofs.Laws.{packed, packed-set, unfold-step}
-use Rattle.canonical.specs.Same.{bv-kind, compare-kind}
+use Rattle.pool.proofs.Facts.{good-wide}
 use Rattle.canonical.specs.Order.{parts, place, postorder}
 use Rattle.canonical.specs.Words.{inner, cellIn, word0, word1, wordsIn, canonical}
 use Rattle.canonical.proofs.Lists.{place-le, at-place}
 use Rattle.canonical.proofs.Trees.{All, at, Before, Closed, closed-order, root, order-length, at-root}
-use Rattle.canonical.proofs.Good.{good-order, good-wide}
+use Rattle.canonical.proofs.Good.{good-order}
 
 -- ---- a kind's number and the kind
 

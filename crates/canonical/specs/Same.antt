@@ -1,30 +1,12 @@
 -- Whether two terms are the same tree. The types say what is decided; nothing here has to be believed.
-use mathlib.Core.Path.{_≡_, refl, sym, ap, _∙_}
+use mathlib.Core.Path.{sym, ap, _∙_}
 use native.Mathlib.Decide.{ℕ-discrete}
 use Rattle.terms.specs.declared.BinOp.{BinOp}
-use Rattle.terms.specs.declared.BinOp.the-variants.{Add, Sub, Mul, And, Or, Xor, Shl, LShr, AShr}
+use Rattle.terms.specs.declared.BinOp.the-variants.{Add}
 use Rattle.terms.specs.declared.CmpOp.{CmpOp}
-use Rattle.terms.specs.declared.CmpOp.the-variants.{Eq, Ult, Slt}
+use Rattle.terms.specs.declared.CmpOp.the-variants.{Eq}
 use Rattle.terms.specs.Expr.{Expr, sameExpr}
-use Rattle.pool.specs.Node.{Kind, bad, var, const, bv, compare, ite, extract, concat, zext, sext, kinds, kindAt, bvCode, compareCode}
-
-pub bv-kind : (o : BinOp) → kindAt (bvCode o) ≡ bv o
-unfolding kindAt kinds
-bv-kind Add = refl
-bv-kind Sub = refl
-bv-kind Mul = refl
-bv-kind And = refl
-bv-kind Or = refl
-bv-kind Xor = refl
-bv-kind Shl = refl
-bv-kind LShr = refl
-bv-kind AShr = refl
-
-pub compare-kind : (o : CmpOp) → kindAt (compareCode o) ≡ compare o
-unfolding kindAt kinds
-compare-kind Eq = refl
-compare-kind Ult = refl
-compare-kind Slt = refl
+use Rattle.pool.specs.Node.{Kind, bad, var, const, bv, compare, ite, extract, concat, zext, sext, kindAt, bvCode, compareCode, bv-kind, compare-kind}
 
 abbrev bvOf : Kind → BinOp
 bvOf bad = Add

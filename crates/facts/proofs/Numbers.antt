@@ -16,6 +16,11 @@ before-or-from x k = go (ltb x k) refl
     go true e = inl (ltb-true x k e)
     go false e = inr (ltb-false x k e)
 
+-- the third of three numbers is not the first or the second
+pub not-third : (k : ℕ) → (k ≡ 0) ⊎ (k ≡ 1) → k ≡ 2 → ⊥
+not-third k (inl e) q = omega (arith, e, q)
+not-third k (inr e) q = omega (arith, e, q)
+
 pub below : (n : ℕ) → n < 2 ^ n
 below zero = omega arith
 below (suc n) = omega (arith, below n, pow-suc 2 n)

@@ -1,5 +1,5 @@
 -- A table that is computed from a rule, and its entries. Assumes nothing.
-use mathlib.Core.Path.{_≡_, ap, _∙_}
+use mathlib.Core.Path.{_≡_, sym, ap, _∙_}
 use mathlib.Core.List.{List, [], _∷_}
 use Prim.Native.Nat.{ℕ, zero, suc, _+_, _<_}
 use native.Mathlib.Nat.{add-zero, zero-add, add-suc, suc-add, le-of-suc-le-suc, not-suc-le-zero}
@@ -18,3 +18,7 @@ from f (suc n) i (suc k) h = from f n (suc i) k (le-of-suc-le-suc h) ∙ ap f (r
 
 pub entry : (f : ℕ → ℕ) (n k : ℕ) → k < n → getD (tabulate f 0 n) k 0 ≡ f k
 entry f n k h = from f n 0 k h ∙ ap f (zero-add k)
+
+-- two rules that compute to the same table agree at each entry
+pub agree : (f g : ℕ → ℕ) (n : ℕ) → tabulate f 0 n ≡ tabulate g 0 n → (k : ℕ) → k < n → f k ≡ g k
+agree f g n e k h = sym (entry f n k h) ∙ ap (λ (l : List ℕ). getD l k 0) e ∙ entry g n k h

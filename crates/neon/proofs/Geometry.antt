@@ -54,7 +54,7 @@ filled Same v = by-view v
 filled Narrow v = by-half v
 filled (Long u) v = by-view v
 
-bits-le : (t : Bool) → bitsIf t ≤ 128
+pub bits-le : (t : Bool) → bitsIf t ≤ 128
 bits-le true = omega arith
 bits-le false = omega arith
 

@@ -1,7 +1,7 @@
 -- What an accepted record says: each test of its refusals is passed. Assumes nothing.
 use mathlib.Core.Path.{_≡_, refl}
 use mathlib.Core.Bool.{Bool, true, false, cond, _&&_}
-use Prim.Native.Nat.{ℕ, _≤_}
+use Prim.Native.Nat.{ℕ, _≤_, _<_}
 use native.Mathlib.Omega.{arith}
 use lib.Dec.{leb}
 use borrow.Author.Tests.{leb-true}
@@ -66,6 +66,11 @@ m-le o v = go (hasSecond o) (shortElement o v)
     go true true = omega arith
     go true false = omega arith
     go false s = omega arith
+
+pub registers-in : (c : Instruction) → Legal c → (c .d < 32) × (c .n < 32) × (c .m < 32)
+registers-in c l =
+    let a = accepted c l in
+    (omega (arith, a .at-d), omega (arith, a .at-n), omega (arith, a .at-m, m-le (opAt (c .operation)) (arrangementAt (c .arrangement))))
 
 -- ---- what follows the tests on the form is looked at where they pass, and only there
 

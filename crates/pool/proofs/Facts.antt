@@ -4,12 +4,15 @@ use mathlib.Core.Path.{_≡_, refl, sym, _∙_, subst}
 use mathlib.Core.Bool.{Bool, true, false}
 use mathlib.Core.List.{List}
 use mathlib.Core.Logic.{⊎-elim, _⊎_, inl, inr}
+use native.Mathlib.Omega.{arith}
 use native.Mathlib.Nat.{eq-or-lt-of-le, le-of-suc-le-suc, not-suc-le-zero}
 use lib.Dec.{ltb}
 use lib.ListN.{List·getD-map, List·getD-eq-default}
 use borrow.Author.Tests.{lt-ltb, ltb-true, ltb-false, leb-true, eqb-true}
 use Rattle.facts.proofs.Tests.{and-both}
 use Rattle.facts.proofs.Table.{tabulate, entry}
+use Rattle.terms.specs.Expr.{Expr, Var, Const, Bv, Compare, Ite, Extract, Concat, ZeroExtend, SignExtend, width}
+use Rattle.terms.specs.Rules.{Good}
 use Rattle.pool.specs.Node.{bad, extract, kinds, kindAt, codeOf, Cell, cellAt, widthAt, setAt}
 use Rattle.pool.specs.Rules.{widthBefore, setRule, okKind, okCell, okNode, okPool, Valid}
 
@@ -63,3 +66,16 @@ extract-rule ws n c h =
       inside = ltb-true _ _ (rw (lt-ltb (c .a) n l) at (p4 .1));
       wide-is = eqb-true _ _ (p5 .1);
     }
+
+-- no term that keeps the rules is wider than 129 bits
+pub good-wide : (t : Expr) → Good t → width t ≤ 129
+unfolding Good width
+good-wide (Var r) g = omega arith
+good-wide (Const v w) g = g .1
+good-wide (Bv o a b) g = good-wide a (g .0)
+good-wide (Compare o a b) g = omega arith
+good-wide (Ite c a b) g = good-wide a (g .1)
+good-wide (Extract a hi lo) g = omega (arith, good-wide a (g .0), g .1, g .2)
+good-wide (Concat a b) g = g .4
+good-wide (ZeroExtend a w) g = g .3
+good-wide (SignExtend a w) g = g .3

@@ -5,8 +5,8 @@ use mathlib.Core.Bool.{Bool, true, false, _&&_, not}
 use mathlib.Core.List.{List, [], _∷_}
 use mathlib.Core.Logic.{⊎-elim, _⊎_, inl, inr}
 use native.Mathlib.Nat.{not-le-of-lt}
-use lib.Dec.{ltb, T}
-use borrow.Author.Tests.{ltb-true, ltb-false}
+use lib.Dec.{T}
+use Rattle.facts.proofs.Numbers.{before-or-from}
 use Rattle.terms.specs.Expr.{Expr}
 use Rattle.pool.specs.Rules.{Valid}
 use Rattle.pool.specs.Growth.{Reach, AllReached, Grown, NodeIs, Made}
@@ -82,13 +82,6 @@ pub record St (old : List ℕ) (k : ℕ) (ins : List ℕ) (ws : List ℕ) (c : �
 
 -- ---- what a step keeps
 
-lt-or-le : (m n : ℕ) → (m < n) ⊎ (n ≤ m)
-lt-or-le m n = go (ltb m n) refl
-  where
-    go : (t : Bool) → ltb m n ≡ t → (m < n) ⊎ (n ≤ m)
-    go true e = inl (ltb-true m n e)
-    go false e = inr (ltb-false m n e)
-
 all-kept : {a b : List ℕ} {k k′ : ℕ} → Grown a k b k′ → (l : List Entry) → All a k l → All b k′ l
 all-kept g [] h = tt
 all-kept g (e ∷ l) h = (is-kept g (h .0), all-kept g l (h .1))
@@ -155,7 +148,7 @@ step {old} {k} {ins} {ws} {c} {l} s js {ws′} {r} {c′} {w} {t} d =
       grown = grown-trans (s .grown) (d .grown);
       valid = d .valid;
       env = (d .is, all-clears ws′ c′ js l (all-kept (d .grown) l (s .env)));
-      live = λ m p q. ⊎-elim (λ x. on m (s .live m p x)) (λ x. inl (tt, d .all m x q)) (lt-or-le m c);
+      live = λ m p q. ⊎-elim (λ x. on m (s .live m p x)) (λ x. inl (tt, d .all m x q)) (before-or-from m c);
       inputs = all-live ws ws′ l (entry r w t true ∷ clears js l) ins on (s .inputs);
     }
   where

@@ -1,5 +1,6 @@
 -- A pool's node: four words, and what they hold (document 01, "Pool").
 use mathlib.Core.List.{List, [], _∷_}
+use mathlib.Core.Path.{_≡_, refl}
 use Prim.Native.Nat.{ℕ, _+_, _*_, _/_, _%_}
 use lib.ListN.{length, getD, set}
 use Rattle.terms.specs.declared.BinOp.{BinOp}
@@ -52,6 +53,25 @@ codeOf extract = 16
 codeOf concat = 17
 codeOf zext = 18
 codeOf sext = 19
+
+-- the kinds of the operators' numbers, as antt computes: nothing here has to be believed
+pub bv-kind : (o : BinOp) → kindAt (bvCode o) ≡ bv o
+unfolding kindAt kinds
+bv-kind Add = refl
+bv-kind Sub = refl
+bv-kind Mul = refl
+bv-kind And = refl
+bv-kind Or = refl
+bv-kind Xor = refl
+bv-kind Shl = refl
+bv-kind LShr = refl
+bv-kind AShr = refl
+
+pub compare-kind : (o : CmpOp) → kindAt (compareCode o) ≡ compare o
+unfolding kindAt kinds
+compare-kind Eq = refl
+compare-kind Ult = refl
+compare-kind Slt = refl
 
 -- word 0: kind + 65,536 × width + 2^32 × set; bit r of the set is for register r
 abbrev pub kindWord : ℕ → ℕ → ℕ → ℕ

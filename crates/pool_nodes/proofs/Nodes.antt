@@ -13,7 +13,7 @@ use Rattle.terms.specs.declared.CmpOp.the-variants.{Eq, Ult, Slt}
 use Rattle.terms.specs.Expr.{Expr, Var, Const, Bv, Compare, Ite, Extract, Concat, ZeroExtend, SignExtend}
 use Rattle.pool.specs.declared.Node.{Node}
 use Rattle.pool.specs.declared.Built.{Built}
-use Rattle.pool.specs.Node.{Kind, var, const, bv, compare, ite, extract, concat, zext, sext, kinds, kindAt, bvCode, compareCode, kindWord, operandWord, wide, widthAt, setAt}
+use Rattle.pool.specs.Node.{Kind, var, const, bv, compare, ite, extract, concat, zext, sext, kinds, kindAt, bvCode, compareCode, bv-kind, compare-kind, kindWord, operandWord, wide, widthAt, setAt}
 use Rattle.pool.specs.Rules.{widthBefore, Valid}
 use Rattle.pool.specs.Unfold.{earlier, unfoldAt}
 use Rattle.pool.specs.Growth.{NodeIs, Room, Made}
@@ -96,24 +96,6 @@ module _ {old new : List ℕ} {k r k′ : ℕ} where
       rw (← term ha) (made-of p v (rw (seen ha, le-leb _ _ z, le-leb _ _ l, le-leb _ _ l′, le-leb _ _ m, lt-ltb a k (ha .under))) (rw (lt-ltb a k (ha .under))) (ha .under, tt))
 
 -- ---- what the constructors say, from the words that they write
-
-bv-kind : (o : BinOp) → kindAt (bvCode o) ≡ bv o
-unfolding kindAt kinds
-bv-kind Add = refl
-bv-kind Sub = refl
-bv-kind Mul = refl
-bv-kind And = refl
-bv-kind Or = refl
-bv-kind Xor = refl
-bv-kind Shl = refl
-bv-kind LShr = refl
-bv-kind AShr = refl
-
-compare-kind : (o : CmpOp) → kindAt (compareCode o) ≡ compare o
-unfolding kindAt kinds
-compare-kind Eq = refl
-compare-kind Ult = refl
-compare-kind Slt = refl
 
 -- their numbers are those of no Var
 bv-code : (o : BinOp) → (3 ≤ bvCode o) × (bvCode o ≤ 11)

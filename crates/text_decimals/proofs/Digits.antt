@@ -65,11 +65,6 @@ unpadded (suc k) x h l =
 pub size : (k x : ℕ) → 10 ^ k ≤ x → x < 10 ^ suc k → length (decimal x) ≡ suc k
 size k x h l = ap length (unpadded k x h l) ∙ length-padded (suc k) x
 
--- 0 too has one digit
-pub size-1 : (x : ℕ) → x < 10 → length (decimal x) ≡ 1
-unfolding decimal
-size-1 x l = ap length (digits-one 10 x l)
-
 -- a digit written before the others
 module _ {l : List ℕ} {i b : ℕ} {s t : List ℕ} where
   pub wrote-first : {m : List ℕ} {j r : ℕ} → r ≡ b → t ≡ b ∷ s → Wrote (set l i r) (i + 1) s j m → Wrote l i t j m

@@ -1,5 +1,6 @@
 // Decimal digits from the first to the last, by comparing and subtracting: no division, no multiplication. For numbers of up to five
 // digits, as nodes have; `text_digits` writes longer ones.
+use text_digits::decimal_digit;
 use text_digits::put_decimal;
 ghost use mathlib.Core.Path.{_≡_};
 ghost use Prim.Native.Nat.{_+_, _*_, _≤_, _<_};
@@ -41,14 +42,6 @@ fn place_of(x: u64, unit: u64) -> Place
     step(c, unit, 1)
 }
 
-// The character of a digit.
-fn figure(d: u64) -> u8
-    requires { ⌜ d < 10 ⌝ }
-    ensures { λ r. ⌜ r ≡ digit d ⌝ }
-{
-    (48 + d) as u8
-}
-
 // Two digits, zeros first; and so on up to five.
 fn put_2(x: u64, buf: &mut [u8], at: usize) -> usize
     requires { ⌜ x < 100 ⌝ }
@@ -56,8 +49,8 @@ fn put_2(x: u64, buf: &mut [u8], at: usize) -> usize
     ensures { λ r. ⌜ Wrote (now (buf .entry)) at (padded 2 x) r (now (buf .exit)) ⌝ }
 {
     let p = place_of(x, 10);
-    buf[at] = figure(p.digit);
-    buf[at + 1] = figure(p.rest);
+    buf[at] = decimal_digit(p.digit);
+    buf[at + 1] = decimal_digit(p.rest);
     at + 2
 }
 
@@ -67,7 +60,7 @@ fn put_3(x: u64, buf: &mut [u8], at: usize) -> usize
     ensures { λ r. ⌜ Wrote (now (buf .entry)) at (padded 3 x) r (now (buf .exit)) ⌝ }
 {
     let p = place_of(x, 100);
-    buf[at] = figure(p.digit);
+    buf[at] = decimal_digit(p.digit);
     put_2(p.rest, buf, at + 1)
 }
 
@@ -77,7 +70,7 @@ fn put_4(x: u64, buf: &mut [u8], at: usize) -> usize
     ensures { λ r. ⌜ Wrote (now (buf .entry)) at (padded 4 x) r (now (buf .exit)) ⌝ }
 {
     let p = place_of(x, 1000);
-    buf[at] = figure(p.digit);
+    buf[at] = decimal_digit(p.digit);
     put_3(p.rest, buf, at + 1)
 }
 
@@ -87,7 +80,7 @@ fn put_5(x: u64, buf: &mut [u8], at: usize) -> usize
     ensures { λ r. ⌜ Wrote (now (buf .entry)) at (padded 5 x) r (now (buf .exit)) ⌝ }
 {
     let p = place_of(x, 10000);
-    buf[at] = figure(p.digit);
+    buf[at] = decimal_digit(p.digit);
     put_4(p.rest, buf, at + 1)
 }
 
@@ -98,7 +91,7 @@ pub fn put_number(x: u64, buf: &mut [u8], at: usize) -> usize
 {
     if x < 100 {
         if x < 10 {
-            buf[at] = figure(x);
+            buf[at] = decimal_digit(x);
             return at + 1;
         }
         return put_2(x, buf, at);

@@ -39,7 +39,7 @@ pub pair-at : (x : ℕ) → x < 100 → taken x ≡ pairOf x
 unfolding right all fourPairs
 pair-at x l = eqb-true (taken x) (pairOf x) (all-at 100 right refl x l)
 
-decimal-digit : (d : ℕ) → d < 10 → digit d ≡ 48 + d
+pub decimal-digit : (d : ℕ) → d < 10 → digit d ≡ 48 + d
 decimal-digit d l = rw (lt-ltb d 10 l)
 
 -- the two characters are bytes

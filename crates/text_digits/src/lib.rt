@@ -17,7 +17,7 @@ pub fn minus_or_zero(x: usize, y: usize) -> usize
 }
 
 // The character of a digit below 10.
-fn decimal_digit(d: u64) -> u8
+pub fn decimal_digit(d: u64) -> u8
     requires { ⌜ d < 10 ⌝ }
     ensures { λ r. ⌜ r ≡ digit d ⌝ }
 {

@@ -21,7 +21,7 @@ scale-mod h j k hj hk =
     less : h % j * k < j * k
     less = omega (arith, lib.Arith.digits-lt {q = h % j} {m = j} {r = 0} {c = k} (mod-lt h hj) hk)
 
-whole : (k : ℕ) → k ≤ 64 → base ≡ 2 ^ (64 - k) * 2 ^ k
+pub whole : (k : ℕ) → k ≤ 64 → base ≡ 2 ^ (64 - k) * 2 ^ k
 whole k h = ap (λ (t : ℕ). 2 ^ t) {x = 64} {y = 64 - k + k} (omega arith) ∙ pow-add 2 (64 - k) k
 
 module _ (x h : ℕ) where

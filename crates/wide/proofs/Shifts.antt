@@ -10,10 +10,7 @@ use Rattle.terms.specs.Value.{bvshl}
 use Rattle.wide.specs.declared.Wide.{Wide}
 use Rattle.wide.specs.Number.{base, words, num}
 use Rattle.wide.proofs.Words.{mod-is, Fit, num-lt}
-use Rattle.wide.proofs.Digits.{mod-same, scale-mod, high-shift}
-
-pub whole : (k : ℕ) → k ≤ 64 → base ≡ 2 ^ (64 - k) * 2 ^ k
-whole k h = ap (λ (t : ℕ). 2 ^ t) {x = 64} {y = 64 - k + k} (omega arith) ∙ pow-add 2 (64 - k) k
+use Rattle.wide.proofs.Digits.{mod-same, scale-mod, whole, high-shift}
 
 pub funnel-is : (high low k : ℕ) → k < 64 → low < base
     → bitOr (high * 2 ^ k % 18446744073709551616) (low / 2 ^ (64 - k)) ≡ high % 2 ^ (64 - k) * 2 ^ k + low / 2 ^ (64 - k)

@@ -46,6 +46,17 @@ pub fn power(k: u64) -> u64
     1u64 << k
 }
 
+// The largest number of so many bits, 0 for none.
+pub fn unsigned_max(bits: u64) -> u64
+    requires { ⌜ bits ≤ 64 ⌝ }
+    ensures { λ r. ⌜ r ≡ 2 ^ bits - 1 ⌝ }
+{
+    if bits == 64 {
+        return u64::MAX;
+    }
+    power(bits) - 1
+}
+
 // The upper word of two that are shifted to the left.
 pub fn funnel(high: u64, low: u64, k: u64) -> u64
     requires { ⌜ (0 < k) × (k < 64) ⌝ }

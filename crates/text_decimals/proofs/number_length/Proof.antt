@@ -1,12 +1,13 @@
 -- `number_length` gives the length of a number's decimal text, 1 to 5, by its size.
 use mathlib.Core.Path.{sym}
 use native.Mathlib.Omega.{arith}
-use Rattle.text_decimals.proofs.Digits.{size-1, size}
+use Rattle.text_digits.proofs.Lengths.{decimal-one}
+use Rattle.text_decimals.proofs.Digits.{size}
 use Rattle.text_decimals.proofs.number_length.Statement.{statement}
 use Rattle.text_decimals.proofs.number_length.Tie as tie
 
 returns : tie.Need-returns
-returns c = (sym (size-1 _ (c .if2 .taken)), omega arith)
+returns c = (sym (decimal-one _ (c .if2 .taken)), omega arith)
 
 returns-2 : tie.Need-returns-2
 returns-2 c = (sym (size 1 _ (c .if2 .left) (c .before .if1 .taken)), omega arith)

@@ -4,7 +4,8 @@ use native.Mathlib.Omega.{arith}
 use Rattle.terms.specs.Display.{decimal}
 use Rattle.text_decimals.specs.Padded.{padded}
 use Rattle.text_digits.proofs.Laws.{wrote-one, wrote-as, room-as}
-use Rattle.text_decimals.proofs.Digits.{unpadded, size-1}
+use Rattle.text_digits.proofs.Lengths.{decimal-one}
+use Rattle.text_decimals.proofs.Digits.{unpadded}
 use borrow.Author.Needs.{needs}
 use Rattle.text_decimals.proofs.put_number.Statement.{statement}
 use Rattle.text_decimals.proofs.put_number.Tie as tie
@@ -37,13 +38,13 @@ five c = unpadded 4 (over-9999 (c .before) .args .x) (c .before .if4 .left) (c .
 
 -- ---- the needs
 
-figure-requires : tie.Need-figure-requires
-figure-requires c κs = search needs
+decimal-digit-requires : tie.Need-decimal-digit-requires
+decimal-digit-requires c κs = search needs
 
 slice-write-buf : tie.Need-slice-write-buf
 slice-write-buf c =
     let s = below-100 (c .before .before) in
-    omega (arith, size-1 (s .args .x) (c .before .if2 .taken), s .pre)
+    omega (arith, decimal-one (s .args .x) (c .before .if2 .taken), s .pre)
 
 add-result : tie.Need-add-result
 add-result c = search needs
@@ -55,7 +56,7 @@ returns : tie.Need-returns
 unfolding decimal
 returns c =
     let a = below-100 (c .before .before) .args in
-    wrote-one 10 (a .buf .now) (a .at) (a .x) _ (c .before .if2 .taken) (c .figure .ensures)
+    wrote-one 10 (a .buf .now) (a .at) (a .x) _ (c .before .if2 .taken) (c .decimal-digit .ensures)
 
 put-2-requires : tie.Need-put-2-requires
 put-2-requires c κs = let e = c .before in (e .before .if1 .taken, room-as (two e) (below-100 (e .before) .pre))
@@ -106,7 +107,7 @@ pub put-number-spec : {M : Type 1} → statement M
 put-number-spec =
     tie.close
     (tie.spec
-    figure-requires
+    decimal-digit-requires
     slice-write-buf
     add-result
     same-length
