@@ -13,11 +13,10 @@ use Rattle.trees.specs.declared.SaturateTo.the-variants.{Signed}
 use Rattle.trees.specs.declared.Combine.{Combine}
 use Rattle.trees.specs.declared.Combine.the-variants.{Nothing, With}
 use Rattle.trees.specs.Simd.{concatLanes}
-use Rattle.trees.specs.Arith.{clamp, doublingProduct, sourceLane, doublingLongLane, doublingLongLanes}
+use Rattle.trees.specs.Arith.{clamp, joined, twice, doublingProduct, sourceLane, doublingLongLane, doublingLongLanes}
 use Rattle.lower_simd.specs.Cut.{MadeLane}
 use Rattle.lower.specs.Builds.{Builds1, Builds2, Lowers, read, readIf, unread}
 use Rattle.lower.proofs.Lanes.{lane-fits, source-kept}
-use Rattle.lower_exact.specs.Exact.{joined, twice}
 use Rattle.lower_exact.proofs.Exactly.{then2}
 use Rattle.lower_doubling_long.specs.declared.Element.{Element}
 use Rattle.lower_doubling_long.specs.declared.Element.the-variants.{One, PerLane}

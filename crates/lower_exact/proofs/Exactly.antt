@@ -18,10 +18,9 @@ use Rattle.trees.specs.declared.SaturateTo.{SaturateTo}
 use Rattle.trees.specs.declared.Saturate.{Saturate}
 use Rattle.trees.specs.declared.SaturatingKind.{SaturatingKind}
 use Rattle.trees.specs.declared.SaturatingKind.the-variants.{AddSub, Halving, Narrow, ShiftNarrow, DoublingMultiplyHigh, Unary}
-use Rattle.trees.specs.Arith.{plusIf, negated, kindBits}
+use Rattle.trees.specs.Arith.{plusIf, negated, kindBits, joined, twice, shifted, scaled, exactLane, exactBits}
 use Rattle.lower.specs.Builds.{Builds1, Builds2, BuildsIf, MadeExtend}
 use Rattle.lower_kinds.specs.Sources.{usesSecond, KindIn}
-use Rattle.lower_exact.specs.Exact.{joined, twice, shifted, scaled, exactLane, exactBits}
 
 -- ---- one builder on another's answer
 pub then1 : {w0 w1 w2 : List ℕ} {k m1 m2 : ℕ} {r1 r2 : Built} {a : Node} {wa u w : ℕ} {f g : Expr → Expr}

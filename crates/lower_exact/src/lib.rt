@@ -11,10 +11,9 @@ ghost use mathlib.Core.Path.{_≡_};
 ghost use mathlib.Core.List.{[], _∷_};
 ghost use Prim.Native.Nat.{_+_, _*_, _≤_, _<_, _^_};
 ghost use Rattle.pool.specs.Growth.{Room};
-ghost use Rattle.trees.specs.Arith.{kindBits};
+ghost use Rattle.trees.specs.Arith.{kindBits, joined, shifted, scaled, exactLane, exactBits, kindTo};
 ghost use Rattle.lower.specs.Builds.{Builds1, Builds2, BuildsIf};
 ghost use Rattle.lower_kinds.specs.Sources.{usesSecond, KindIn};
-ghost use Rattle.lower_exact.specs.Exact.{joined, shifted, scaled, exactLane, exactBits, kindTo};
 
 pub mod opposite;
 pub mod product;

@@ -8,9 +8,8 @@ ghost use mathlib.Core.Bool.{true};
 ghost use mathlib.Core.List.{[], _∷_};
 ghost use Prim.Native.Nat.{_+_, _≤_, _<_};
 ghost use Rattle.pool.specs.Growth.{Room};
-ghost use Rattle.trees.specs.Arith.{negated as negatedTree};
+ghost use Rattle.trees.specs.Arith.{negated as negatedTree, exactLane};
 ghost use Rattle.lower.specs.Builds.{Builds1};
-ghost use Rattle.lower_exact.specs.Exact.{exactLane};
 
 // SQNEG's value, or SQABS's.
 fn negated(pool: &mut [u64], count: usize, negate: bool, value: Node, wide: u64) -> Built

@@ -9,8 +9,8 @@ ghost use mathlib.Core.Bool.{true};
 ghost use mathlib.Core.List.{[], _∷_};
 ghost use Prim.Native.Nat.{_+_, _*_, _≤_, _<_};
 ghost use Rattle.pool.specs.Growth.{Room};
+ghost use Rattle.trees.specs.Arith.{twice, exactLane};
 ghost use Rattle.lower.specs.Builds.{Builds2};
-ghost use Rattle.lower_exact.specs.Exact.{twice, exactLane};
 
 pub fn double(pool: &mut [u64], count: usize, a: Node, b: Node, lane_bits: u64, wide: u64) -> Built
     requires { ⌜ Room (now pool) count 5 ⌝ }

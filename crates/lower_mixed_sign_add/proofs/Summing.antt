@@ -10,11 +10,10 @@ use Rattle.pool.specs.declared.Built.{Built}
 use Rattle.pool.proofs.Steps.{start, step, finish, spare}
 use Rattle.trees.specs.declared.SaturateTo.{SaturateTo}
 use Rattle.trees.specs.declared.SaturateTo.the-variants.{Signed, SignedToUnsigned}
-use Rattle.trees.specs.Arith.{clamp, mixedSignAddLane, mixedAt}
+use Rattle.trees.specs.Arith.{clamp, joined, mixedSignAddLane, mixedAt}
 use Rattle.lower_simd.specs.Cut.{MadeLane}
 use Rattle.lower.specs.Builds.{Builds1, Builds2, Lowers, read, unread}
 use Rattle.lower.proofs.Lanes.{lane-fits}
-use Rattle.lower_exact.specs.Exact.{joined}
 
 pub mixed-lane : {w0 w1 w2 w3 w4 : List ℕ} {k : ℕ} {r1 r2 r3 r4 : Built} {first d : Node} {to : SaturateTo} {n lanes j : ℕ} (signed : Bool)
     → 1 ≤ n

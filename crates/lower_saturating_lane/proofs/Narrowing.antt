@@ -14,10 +14,9 @@ use Rattle.trees.specs.declared.Saturate.{Saturate}
 use Rattle.trees.specs.declared.Saturate.the-variants.{Never, Into}
 use Rattle.trees.specs.declared.SaturatingKind.{SaturatingKind}
 use Rattle.trees.specs.declared.SaturatingKind.the-variants.{AddSub, Halving, Narrow, ShiftNarrow, DoublingMultiplyHigh, Unary}
-use Rattle.trees.specs.Arith.{clamp, saturatingLane, kindBits}
+use Rattle.trees.specs.Arith.{clamp, exactLane, exactBits, kindTo, saturatingLane, kindBits}
 use Rattle.lower.specs.Builds.{Builds1, BuildsIf}
 use Rattle.lower_kinds.specs.Sources.{usesSecond}
-use Rattle.lower_exact.specs.Exact.{exactLane, exactBits, kindTo}
 use Rattle.lower_exact.proofs.Exactly.{then-if, same-tree}
 use Rattle.lower_saturating_lane.specs.Narrow.{narrowedPlain}
 

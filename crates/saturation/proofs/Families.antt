@@ -69,15 +69,15 @@ module _ (r : ℕ → ℕ) where
   module _ (a b : Expr) (n : ℕ) (x : ℤ) (hn : 0 < n) (p : Is r a (n * 2) x) (rounding : Bool) (i : ℕ) (hi : 0 < i) (h : i ≤ n) where
     pub bit-sqshrn : FitsS (n * 2) x → Is r (saturatingBit (ShiftNarrow i rounding (Into Signed)) a b n true) 1 (pos (bit (beyondS n (floor (plus rounding x (2 ^ (i - 1))) i))))
     unfolding saturatingBit
-    bit-sqshrn f = is-clippedS r hn (omega arith) (sat.narrow-fits r a b n x hn p true rounding i f hi h) (sat.shifted r a b n x hn p true rounding i f hi h)
+    bit-sqshrn f = is-clippedS r hn (omega arith) (sat.narrow-fits r a b n x hn p true rounding i f hi h) (sat.is-shifted r a b n x hn p true rounding i f hi h)
 
     pub bit-uqshrn : FitsU (n * 2) x → Is r (saturatingBit (ShiftNarrow i rounding (Into Unsigned)) a b n false) 1 (pos (bit (beyondU n (floor (plus rounding x (2 ^ (i - 1))) i))))
     unfolding saturatingBit
-    bit-uqshrn f = is-clippedU r hn (omega arith) (sat.narrow-fits r a b n x hn p false rounding i f hi h) (sat.shifted r a b n x hn p false rounding i f hi h)
+    bit-uqshrn f = is-clippedU r hn (omega arith) (sat.narrow-fits r a b n x hn p false rounding i f hi h) (sat.is-shifted r a b n x hn p false rounding i f hi h)
 
     pub bit-sqshrun : FitsS (n * 2) x → Is r (saturatingBit (ShiftNarrow i rounding (Into SignedToUnsigned)) a b n true) 1 (pos (bit (beyondU n (floor (plus rounding x (2 ^ (i - 1))) i))))
     unfolding saturatingBit
-    bit-sqshrun f = is-clippedSU r hn (omega arith) (sat.narrow-fits r a b n x hn p true rounding i f hi h) (sat.shifted r a b n x hn p true rounding i f hi h)
+    bit-sqshrun f = is-clippedSU r hn (omega arith) (sat.narrow-fits r a b n x hn p true rounding i f hi h) (sat.is-shifted r a b n x hn p true rounding i f hi h)
 
   -- ---- the negative and the absolute value, 38 and 39
   module _ (a b : Expr) (n : ℕ) (x : ℤ) (hn : 0 < n) (f : FitsS n x) (p : Is r a n x) where

@@ -1,18 +1,18 @@
 -- The one-bit term of a lane, 1 exactly where it saturates; of an instruction; of a block. The Rust has none of these.
 use mathlib.Core.Bool.{Bool, true, false, cond, not}
 use mathlib.Core.List.{List, [], _∷_}
-use Prim.Native.Nat.{ℕ, _+_, _-_, _*_, _^_}
-use Rattle.terms.specs.Expr.{Expr, Var, Const, Bv, Compare, Ite, SignExtend}
+use Prim.Native.Nat.{ℕ, _+_, _-_, _^_}
+use Rattle.terms.specs.Expr.{Expr, Var, Const, Bv, Compare, Ite}
 use Rattle.neon.specs.declared.Instruction.{Instruction}
 use Rattle.trees.specs.declared.NeonOp.{NeonOp}
 use Rattle.trees.specs.declared.NeonOp.the-variants.{Shift, ShiftInsert, MixedSignAdd, DoublingLong, Saturating, BitwiseUnary, AbsoluteDifference, HighNarrow}
-use Rattle.trees.specs.Lower.{extend, unsignedMax}
+use Rattle.trees.specs.Lower.{unsignedMax}
 use Rattle.neon.specs.Op.{Op, Arrangement, opAt, arrangementAt, laneBits, full}
 use Rattle.neon.specs.Form.{form, firstFull, secondFull, byElement, sourceBits, laneCount, firstLane, secondLane}
 use Rattle.trees.specs.Simd.{extractLane, concatLanes}
 use Rattle.trees.specs.Neon.{neonOp}
 use Rattle.trees.specs.Block.{readTree, treeStep}
-use Rattle.terms.specs.declared.BinOp.the-variants.{Add, Mul, Or, Shl, AShr}
+use Rattle.terms.specs.declared.BinOp.the-variants.{Add, Or, Shl}
 use Rattle.terms.specs.declared.CmpOp.the-variants.{Eq, Ult, Slt}
 use Rattle.trees.specs.declared.SaturateTo.{SaturateTo}
 use Rattle.trees.specs.declared.SaturateTo.the-variants.{Signed, Unsigned, SignedToUnsigned}
@@ -24,7 +24,7 @@ use Rattle.trees.specs.declared.SaturatingKind.{SaturatingKind}
 use Rattle.trees.specs.declared.SaturatingKind.the-variants.{AddSub, Halving, Narrow, ShiftNarrow, DoublingMultiplyHigh, Unary}
 use Rattle.trees.specs.declared.Combine.{Combine}
 use Rattle.trees.specs.declared.Combine.the-variants.{Nothing, With}
-use Rattle.trees.specs.Arith.{signedMax, shiftBy, plusIf, narrowBits, doubledBits, negated, signedAmount, doublingProduct}
+use Rattle.trees.specs.Arith.{signedMax, shiftBy, joined, twice, scaled, exactLane, exactBits, kindTo, signedAmount, doublingProduct}
 
 abbrev pub no : Expr
 no = Const 0 1
@@ -55,18 +55,7 @@ narrowBit value wide n Never = no
 narrowBit value wide n (Into to) = clipped value wide n to
 
 unfoldable pub saturatingBit : SaturatingKind → (a b : Expr) (n : ℕ) (signed : Bool) → Expr
-saturatingBit (AddSub op to) a b n signed = clipped (Bv op (extend a (n + 1) signed) (extend b (n + 1) signed)) (n + 1) n to
-saturatingBit (Halving rounding) a b n signed = no
-saturatingBit (Narrow to) a b n signed = clipped a (n * 2) n to
-saturatingBit (ShiftNarrow shift rounding to) a b n signed =
-    let wide = narrowBits n in
-    let value = plusIf rounding (extend a wide signed) (Const (2 ^ (shift - 1)) wide) in
-    narrowBit (shiftBy signed value (Const shift wide)) wide n to
-saturatingBit (DoublingMultiplyHigh rounding) a b n signed =
-    let wide = doubledBits n in
-    let doubled = Bv Shl (Bv Mul (extend a wide true) (extend b wide true)) (Const 1 wide) in
-    clipped (Bv AShr (plusIf rounding doubled (Const (2 ^ (n - 1)) wide)) (Const n wide)) wide n Signed
-saturatingBit (Unary negate) a b n signed = clipped (negated negate (extend a (n + 1) true) (n + 1)) (n + 1) n Signed
+saturatingBit kind a b n signed = narrowBit (exactLane kind a b n signed) (exactBits kind n) n (kindTo kind)
 
 -- of a lane of `shift_lane`: a shift to the right does not saturate
 abbrev pub leftBit : (saturate : Saturate) (value : Expr) (shift n : ℕ) (signed : Bool) → Expr
@@ -75,7 +64,7 @@ leftBit (Into Signed) value shift n signed = lost value (Const shift n) signed
 leftBit (Into Unsigned) value shift n signed = lost value (Const shift n) signed
 leftBit (Into SignedToUnsigned) value shift n signed =
     let wide = n + shift + 1 in
-    clipped (Bv Shl (SignExtend value wide) (Const shift wide)) wide n SignedToUnsigned
+    clipped (scaled value shift wide) wide n SignedToUnsigned
 
 -- `by` is the signed amount of a register shift
 abbrev pub shiftedBit : ShiftKind → (signed : Bool) (value by : Expr) (n : ℕ) → Expr
@@ -90,15 +79,15 @@ shiftBit kind signed value amount n = shiftedBit kind signed value (signedAmount
 unfoldable pub mixedSignBit : (signed : Bool) (d a : Expr) (n : ℕ) → Expr
 mixedSignBit signed d a n =
     let wide = n + 2 in
-    clipped (Bv Add (extend d wide signed) (extend a wide (not signed))) wide n (cond signed Signed SignedToUnsigned)
+    clipped (joined Add d signed a (not signed) wide) wide n (cond signed Signed SignedToUnsigned)
 
 abbrev pub productBit : (a b : Expr) (n : ℕ) → Expr
-productBit a b n = clipped (Bv Shl (Bv Mul (extend a (n + 1) true) (extend b (n + 1) true)) (Const 1 (n + 1))) (n + 1) n Signed
+productBit a b n = clipped (twice a b (n + 1)) (n + 1) n Signed
 
 unfoldable pub doublingLongBit : Combine → (d a b : Expr) (n : ℕ) → Expr
 doublingLongBit Nothing d a b n = productBit a b n
 doublingLongBit (With op) d a b n =
-    Bv Or (productBit a b n) (clipped (Bv op (extend d (n + 1) true) (extend (doublingProduct a b n) (n + 1) true)) (n + 1) n Signed)
+    Bv Or (productBit a b n) (clipped (joined op d true (doublingProduct a b n) true (n + 1)) (n + 1) n Signed)
 
 -- the bit of one lane of a family, `no` for those that never saturate
 abbrev pub laneBit : NeonOp → (n : ℕ) (d a b : Expr) → Expr

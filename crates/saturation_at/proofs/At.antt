@@ -19,13 +19,12 @@ use Rattle.trees.specs.declared.ShiftKind.the-variants.{LeftImmediate, RightImm
 use Rattle.trees.specs.declared.Combine.{Combine}
 use Rattle.trees.specs.declared.Combine.the-variants.{Nothing, With}
 use Rattle.trees.specs.Simd.{extractLane}
-use Rattle.trees.specs.Arith.{clamp, signedAmount, kindBits, doublingProduct, narrowing}
+use Rattle.trees.specs.Arith.{clamp, joined, twice, signedAmount, kindBits, doublingProduct, narrowing}
 use Rattle.lower_simd.specs.Cut.{MadeLane}
 use Rattle.lower.specs.Builds.{Builds1, Builds2, BuildsIf, Lowers, read, readIf, unread}
 use Rattle.lower_kinds.specs.Sources.{isRegister, usesSecond}
 use Rattle.lower_shift.specs.Lanes.{MadeAmount}
 use Rattle.lower_doubling_long.specs.Elements.{accumulates}
-use Rattle.lower_exact.specs.Exact.{joined, twice}
 use Rattle.saturation.specs.Bits.{shiftBit, shiftedBit, saturatingBit, mixedSignBit, clipped, productBit, doublingLongBit}
 
 -- ---- shifts

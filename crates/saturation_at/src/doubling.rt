@@ -12,8 +12,8 @@ ghost use Prim.Native.Nat.{_+_, _*_, _/_, _≤_, _<_};
 ghost use Rattle.pool.specs.Growth.{Room};
 ghost use Rattle.trees.specs.declared.Combine.{Combine};
 ghost use Rattle.trees.specs.Simd.{extractLane};
+ghost use Rattle.trees.specs.Arith.{joined};
 ghost use Rattle.lower.specs.Builds.{Builds2, Lowers, read, readIf, Below};
-ghost use Rattle.lower_exact.specs.Exact.{joined};
 ghost use Rattle.lower_doubling_long.specs.Elements.{accumulates};
 ghost use Rattle.saturation.specs.Bits.{clipped, productBit, doublingLongBit};
 

@@ -20,10 +20,9 @@ ghost use Prim.Native.Nat.{_+_, _*_, _≤_, _<_};
 ghost use Rattle.pool.specs.Growth.{Room};
 ghost use Rattle.trees.specs.declared.Saturate.{Saturate};
 ghost use Rattle.trees.specs.Simd.{extractLane};
-ghost use Rattle.trees.specs.Arith.{kindBits};
+ghost use Rattle.trees.specs.Arith.{kindTo, kindBits};
 ghost use Rattle.lower.specs.Builds.{Lowers, read, readIf, unread, Below};
 ghost use Rattle.lower_kinds.specs.Sources.{isRegister, AmountIn, usesSecond, KindIn};
-ghost use Rattle.lower_exact.specs.Exact.{kindTo};
 ghost use Rattle.saturation.specs.Bits.{shiftBit, saturatingBit, mixedSignBit, saturableShift};
 
 pub mod doubling;

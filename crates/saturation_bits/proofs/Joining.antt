@@ -17,14 +17,13 @@ use Rattle.trees.specs.declared.Saturate.the-variants.{Never}
 use Rattle.trees.specs.declared.SaturatingKind.{SaturatingKind}
 use Rattle.trees.specs.declared.SaturatingKind.the-variants.{AddSub, Halving, Narrow, ShiftNarrow, DoublingMultiplyHigh, Unary}
 use Rattle.trees.specs.Simd.{extractLane, concatLanes}
-use Rattle.trees.specs.Arith.{sourceLane}
+use Rattle.trees.specs.Arith.{kindTo, sourceLane}
 use Rattle.lower.specs.Builds.{Source, Lowers, read, readIf, unread}
 use Rattle.lower_doubling_long.specs.Elements.{accumulates}
 use Rattle.trees.specs.declared.Combine.{Combine}
 use Rattle.trees.specs.declared.NeonOp.the-variants.{DoublingLong}
 use Rattle.lower_neon.proofs.Sources.{Weaker}
 use Rattle.lower_doubling_long.proofs.Multiplying.{factor-fits, factor-most}
-use Rattle.lower_exact.specs.Exact.{kindTo}
 use Rattle.lower_neon.specs.Family.{readsSecond, readsOld}
 use Rattle.saturation.specs.Bits.{saturable, saturableKind, saturableTo, doublingLongBit, instructionBit}
 use Rattle.saturation_bits.specs.Lanes.{familyBit, laneAt, BitMade}

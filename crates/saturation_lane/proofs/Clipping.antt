@@ -17,14 +17,12 @@ use Rattle.trees.specs.declared.SaturateTo.{SaturateTo}
 use Rattle.trees.specs.declared.SaturateTo.the-variants.{Signed, Unsigned, SignedToUnsigned}
 use Rattle.trees.specs.declared.Saturate.the-variants.{Into}
 use Rattle.trees.specs.declared.SaturatingKind.{SaturatingKind}
-use Rattle.trees.specs.declared.SaturatingKind.the-variants.{AddSub, Halving, Narrow, ShiftNarrow, DoublingMultiplyHigh, Unary}
 use Rattle.trees.specs.Lower.{unsignedMax}
-use Rattle.trees.specs.Arith.{kindBits}
+use Rattle.trees.specs.Arith.{joined, exactLane, exactBits, kindTo, kindBits}
 use Rattle.lower.specs.Builds.{Builds1, Builds2, BuildsIf}
 use Rattle.lower_kinds.specs.Sources.{usesSecond}
-use Rattle.lower_exact.specs.Exact.{joined, exactLane, exactBits, kindTo}
-use Rattle.lower_exact.proofs.Exactly.{then2, then-if, same-tree}
-use Rattle.saturation.specs.Bits.{no, yes, clippedBetween, clipped, narrowBit, saturatingBit, mixedSignBit}
+use Rattle.lower_exact.proofs.Exactly.{then2, then-if}
+use Rattle.saturation.specs.Bits.{no, yes, clippedBetween, clipped, saturatingBit, mixedSignBit}
 
 pub one-where : {w0 w1 w2 : List ℕ} {k : ℕ} {r1 r2 : Built} {test other : Node}
     → MadeConst w0 k w1 r1 1 0 1
@@ -114,22 +112,14 @@ module _ {w0 w1 : List ℕ} {k : ℕ} {r : Built} {value : Node} {wide : ℕ} (n
 -- ---- a lane of the saturating kinds
 
 -- its exact value, and the bit of the range that it is clamped into
-bit-of : (kind : SaturatingKind) (a b : Expr) (n : ℕ) (signed : Bool) → saturatingBit kind a b n signed ≡ narrowBit (exactLane kind a b n signed) (exactBits kind n) n (kindTo kind)
-unfolding saturatingBit
-bit-of (AddSub op to) a b n signed = refl
-bit-of (Halving rounding) a b n signed = refl
-bit-of (Narrow to) a b n signed = refl
-bit-of (ShiftNarrow shift rounding to) a b n signed = refl
-bit-of (DoublingMultiplyHigh rounding) a b n signed = refl
-bit-of (Unary negate) a b n signed = refl
-
 pub saturating : {w0 w1 w2 : List ℕ} {k : ℕ} {r1 r2 : Built} (kind : SaturatingKind) (to : SaturateTo) {a b : Node} (n : ℕ) (signed : Bool) {wide : ℕ}
     → wide ≡ exactBits kind n
     → kindTo kind ≡ Into to
     → BuildsIf w0 k w1 r1 9 a (kindBits kind n) (usesSecond kind) b (kindBits kind n) (exactBits kind n) (λ a b. exactLane kind a b n signed)
     → Builds1 w1 (r1 .count) w2 r2 9 (r1 .node) wide 1 (λ v. clipped v wide n to) ((r1 .node) .0 ∷ [])
     → BuildsIf w0 k w2 r2 18 a (kindBits kind n) (usesSecond kind) b (kindBits kind n) 1 (λ a b. saturatingBit kind a b n signed)
-saturating kind to n signed q p e1 e2 = same-tree (λ a b. rw p at (bit-of kind a b n signed)) (then-if (usesSecond kind) e1 (rw q at e2))
+unfolding saturatingBit
+saturating kind to n signed q p e1 e2 = rw p (then-if (usesSecond kind) e1 (rw q at e2))
 
 -- ---- the sums of mixed sign
 pub mixed : {w0 w1 w2 : List ℕ} {k : ℕ} {r1 r2 : Built} {d a : Node} (n : ℕ) (signed : Bool) {other : Bool} {to : SaturateTo}

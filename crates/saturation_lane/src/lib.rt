@@ -10,10 +10,9 @@ ghost use mathlib.Core.List.{[], _∷_};
 ghost use Prim.Native.Nat.{_+_, _≤_, _<_};
 ghost use Rattle.pool.specs.Growth.{Room};
 ghost use Rattle.trees.specs.declared.Saturate.{Saturate};
-ghost use Rattle.trees.specs.Arith.{kindBits};
+ghost use Rattle.trees.specs.Arith.{kindTo, kindBits};
 ghost use Rattle.lower.specs.Builds.{Builds2, BuildsIf};
 ghost use Rattle.lower_kinds.specs.Sources.{usesSecond, KindIn};
-ghost use Rattle.lower_exact.specs.Exact.{kindTo};
 ghost use Rattle.saturation.specs.Bits.{saturatingBit, mixedSignBit};
 
 pub mod clip;

@@ -63,22 +63,50 @@ narrowed value wide n (Into to) = clamp value wide n to
 abbrev pub negated : Bool → Expr → ℕ → Expr
 negated negate value wide = let minus = Bv Sub (Const 0 wide) value in cond negate minus (Ite (Compare Slt value (Const 0 wide)) minus value)
 
+-- ---- the exact values that lanes clamp, at a width where they cannot overflow
+
+-- two lanes, each widened by its own sign, under one operator
+abbrev pub joined : BinOp → (a : Expr) (sa : Bool) (b : Expr) (sb : Bool) (wide : ℕ) → Expr
+joined op a sa b sb wide = Bv op (extend a wide sa) (extend b wide sb)
+
+-- the doubled product of two signed lanes
+abbrev pub twice : (a b : Expr) (wide : ℕ) → Expr
+twice a b wide = Bv Shl (joined Mul a true b true wide) (Const 1 wide)
+
+abbrev pub shifted : (signed rounding : Bool) (v : Expr) (half shift wide : ℕ) → Expr
+shifted signed rounding v half shift wide = shiftBy signed (plusIf rounding v (Const half wide)) (Const shift wide)
+
+abbrev pub scaled : (v : Expr) (shift wide : ℕ) → Expr
+scaled v shift wide = Bv Shl (SignExtend v wide) (Const shift wide)
+
+-- what `saturating_lane` clamps or cuts, its bits, and the range that it is clamped into
+abbrev pub exactLane : SaturatingKind → (a b : Expr) (n : ℕ) (signed : Bool) → Expr
+exactLane (AddSub op to) a b n signed = joined op a signed b signed (n + 1)
+exactLane (Halving rounding) a b n signed = shifted signed rounding (joined Add a signed b signed (n + 1)) 1 1 (n + 1)
+exactLane (Narrow to) a b n signed = a
+exactLane (ShiftNarrow shift rounding to) a b n signed = shifted signed rounding (extend a (narrowBits n) signed) (2 ^ (shift - 1)) shift (narrowBits n)
+exactLane (DoublingMultiplyHigh rounding) a b n signed = shifted true rounding (twice a b (doubledBits n)) (2 ^ (n - 1)) n (doubledBits n)
+exactLane (Unary negate) a b n signed = negated negate (extend a (n + 1) true) (n + 1)
+
+abbrev pub exactBits : SaturatingKind → ℕ → ℕ
+exactBits (AddSub op to) n = n + 1
+exactBits (Halving rounding) n = n + 1
+exactBits (Narrow to) n = n * 2
+exactBits (ShiftNarrow shift rounding to) n = narrowBits n
+exactBits (DoublingMultiplyHigh rounding) n = doubledBits n
+exactBits (Unary negate) n = n + 1
+
+abbrev pub kindTo : SaturatingKind → Saturate
+kindTo (AddSub op to) = Into to
+kindTo (Halving rounding) = Never
+kindTo (Narrow to) = Into to
+kindTo (ShiftNarrow shift rounding to) = to
+kindTo (DoublingMultiplyHigh rounding) = Into Signed
+kindTo (Unary negate) = Into Signed
+
 -- `saturating_lane`
 unfoldable pub saturatingLane : SaturatingKind → (a b : Expr) (n : ℕ) (signed : Bool) → Expr
-saturatingLane (AddSub op to) a b n signed = clamp (Bv op (extend a (n + 1) signed) (extend b (n + 1) signed)) (n + 1) n to
-saturatingLane (Halving rounding) a b n signed =
-    let sum = Bv Add (extend a (n + 1) signed) (extend b (n + 1) signed) in
-    extractCollapsing (shiftBy signed (plusIf rounding sum (Const 1 (n + 1))) (Const 1 (n + 1))) (n - 1) 0
-saturatingLane (Narrow to) a b n signed = clamp a (n * 2) n to
-saturatingLane (ShiftNarrow shift rounding to) a b n signed =
-    let wide = narrowBits n in
-    let value = plusIf rounding (extend a wide signed) (Const (2 ^ (shift - 1)) wide) in
-    narrowed (shiftBy signed value (Const shift wide)) wide n to
-saturatingLane (DoublingMultiplyHigh rounding) a b n signed =
-    let wide = doubledBits n in
-    let doubled = Bv Shl (Bv Mul (extend a wide true) (extend b wide true)) (Const 1 wide) in
-    clamp (Bv AShr (plusIf rounding doubled (Const (2 ^ (n - 1)) wide)) (Const n wide)) wide n Signed
-saturatingLane (Unary negate) a b n signed = clamp (negated negate (extend a (n + 1) true) (n + 1)) (n + 1) n Signed
+saturatingLane kind a b n signed = narrowed (exactLane kind a b n signed) (exactBits kind n) n (kindTo kind)
 
 -- `shift_right`: `most` is the largest amount, which sizes the sum of a rounding shift
 abbrev pub roundingBits : ℕ → ℕ → ℕ
@@ -99,8 +127,8 @@ shiftBound value n false = Const (unsignedMax n) n
 
 unfoldable pub saturatingShiftLeft : (value amount : Expr) (n : ℕ) (signed : Bool) → Expr
 saturatingShiftLeft value amount n signed =
-    let shifted = Bv Shl value amount in
-    Ite (Compare Eq (shiftBy signed shifted amount) value) shifted (shiftBound value n signed)
+    let left = Bv Shl value amount in
+    Ite (Compare Eq (shiftBy signed left amount) value) left (shiftBound value n signed)
 
 abbrev pub registerShiftMax : ℕ
 registerShiftMax = 128
@@ -112,7 +140,7 @@ leftImmediate (Into Signed) value shift n signed = saturatingShiftLeft value (Co
 leftImmediate (Into Unsigned) value shift n signed = saturatingShiftLeft value (Const shift n) n signed
 leftImmediate (Into SignedToUnsigned) value shift n signed =
     let wide = n + shift + 1 in
-    clamp (Bv Shl (SignExtend value wide) (Const shift wide)) wide n SignedToUnsigned
+    clamp (scaled value shift wide) wide n SignedToUnsigned
 
 -- the signed low byte of a register shift's amount
 abbrev pub signedAmount : Expr → ℕ → Expr
@@ -175,15 +203,15 @@ shiftInsertLane left d a shift n = inserted left (keptBits left n shift) n d a (
 unfoldable pub mixedSignAddLane : (signed : Bool) (d a : Expr) (n : ℕ) → Expr
 mixedSignAddLane signed d a n =
     let wide = n + 2 in
-    clamp (Bv Add (extend d wide signed) (extend a wide (not signed))) wide n (cond signed Signed SignedToUnsigned)
+    clamp (joined Add d signed a (not signed) wide) wide n (cond signed Signed SignedToUnsigned)
 
 unfoldable pub doublingProduct : (a b : Expr) (n : ℕ) → Expr
-doublingProduct a b n = clamp (Bv Shl (Bv Mul (extend a (n + 1) true) (extend b (n + 1) true)) (Const 1 (n + 1))) (n + 1) n Signed
+doublingProduct a b n = clamp (twice a b (n + 1)) (n + 1) n Signed
 
 -- a product joined to d, under a second clamp
 abbrev pub combined : Combine → (d product : Expr) (n : ℕ) → Expr
 combined Nothing d product n = product
-combined (With op) d product n = clamp (Bv op (extend d (n + 1) true) (extend product (n + 1) true)) (n + 1) n Signed
+combined (With op) d product n = clamp (joined op d true product true (n + 1)) (n + 1) n Signed
 
 unfoldable pub doublingLongLane : Combine → (d a b : Expr) (n : ℕ) → Expr
 doublingLongLane combine d a b n = combined combine d (doublingProduct a b n) n

@@ -8,10 +8,10 @@ use lib.Pow.{pow-pos, pow-mono, pow-add, pow-lt}
 use lib.IntN.{ℤ, pos, negsuc, negℤ, natAbs, _+ℤ_, _-ℤ_, _*ℤ_, +ℤ-idl}
 use lib.Signed.{ltZ}
 use Rattle.terms.specs.Expr.{Expr, Const, Bv}
-use Rattle.terms.specs.declared.BinOp.the-variants.{Add, Sub, Mul, Shl}
+use Rattle.terms.specs.declared.BinOp.the-variants.{Add, Sub}
 use Rattle.neon.specs.Arm.{cS, cU, floor}
 use Rattle.trees.specs.Lower.{extend}
-use Rattle.trees.specs.Arith.{shiftBy, plusIf, saturatingLane, mixedSignAddLane, doublingProduct, doublingLongLane}
+use Rattle.trees.specs.Arith.{plusIf, twice, shifted, saturatingLane, mixedSignAddLane, doublingProduct, doublingLongLane}
 use Rattle.trees.specs.declared.SaturateTo.the-variants.{Signed, Unsigned, SignedToUnsigned}
 use Rattle.trees.specs.declared.Saturate.the-variants.{Never, Into}
 use Rattle.trees.specs.declared.SaturatingKind.the-variants.{AddSub, Halving, Narrow, ShiftNarrow, DoublingMultiplyHigh, Unary}
@@ -131,7 +131,7 @@ module _ (r : ℕ → ℕ) where
         mul-pos : 0 < 2 ^ (n - 1) * 2 ^ (n - 1)
         mul-pos = omega (arith, mul-le-mul {n₁ = 1} {m₁ = 1} (pow-pos (n - 1)) (pow-pos (n - 1)))
 
-    pub is-doubled : (w : ℕ) → n ≤ w → Is r (Bv Shl (Bv Mul (extend a w true) (extend b w true)) (Const 1 w)) w (x *ℤ y *ℤ pos 2)
+    pub is-doubled : (w : ℕ) → n ≤ w → Is r (twice a b w) w (x *ℤ y *ℤ pos 2)
     is-doubled w h = is-shl r (is-mul r (is-extend r true hn h f p) (is-extend r true hn h g q)) (by-const r 1 w)
 
     -- at n * 2 + 1 bits the doubled product has room for half a unit
@@ -226,9 +226,8 @@ module _ (r : ℕ → ℕ) where
       pub narrow-fits : Fits s (n * 2 + 1) (floor (plus rounding x (2 ^ (i - 1))) i)
       narrow-fits = floor-fits s (n * 2 + 1) (plus rounding x (2 ^ (i - 1))) (2 ^ i) (pow-pos i) sum-fits
 
-      pub shifted : Is r (shiftBy s (plusIf rounding (extend a (n * 2 + 1) s) (Const (2 ^ (i - 1)) (n * 2 + 1))) (Const i (n * 2 + 1))) (n * 2 + 1)
-          (floor (plus rounding x (2 ^ (i - 1))) i)
-      shifted =
+      pub is-shifted : Is r (shifted s rounding (extend a (n * 2 + 1) s) (2 ^ (i - 1)) i (n * 2 + 1)) (n * 2 + 1) (floor (plus rounding x (2 ^ (i - 1))) i)
+      is-shifted =
           is-shift r s (omega arith) sum-fits
           (is-plus rounding (2 ^ (i - 1)) (omega (arith, unit-small, next (n * 2) (omega arith))) (is-extend r s (omega arith) (omega arith) f p))
           (by-const r i (n * 2 + 1))
@@ -236,22 +235,22 @@ module _ (r : ℕ → ℕ) where
     pub is-shrn : (s rounding : Bool) (i : ℕ) → Fits s (n * 2) x → 0 < i → i ≤ n
         → Is r (saturatingLane (ShiftNarrow i rounding Never) a b n s) n (floor (plus rounding x (2 ^ (i - 1))) i)
     unfolding saturatingLane
-    is-shrn s rounding i f hi h = is-cut r hn (omega arith) (shifted s rounding i f hi h)
+    is-shrn s rounding i f hi h = is-cut r hn (omega arith) (is-shifted s rounding i f hi h)
 
     pub is-sqshrn : (rounding : Bool) (i : ℕ) → FitsS (n * 2) x → 0 < i → i ≤ n
         → Is r (saturatingLane (ShiftNarrow i rounding (Into Signed)) a b n true) n (cS n (floor (plus rounding x (2 ^ (i - 1))) i))
     unfolding saturatingLane
-    is-sqshrn rounding i f hi h = is-clampS r hn (omega arith) (narrow-fits true rounding i f hi h) (shifted true rounding i f hi h)
+    is-sqshrn rounding i f hi h = is-clampS r hn (omega arith) (narrow-fits true rounding i f hi h) (is-shifted true rounding i f hi h)
 
     pub is-uqshrn : (rounding : Bool) (i : ℕ) → FitsU (n * 2) x → 0 < i → i ≤ n
         → Is r (saturatingLane (ShiftNarrow i rounding (Into Unsigned)) a b n false) n (cU n (floor (plus rounding x (2 ^ (i - 1))) i))
     unfolding saturatingLane
-    is-uqshrn rounding i f hi h = is-clampU r hn (omega arith) (narrow-fits false rounding i f hi h) (shifted false rounding i f hi h)
+    is-uqshrn rounding i f hi h = is-clampU r hn (omega arith) (narrow-fits false rounding i f hi h) (is-shifted false rounding i f hi h)
 
     pub is-sqshrun : (rounding : Bool) (i : ℕ) → FitsS (n * 2) x → 0 < i → i ≤ n
         → Is r (saturatingLane (ShiftNarrow i rounding (Into SignedToUnsigned)) a b n true) n (cU n (floor (plus rounding x (2 ^ (i - 1))) i))
     unfolding saturatingLane
-    is-sqshrun rounding i f hi h = is-clampSU r hn (omega arith) (narrow-fits true rounding i f hi h) (shifted true rounding i f hi h)
+    is-sqshrun rounding i f hi h = is-clampSU r hn (omega arith) (narrow-fits true rounding i f hi h) (is-shifted true rounding i f hi h)
 
   -- ---- doubling, long: the source lanes have h bits, the result h * 2
   module _ (a b : Expr) (h : ℕ) (x y : ℤ) (hh : 0 < h) (f : FitsS h x) (g : FitsS h y) (p : Is r a h x) (q : Is r b h y) where
