@@ -3,9 +3,9 @@ use mathlib.Core.Path.{_≡_, refl, sym, ap, ap₂, _∙_, subst}
 use mathlib.Core.Bool.{Bool, true, false, cond}
 use Prim.Native.Nat.{ℕ, suc, _+_, _-_, _*_, _%_, _^_, _≤_, _<_}
 use native.Mathlib.Omega.{arith}
-use native.Mathlib.Nat.{lt-of-lt-of-le, mul-le-mul, mul-le-mul-right, one-mul, mod-lt}
+use native.Mathlib.Nat.{lt-of-lt-of-le, one-mul, mod-lt}
 use borrow.Author.Tests.{lt-ltb, le-ltb}
-use lib.Pow.{pow-pos, pow-mono, pow-add, pow-lt}
+use lib.Pow.{pow-pos, pow-mono, pow-lt}
 use lib.IntN.{ℤ, pos, negsuc, negℤ, natAbs, _+ℤ_, _-ℤ_, _*ℤ_, +ℤ-idl}
 use lib.Signed.{ltZ}
 use Rattle.terms.specs.Value.{bvadd, bvsub, bvmul, bvshl, bvashr, bvslt}
@@ -16,13 +16,12 @@ use Rattle.wide.proofs.Words.{num-lt}
 use Rattle.wide.proofs.Digits.{low-cut}
 use Rattle.saturation.specs.Saturates.{outside}
 use Rattle.saturation.specs.Family.{rightZ, turnZ, joinZ}
-use Rattle.trees_value.proofs.Z.{up, dn, less, times, neg-up, neg-dn, ext, ge-is}
+use Rattle.trees_value.proofs.Z.{up, dn, less, neg-up, neg-dn, ext, ge-is}
 use Rattle.trees_value.proofs.Wrap.{half, wrap-is}
 use Rattle.trees_value.proofs.Bv.{FitsS, wrap-pos, add-is, sub-is, mul-is, shl-is, ashr-is, slt-is, cut-is}
 use Rattle.trees_value.proofs.Clamp.{S-fits, floor-fits}
-use Rattle.trees_value.proofs.Sat.{sumS, lessS, product-bound}
-use Rattle.trees_value.proofs.Shift.{product}
-use Rattle.trees_value.proofs.Register.{wider, rounded-fits}
+use Rattle.trees_value.proofs.Sat.{sumS, lessS, doubled-fits}
+use Rattle.trees_value.proofs.Register.{wider, scaled-fits, rounded-fits}
 use Rattle.terms.specs.declared.BinOp.{BinOp}
 use Rattle.terms.specs.declared.BinOp.the-variants.{Add, Sub, Mul, And, Or, Xor, Shl, LShr, AShr}
 use Rattle.run_exact.specs.Exact.{Held, Answers, isSub}
@@ -127,18 +126,6 @@ negative-held p e w z hw q =
       fits = lessS {x = pos 0} hw (record { low = omega arith; high = omega (arith, pow-pos (w - 1)) }) (q .fits);
     })
 
-doubled-fits : (n : ℕ) (x y : ℤ) → 0 < n → FitsS n x → FitsS n y → FitsS (n * 2 + 1) (x *ℤ y *ℤ pos 2)
-doubled-fits n x y hn f g =
-    let k = product-bound (2 ^ (n - 1)) x y (f .low) (f .high) (g .low) (g .high) in
-    let t = times (x *ℤ y) (pos 2) in
-    record { low = omega (arith, all, one); high = omega (arith, all, one) }
-  where
-    one : 0 < 2 ^ (n - 1) * 2 ^ (n - 1)
-    one = omega (arith, mul-le-mul {n₁ = 1} {m₁ = 1} (pow-pos (n - 1)) (pow-pos (n - 1)))
-
-    all : 2 ^ (n * 2 + 1 - 1) ≡ 4 * (2 ^ (n - 1) * 2 ^ (n - 1))
-    all = ap (λ (t : ℕ). 2 ^ t) {x = n * 2 + 1 - 1} {y = 2 + (n - 1 + (n - 1))} (omega arith) ∙ pow-add 2 2 (n - 1 + (n - 1)) ∙ ap (λ (t : ℕ). 4 * t) (pow-add 2 (n - 1) (n - 1))
-
 pub doubled-held : {n : ℕ} {x y : ℤ} {a b v : Wide} {p : ℕ} → 0 < n → n ≤ 64 → Held n a x → Held n b y → p ≡ bvmul 192 (num a) (num b) → num v ≡ bvshl 192 p 1
     → Held 129 v (x *ℤ y *ℤ pos 2)
 doubled-held {n} {x} {y} hn h f g e d = record {
@@ -147,15 +134,6 @@ doubled-held {n} {x} {y} hn h f g e d = record {
 }
 
 -- ---- shifts
-scaled-fits : (n k : ℕ) (x : ℤ) → 0 < n → FitsS n x → FitsS (n + k) (x *ℤ pos (2 ^ k))
-scaled-fits n k x hn f = record {
-  low = omega (arith, product x (2 ^ k), mul-le-mul-right (2 ^ k) (f .low), whole);
-  high = omega (arith, product x (2 ^ k), mul-le-mul-right (2 ^ k) (f .high), whole, pow-pos k);
-}
-  where
-    whole : 2 ^ (n + k - 1) ≡ 2 ^ (n - 1) * 2 ^ k
-    whole = ap (λ (t : ℕ). 2 ^ t) {x = n + k - 1} {y = n - 1 + k} (omega arith) ∙ pow-add 2 (n - 1) k
-
 pub scaled-held : (k : ℕ) {a v : Wide} → num v ≡ bvshl 192 (num a) k → (w : ℕ) (z : ℤ) → 0 < w → Held w a z → Held (w + k) v (scale z k)
 scaled-held k e w z hw p = record { stands = e ∙ ap (λ (t : ℕ). bvshl 192 t k) (p .stands) ∙ shl-is 192 z k; fits = scaled-fits w k z hw (p .fits) }
 

@@ -15,8 +15,8 @@ use Rattle.trees.specs.declared.SaturatingKind.the-variants.{AddSub, Narrow}
 use Rattle.trees_value.proofs.Z.{neg-up, neg-dn, ge-is}
 use Rattle.trees_value.proofs.Wrap.{half}
 use Rattle.trees_value.proofs.Bv.{FitsS, FitsU}
-use Rattle.trees_value.proofs.Is.{Is, is-eq, is-const, is-negative, is-add, is-sub, is-ite, is-extend, says-slt, says-ult}
-use Rattle.trees_value.proofs.Sat.{sumS, lessS, sumU, lessU, applyZ, is-apply}
+use Rattle.trees_value.proofs.Is.{Is, is-eq, is-const, is-negative, is-ite, says-slt, says-ult}
+use Rattle.trees_value.proofs.Sat.{sumU, lessU, applyZ, apply-fits, is-joined}
 use Rattle.saturation.specs.Saturates.{outside, beyondS, beyondU}
 use Rattle.saturation.specs.Bits.{clipped, saturatingBit}
 
@@ -111,22 +111,17 @@ module _ (r : ℕ → ℕ) where
 
   -- ---- sums and differences, 19 to 22
   module _ (a b : Expr) (n : ℕ) (x y : ℤ) (hn : 0 < n) (p : Is r a n x) (q : Is r b n y) where
-    fitsS : (subtract : Bool) → FitsS n x → FitsS n y → FitsS (n + 1) (applyZ subtract x y)
-    fitsS false f g = sumS hn f g
-    fitsS true f g = lessS hn f g
-
     pub bit-sqaddsub : (subtract : Bool) → FitsS n x → FitsS n y → Is r (saturatingBit (AddSub (cond subtract Sub Add) Signed) a b n true) 1 (pos (bit (beyondS n (applyZ subtract x y))))
     unfolding saturatingBit
-    bit-sqaddsub subtract f g =
-        is-clippedS hn (omega arith) (fitsS subtract f g) (is-apply r subtract (is-extend r true hn (omega arith) f p) (is-extend r true hn (omega arith) g q))
+    bit-sqaddsub subtract f g = is-clippedS hn (omega arith) (apply-fits r subtract hn f g) (is-joined r subtract true true hn (omega arith) f g p q)
 
     pub bit-uqadd : FitsU n x → FitsU n y → Is r (saturatingBit (AddSub Add Unsigned) a b n false) 1 (pos (bit (beyondU n (x +ℤ y))))
     unfolding saturatingBit
-    bit-uqadd f g = is-clippedU hn (omega arith) (sumU hn f g) (is-add r (is-extend r false hn (omega arith) f p) (is-extend r false hn (omega arith) g q))
+    bit-uqadd f g = is-clippedU hn (omega arith) (sumU hn f g) (is-joined r false false false hn (omega arith) f g p q)
 
     pub bit-uqsub : FitsU n x → FitsU n y → Is r (saturatingBit (AddSub Sub SignedToUnsigned) a b n false) 1 (pos (bit (beyondU n (x -ℤ y))))
     unfolding saturatingBit
-    bit-uqsub f g = is-clippedSU hn (omega arith) (lessU hn f g) (is-sub r (is-extend r false hn (omega arith) f p) (is-extend r false hn (omega arith) g q))
+    bit-uqsub f g = is-clippedSU hn (omega arith) (lessU hn f g) (is-joined r true false false hn (omega arith) f g p q)
 
   -- ---- narrowing, 27 to 29
   module _ (a b : Expr) (n : ℕ) (x : ℤ) (hn : 0 < n) (p : Is r a (n * 2) x) where

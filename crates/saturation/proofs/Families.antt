@@ -1,11 +1,10 @@
 -- The bit of a lane by family, and of each of the 67 operations: 1 exactly where the lane saturates. Assumes nothing.
-use mathlib.Core.Path.{_≡_, refl, sym, ap, _∙_, subst}
+use mathlib.Core.Path.{_≡_, refl, sym, ap, subst}
 use mathlib.Core.Bool.{Bool, true, false, cond, _||_}
 use Prim.Native.Nat.{ℕ, suc, _+_, _-_, _*_, _/_, _^_, _≤_, _<_}
 use native.Mathlib.Omega.{arith}
-use native.Mathlib.Nat.{mul-le-mul-right}
 use lib.Bits.{bitOr}
-use lib.Pow.{pow-pos, pow-add, pow-mono}
+use lib.Pow.{pow-pos, pow-mono}
 use lib.IntN.{ℤ, pos, negsuc, negℤ, natAbs, _+ℤ_, _*ℤ_}
 use Rattle.terms.specs.Expr.{Expr, Const, Bv, Compare, Ite, width}
 use Rattle.terms.specs.Value.{value, bit}
@@ -21,13 +20,11 @@ use Rattle.trees.specs.declared.SaturatingKind.the-variants.{ShiftNarrow, Doubl
 use Rattle.trees.specs.declared.Combine.the-variants.{With}
 use Rattle.trees.specs.Arith.{signedAmount}
 use Rattle.trees.specs.Neon.{neonOp}
-use Rattle.trees_value.proofs.Z.{sum, ge-is}
-use Rattle.trees_value.proofs.Wrap.{half}
+use Rattle.trees_value.proofs.Z.{ge-is}
 use Rattle.trees_value.proofs.Bv.{FitsS, FitsU, Fits}
-use Rattle.trees_value.proofs.Is.{Is, Has, has-number, is-number, by-const, by-is, is-eq, is-const, is-add, is-ashr, is-shl, is-sext, is-extend, is-ite, is-then, is-else, says-slt}
+use Rattle.trees_value.proofs.Is.{Is, Has, has-number, is-number, by-const, by-is, is-eq, is-const, is-then, is-else, says-slt}
 use Rattle.trees_value.proofs.Clamp.{floor-fits, clamp-fits, S-fits, is-reading}
-use Rattle.trees_value.proofs.Shift.{product}
-use Rattle.trees_value.proofs.Register.{turned, wider, byte-fits, is-amount, rounded-fits}
+use Rattle.trees_value.proofs.Register.{turned, exact-fits, is-scaled, wider, byte-fits, is-amount, rounded-fits}
 use Rattle.trees_value.proofs.Sat as sat
 use Rattle.trees_value.proofs.Sat.{applyZ, plus}
 use Rattle.trees_value.proofs.Lane.{Sources}
@@ -83,34 +80,22 @@ module _ (r : ℕ → ℕ) where
   module _ (a b : Expr) (n : ℕ) (x : ℤ) (hn : 0 < n) (f : FitsS n x) (p : Is r a n x) where
     pub bit-sqneg : Is r (saturatingBit (Unary true) a b n true) 1 (pos (bit (beyondS n (negℤ x))))
     unfolding saturatingBit
-    bit-sqneg = is-clippedS r hn (omega arith) (sat.minus-fits r a b n x hn f p) (sat.minus r a b n x hn f p)
+    bit-sqneg = is-clippedS r hn (omega arith) (sat.minus-fits r a b n x hn f p) (sat.is-minus r a b n x hn f p)
 
     pub bit-sqabs : Is r (saturatingBit (Unary false) a b n true) 1 (pos (bit (beyondS n (pos (natAbs x)))))
     unfolding saturatingBit
-    bit-sqabs =
-        is-clippedS r hn (omega arith) (sat.abs-fits r a b n x hn f p x (sat.x-fits r a b n x hn f p) (sat.minus-fits r a b n x hn f p))
-        (is-eq r (sat.abs-is r a b n x hn f p x)
-        (is-ite r (says-slt r (omega arith) (sat.x-fits r a b n x hn f p) (sat.zero-fits (n + 1)) (sat.wide-x r a b n x hn f p) (is-const r 0 (n + 1) (pow-pos (n + 1))))
-        (sat.minus r a b n x hn f p) (sat.wide-x r a b n x hn f p)))
+    bit-sqabs = is-clippedS r hn (omega arith) (sat.abs-fits r a b n x hn f p) (sat.is-abs r a b n x hn f p)
 
   -- ---- doubling, the high half: 40 and 41
   module _ (a b : Expr) (n : ℕ) (x y : ℤ) (hn : 0 < n) (f : FitsS n x) (g : FitsS n y) (p : Is r a n x) (q : Is r b n y) where
     pub bit-dmulh : (rounding : Bool) → Is r (saturatingBit (DoublingMultiplyHigh rounding) a b n true) 1 (pos (bit (beyondS n (floor (plus rounding (x *ℤ y *ℤ pos 2) (2 ^ (n - 1))) n))))
     unfolding saturatingBit
-    bit-dmulh rounding =
-        is-clippedS r hn (omega arith) (floor-fits true (n * 2 + 1) (plus rounding (x *ℤ y *ℤ pos 2) (2 ^ (n - 1))) (2 ^ n) (pow-pos n) (sat.high-fits r a b n x y hn f g p q rounding))
-        (is-ashr r (omega arith) (sat.high-fits r a b n x y hn f g p q rounding)
-        (sat.is-plus r rounding (2 ^ (n - 1)) small (sat.is-doubled r a b n x y hn f g p q (n * 2 + 1) (omega arith))) (by-const r n (n * 2 + 1)))
-      where
-        small : 2 ^ (n - 1) < 2 ^ (n * 2 + 1)
-        small = omega (arith, half n hn, pow-mono {i = n} {j = n * 2 + 1} (omega arith), pow-pos (n - 1))
+    bit-dmulh rounding = is-clippedS r hn (omega arith) (sat.floor-high n x y hn f g rounding) (sat.is-high r a b n x y hn f g p q rounding)
 
   -- ---- doubling, long: 42 to 53
   module _ (a b : Expr) (h : ℕ) (x y : ℤ) (hh : 0 < h) (f : FitsS h x) (g : FitsS h y) (p : Is r a h x) (q : Is r b h y) where
     pub bit-dmull : Is r (productBit a b (h * 2)) 1 (pos (bit (beyondS (h * 2) (x *ℤ y *ℤ pos 2))))
-    bit-dmull =
-        is-clippedS r (omega arith) (omega arith) (sat.doubled-fits r a b h x y hh f g p q (h * 2 + 1) (sat.long-power r a b h x y hh f g p q))
-        (sat.is-doubled r a b h x y hh f g p q (h * 2 + 1) (omega arith))
+    bit-dmull = is-clippedS r (omega arith) (omega arith) (sat.doubled-fits h x y hh f g) (sat.is-doubled r a b h x y hh f g p q (h * 2 + 1) (omega arith))
 
     pub bit-dmlal : (subtract : Bool) (d : Expr) (z : ℤ) → FitsS (h * 2) z → Is r d (h * 2) z
         → BitIs (doublingLongBit (With (cond subtract Sub Add)) d a b (h * 2)) (beyondS (h * 2) (x *ℤ y *ℤ pos 2) || beyondS (h * 2) (applyZ subtract z (cS (h * 2) (x *ℤ y *ℤ pos 2))))
@@ -119,39 +104,23 @@ module _ (r : ℕ → ℕ) where
         either (as-bit (beyondS (h * 2) (x *ℤ y *ℤ pos 2)) bit-dmull)
         (as-bit (beyondS (h * 2) (applyZ subtract z (cS (h * 2) (x *ℤ y *ℤ pos 2))))
         (is-clippedS r (omega arith) (omega arith) (sat.apply-fits r subtract (omega arith) k (clamp-fits (h * 2) (x *ℤ y *ℤ pos 2)))
-        (sat.is-apply r subtract (is-extend r true (omega arith) (omega arith) k o)
-        (is-extend r true (omega arith) (omega arith) (clamp-fits (h * 2) (x *ℤ y *ℤ pos 2)) (sat.is-dmull r a b h x y hh f g p q)))))
+        (sat.is-joined r subtract true true (omega arith) (omega arith) k (clamp-fits (h * 2) (x *ℤ y *ℤ pos 2)) o (sat.is-dmull r a b h x y hh f g p q))))
 
   -- ---- the mixed signs, 54 and 55
   module _ (d a : Expr) (n : ℕ) (z x : ℤ) (hn : 0 < n) (o : Is r d n z) (p : Is r a n x) where
     pub bit-suqadd : FitsS n z → FitsU n x → Is r (mixedSignBit true d a n) 1 (pos (bit (beyondS n (z +ℤ x))))
     unfolding mixedSignBit
-    bit-suqadd f g =
-        is-clippedS r hn (omega arith)
-        (record { low = omega (arith, sat.two-power r d a n z x hn o p, sum z x, half n hn); high = omega (arith, sat.two-power r d a n z x hn o p, sum z x, half n hn) })
-        (is-add r (is-extend r true hn (omega arith) f o) (is-extend r false hn (omega arith) g p))
+    bit-suqadd f g = is-clippedS r hn (omega arith) (sat.sumSU hn f g) (sat.is-joined r false true false hn (omega arith) f g o p)
 
     pub bit-usqadd : FitsU n z → FitsS n x → Is r (mixedSignBit false d a n) 1 (pos (bit (beyondU n (z +ℤ x))))
     unfolding mixedSignBit
-    bit-usqadd f g =
-        is-clippedSU r hn (omega arith)
-        (record { low = omega (arith, sat.two-power r d a n z x hn o p, sum z x, half n hn); high = omega (arith, sat.two-power r d a n z x hn o p, sum z x, half n hn) })
-        (is-add r (is-extend r false hn (omega arith) f o) (is-extend r true hn (omega arith) g p))
+    bit-usqadd f g = is-clippedSU r hn (omega arith) (sat.sumUS hn f g) (sat.is-joined r false false true hn (omega arith) f g o p)
 
   -- ---- shifts by an immediate, 2 to 4
   module _ (v : Expr) (n i : ℕ) (x : ℤ) (hn : 0 < n) (f : FitsS n x) (p : Is r v n x) where
     pub bit-sqshlu : Is r (shiftBit (LeftImmediate i (Into SignedToUnsigned)) true v v n) 1 (pos (bit (beyondU n (scale x i))))
     unfolding shiftBit
-    bit-sqshlu = is-clippedSU r hn (omega arith) fits (is-shl r (is-sext r hn (omega arith) f p) (by-const r i (n + i + 1)))
-      where
-        power : 2 ^ (n + i + 1 - 1) ≡ 2 * (2 ^ (n - 1) * 2 ^ i)
-        power = ap (λ (t : ℕ). 2 ^ t) (omega arith) ∙ pow-add 2 n i ∙ ap (λ (t : ℕ). t * 2 ^ i) (half n hn) ∙ omega arith
-
-        fits : FitsS (n + i + 1) (scale x i)
-        fits = record {
-          low = omega (arith, power, product x (2 ^ i), mul-le-mul-right (2 ^ i) (f .low));
-          high = omega (arith, power, product x (2 ^ i), mul-le-mul-right (2 ^ i) (f .high), pow-pos i);
-        }
+    bit-sqshlu = is-clippedSU r hn (omega arith) (exact-fits r v n i x hn f p) (is-scaled r v n i x hn f p)
 
   -- ---- shifts by a register, 13 to 16
   module _ (rounding s : Bool) (v raw : Expr) (n : ℕ) (x : ℤ) (hn : 8 ≤ n) (f : Fits s n x) (p : Is r v n x) where

@@ -14,7 +14,7 @@ use Rattle.terms.specs.declared.BinOp.the-variants.{Sub}
 use Rattle.terms.specs.declared.CmpOp.the-variants.{Slt}
 use Rattle.neon.specs.Arm.{wrap, S, cU, floor, round, scale, byte, shiftZ, roundZ}
 use Rattle.trees.specs.Simd.{extractCollapsing}
-use Rattle.trees.specs.Arith.{shiftBy, shiftRight, saturatingShiftLeft, registerShiftMax, leftImmediate, signedAmount, leftBy, shiftLane}
+use Rattle.trees.specs.Arith.{shiftBy, scaled, shiftRight, saturatingShiftLeft, registerShiftMax, leftImmediate, signedAmount, leftBy, shiftLane}
 use Rattle.trees.specs.declared.SaturateTo.the-variants.{SignedToUnsigned}
 use Rattle.trees.specs.declared.Saturate.the-variants.{Never, Into}
 use Rattle.trees.specs.declared.ShiftKind.the-variants.{Register}
@@ -40,6 +40,16 @@ wider n w z h f = record { low = omega (arith, m); high = omega (arith, m) }
   where
     m : 2 ^ (n - 1) ≤ 2 ^ (w - 1)
     m = pow-mono (omega arith)
+
+-- a shift to the left has room in as many bits more
+pub scaled-fits : (n k : ℕ) (x : ℤ) → 0 < n → FitsS n x → FitsS (n + k) (scale x k)
+scaled-fits n k x hn f = record {
+  low = omega (arith, product x (2 ^ k), mul-le-mul-right (2 ^ k) (f .low), whole);
+  high = omega (arith, product x (2 ^ k), mul-le-mul-right (2 ^ k) (f .high), whole, pow-pos k);
+}
+  where
+    whole : 2 ^ (n + k - 1) ≡ 2 ^ (n - 1) * 2 ^ k
+    whole = ap (λ (t : ℕ). 2 ^ t) {x = n + k - 1} {y = n - 1 + k} (omega arith) ∙ pow-add 2 (n - 1) k
 
 pub is-amount : (r : ℕ → ℕ) (raw : Expr) (n y : ℕ) → 8 ≤ n → y < 2 ^ n → Is r raw n (pos y) → Is r (signedAmount raw n) n (byte y)
 is-amount r raw n y h l p = go (ltb 8 n) refl
@@ -185,15 +195,11 @@ module _ (r : ℕ → ℕ) (s : Bool) (v : Expr) (n i : ℕ) (x : ℤ) (hn : 0 <
       is-round n i i hn hi (omega arith) r s v (Const i n) x f small p (is-const r i n small)
 
 module _ (r : ℕ → ℕ) (v : Expr) (n i : ℕ) (x : ℤ) (hn : 0 < n) (f : FitsS n x) (p : Is r v n x) where
-  pub is-sqshlu : Is r (leftImmediate (Into SignedToUnsigned) v i n true) n (cU n (scale x i))
-  is-sqshlu =
-      is-clampSU r hn (omega arith) fits (is-shl r (is-sext r hn (omega arith) f p) (by-const r i (n + i + 1)))
-    where
-      power : 2 ^ (n + i + 1 - 1) ≡ 2 * (2 ^ (n - 1) * 2 ^ i)
-      power = ap (λ (t : ℕ). 2 ^ t) (omega arith) ∙ pow-add 2 n i ∙ ap (λ (t : ℕ). t * 2 ^ i) (half n hn) ∙ omega arith
+  pub exact-fits : FitsS (n + i + 1) (scale x i)
+  exact-fits = wider (n + i) (n + i + 1) (scale x i) (omega arith) (scaled-fits n i x hn f)
 
-      fits : FitsS (n + i + 1) (scale x i)
-      fits = record {
-        low = omega (arith, power, product x (2 ^ i), mul-le-mul-right (2 ^ i) (f .low));
-        high = omega (arith, power, product x (2 ^ i), mul-le-mul-right (2 ^ i) (f .high), pow-pos i);
-      }
+  pub is-scaled : Is r (scaled v i (n + i + 1)) (n + i + 1) (scale x i)
+  is-scaled = is-shl r (is-sext r hn (omega arith) f p) (by-const r i (n + i + 1))
+
+  pub is-sqshlu : Is r (leftImmediate (Into SignedToUnsigned) v i n true) n (cU n (scale x i))
+  is-sqshlu = is-clampSU r hn (omega arith) exact-fits is-scaled

@@ -11,7 +11,7 @@ use Rattle.terms.specs.Expr.{Expr, Const, Bv}
 use Rattle.terms.specs.declared.BinOp.the-variants.{Add, Sub}
 use Rattle.neon.specs.Arm.{cS, cU, floor}
 use Rattle.trees.specs.Lower.{extend}
-use Rattle.trees.specs.Arith.{plusIf, twice, shifted, saturatingLane, mixedSignAddLane, doublingProduct, doublingLongLane}
+use Rattle.trees.specs.Arith.{plusIf, joined, twice, shifted, exactLane, saturatingLane, mixedSignAddLane, doublingProduct, doublingLongLane}
 use Rattle.trees.specs.declared.SaturateTo.the-variants.{Signed, Unsigned, SignedToUnsigned}
 use Rattle.trees.specs.declared.Saturate.the-variants.{Never, Into}
 use Rattle.trees.specs.declared.SaturatingKind.the-variants.{AddSub, Halving, Narrow, ShiftNarrow, DoublingMultiplyHigh, Unary}
@@ -32,7 +32,10 @@ pub record Next (n : ℕ) : Type 0 where
 pub next : (n : ℕ) → 0 < n → Next n
 next n h = record { top = ap (λ (k : ℕ). 2 ^ k) (omega arith); all = pow-add 2 n 1 ∙ omega arith; bits = half n h; some = pow-pos (n - 1) }
 
-pub zero-fits : (w : ℕ) → FitsS w (pos 0)
+two-power : (n : ℕ) → 0 < n → 2 ^ (n + 2 - 1) ≡ 4 * 2 ^ (n - 1)
+two-power n h = ap (λ (k : ℕ). 2 ^ k) (omega arith) ∙ pow-add 2 n 1 ∙ omega (arith, half n h)
+
+zero-fits : (w : ℕ) → FitsS w (pos 0)
 zero-fits w = record { low = omega arith; high = omega (arith, pow-pos (w - 1)) }
 
 -- a value with a constant added, or not
@@ -59,6 +62,13 @@ module _ {n : ℕ} {x y : ℤ} (hn : 0 < n) where
   pub lessU : FitsU n x → FitsU n y → FitsS (n + 1) (x -ℤ y)
   lessU f g = record { low = omega (arith, less x y, next n hn); high = omega (arith, less x y, next n hn) }
 
+  -- and two bits more, of a sum of mixed sign
+  pub sumSU : FitsS n x → FitsU n y → FitsS (n + 2) (x +ℤ y)
+  sumSU f g = record { low = omega (arith, two-power n hn, sum x y, half n hn); high = omega (arith, two-power n hn, sum x y, half n hn) }
+
+  pub sumUS : FitsU n x → FitsS n y → FitsS (n + 2) (x +ℤ y)
+  sumUS f g = record { low = omega (arith, two-power n hn, sum x y, half n hn); high = omega (arith, two-power n hn, sum x y, half n hn) }
+
 -- and one added to the sum of two
 sum1 : (s rounding : Bool) (n : ℕ) (x y : ℤ) → 0 < n → Fits s n x → Fits s n y → Fits s (n + 1) (plus rounding (x +ℤ y) 1)
 sum1 true true n x y hn f g = record { low = omega (arith, sum x y, sum (x +ℤ y) (pos 1), next n hn); high = omega (arith, sum x y, sum (x +ℤ y) (pos 1), next n hn) }
@@ -73,7 +83,7 @@ plus-fits true false n c x hn h f = record { low = omega (arith, next n hn); hig
 plus-fits false false n c x hn h f = record { low = omega (arith, next n hn); high = omega (arith, next n hn) }
 
 -- a product of two signed numbers of n bits is at most 2 ^ (n - 1) squared
-pub product-bound : (h : ℕ) (x y : ℤ) → dn x ≤ up x + h → up x < dn x + h → dn y ≤ up y + h → up y < dn y + h
+product-bound : (h : ℕ) (x y : ℤ) → dn x ≤ up x + h → up x < dn x + h → dn y ≤ up y + h → up y < dn y + h
     → (up (x *ℤ y) ≤ dn (x *ℤ y) + h * h) × (dn (x *ℤ y) ≤ up (x *ℤ y) + h * h)
 product-bound h (pos a) (pos b) l u m v =
     (omega (arith, mul-le-mul {n₁ = a} {m₁ = b} {n₂ = h} {m₂ = h} (omega arith) (omega arith)), omega arith)
@@ -86,11 +96,46 @@ product-bound h (negsuc a) (pos b) l u m v =
 product-bound h (negsuc a) (negsuc b) l u m v =
     (omega (arith, mul-le-mul {n₁ = suc a} {m₁ = suc b} {n₂ = h} {m₂ = h} (omega arith) (omega arith)), omega arith)
 
+-- doubled, it has room for half a unit at n * 2 + 1 bits
+module _ (n : ℕ) (x y : ℤ) (hn : 0 < n) (f : FitsS n x) (g : FitsS n y) where
+  high-power : 2 ^ (n * 2 + 1 - 1) ≡ 4 * (2 ^ (n - 1) * 2 ^ (n - 1))
+  high-power = ap (λ (k : ℕ). 2 ^ k) (omega arith) ∙ pow-add 2 n n ∙ ap₂ _*_ (half n hn) (half n hn) ∙ omega arith
+
+  room : 2 ^ (n - 1) ≤ 2 ^ (n - 1) * 2 ^ (n - 1)
+  room = omega (arith, mul-le-mul-left (2 ^ (n - 1)) (pow-pos (n - 1)))
+
+  high-fits : (rounding : Bool) → FitsS (n * 2 + 1) (plus rounding (x *ℤ y *ℤ pos 2) (2 ^ (n - 1)))
+  high-fits false =
+      let k = product-bound (2 ^ (n - 1)) x y (f .low) (f .high) (g .low) (g .high) in
+      let o : 0 < 2 ^ (n - 1) = pow-pos (n - 1) in
+      record { low = omega (arith, high-power, room, times (x *ℤ y) (pos 2)); high = omega (arith, high-power, room, times (x *ℤ y) (pos 2)) }
+  high-fits true =
+      let k = product-bound (2 ^ (n - 1)) x y (f .low) (f .high) (g .low) (g .high) in
+      let t = times (x *ℤ y) (pos 2) in
+      let u = sum (x *ℤ y *ℤ pos 2) (pos (2 ^ (n - 1))) in
+      let o : 0 < 2 ^ (n - 1) = pow-pos (n - 1) in
+      record { low = omega (arith, high-power, room); high = omega (arith, high-power, room) }
+
+  pub doubled-fits : FitsS (n * 2 + 1) (x *ℤ y *ℤ pos 2)
+  doubled-fits = high-fits false
+
+  pub floor-high : (rounding : Bool) → FitsS (n * 2 + 1) (floor (plus rounding (x *ℤ y *ℤ pos 2) (2 ^ (n - 1))) n)
+  floor-high rounding = floor-fits true (n * 2 + 1) (plus rounding (x *ℤ y *ℤ pos 2) (2 ^ (n - 1))) (2 ^ n) (pow-pos n) (high-fits rounding)
+
 -- ---- the families
 module _ (r : ℕ → ℕ) where
   pub is-plus : (t : Bool) {v : Expr} {w : ℕ} {z : ℤ} (c : ℕ) → c < 2 ^ w → Is r v w z → Is r (plusIf t v (Const c w)) w (plus t z c)
   is-plus true {w = w} c h p = is-add r p (is-const r c w h)
   is-plus false c h p = p
+
+  pub is-apply : (subtract : Bool) {a b : Expr} {w : ℕ} {x y : ℤ} → Is r a w x → Is r b w y → Is r (Bv (cond subtract Sub Add) a b) w (applyZ subtract x y)
+  is-apply false p q = is-add r p q
+  is-apply true p q = is-sub r p q
+
+  -- two lanes of n bits, each read by its own sign
+  pub is-joined : (subtract s t : Bool) {a b : Expr} {n w : ℕ} {x y : ℤ} → 0 < n → n ≤ w → Fits s n x → Fits t n y → Is r a n x → Is r b n y
+      → Is r (joined (cond subtract Sub Add) a s b t w) w (applyZ subtract x y)
+  is-joined subtract s t hn h f g p q = is-apply subtract (is-extend r s hn h f p) (is-extend r t hn h g q)
 
   -- two lanes of n bits, read signed or unsigned
   module _ (s : Bool) (a b : Expr) (n : ℕ) (x y : ℤ) (hn : 0 < n) (f : Fits s n x) (g : Fits s n y) (p : Is r a n x) (q : Is r b n y) where
@@ -102,12 +147,8 @@ module _ (r : ℕ → ℕ) where
     is-halving rounding =
         is-cut r hn one-more
         (is-shift r s (omega arith) (sum1 s rounding n x y hn f g)
-        (is-plus rounding 1 (omega (arith, next n hn)) (is-add r (is-extend r s hn one-more f p) (is-extend r s hn one-more g q)))
+        (is-plus rounding 1 (omega (arith, next n hn)) (is-joined false s s hn one-more f g p q))
         (by-const r 1 (n + 1)))
-
-  pub is-apply : (subtract : Bool) {a b : Expr} {w : ℕ} {x y : ℤ} → Is r a w x → Is r b w y → Is r (Bv (cond subtract Sub Add) a b) w (applyZ subtract x y)
-  is-apply false p q = is-add r p q
-  is-apply true p q = is-sub r p q
 
   pub apply-fits : (subtract : Bool) {n : ℕ} {x y : ℤ} → 0 < n → FitsS n x → FitsS n y → FitsS (n + 1) (applyZ subtract x y)
   apply-fits false hn f g = sumS hn f g
@@ -117,90 +158,70 @@ module _ (r : ℕ → ℕ) where
   module _ (a b : Expr) (n : ℕ) (x y : ℤ) (hn : 0 < n) (f : FitsS n x) (g : FitsS n y) (p : Is r a n x) (q : Is r b n y) where
     pub is-sqaddsub : (subtract : Bool) → Is r (saturatingLane (AddSub (cond subtract Sub Add) Signed) a b n true) n (cS n (applyZ subtract x y))
     unfolding saturatingLane
-    is-sqaddsub subtract =
-        is-clampS r hn (omega arith) (apply-fits subtract hn f g) (is-apply subtract (is-extend r true hn (omega arith) f p) (is-extend r true hn (omega arith) g q))
-
-    -- the doubled product at any width above it
-    pub doubled-fits : (w : ℕ) → 2 ^ (w - 1) ≡ 4 * (2 ^ (n - 1) * 2 ^ (n - 1)) → FitsS w (x *ℤ y *ℤ pos 2)
-    doubled-fits w e =
-        let k = product-bound (2 ^ (n - 1)) x y (f .low) (f .high) (g .low) (g .high) in
-        let t = times (x *ℤ y) (pos 2) in
-        let m : 0 < 2 ^ (n - 1) * 2 ^ (n - 1) = mul-pos in
-        record { low = omega arith; high = omega arith }
-      where
-        mul-pos : 0 < 2 ^ (n - 1) * 2 ^ (n - 1)
-        mul-pos = omega (arith, mul-le-mul {n₁ = 1} {m₁ = 1} (pow-pos (n - 1)) (pow-pos (n - 1)))
+    is-sqaddsub subtract = is-clampS r hn (omega arith) (apply-fits subtract hn f g) (is-joined subtract true true hn (omega arith) f g p q)
 
     pub is-doubled : (w : ℕ) → n ≤ w → Is r (twice a b w) w (x *ℤ y *ℤ pos 2)
     is-doubled w h = is-shl r (is-mul r (is-extend r true hn h f p) (is-extend r true hn h g q)) (by-const r 1 w)
 
-    -- at n * 2 + 1 bits the doubled product has room for half a unit
-    pub high-power : 2 ^ (n * 2 + 1 - 1) ≡ 4 * (2 ^ (n - 1) * 2 ^ (n - 1))
-    high-power =
-        ap (λ (k : ℕ). 2 ^ k) (omega arith) ∙ pow-add 2 n n ∙ ap₂ _*_ (half n hn) (half n hn) ∙ omega arith
-
-    pub high-fits : (rounding : Bool) → FitsS (n * 2 + 1) (plus rounding (x *ℤ y *ℤ pos 2) (2 ^ (n - 1)))
-    high-fits false = doubled-fits (n * 2 + 1) high-power
-    high-fits true =
-        let k = product-bound (2 ^ (n - 1)) x y (f .low) (f .high) (g .low) (g .high) in
-        let t = times (x *ℤ y) (pos 2) in
-        let u = sum (x *ℤ y *ℤ pos 2) (pos (2 ^ (n - 1))) in
-        let m : 2 ^ (n - 1) ≤ 2 ^ (n - 1) * 2 ^ (n - 1) = omega (arith, mul-le-mul-left (2 ^ (n - 1)) (pow-pos (n - 1))) in
-        let o : 0 < 2 ^ (n - 1) = pow-pos (n - 1) in
-        record { low = omega (arith, high-power); high = omega (arith, high-power) }
-
-    pub is-dmulh : (rounding : Bool) → Is r (saturatingLane (DoublingMultiplyHigh rounding) a b n true) n (cS n (floor (plus rounding (x *ℤ y *ℤ pos 2) (2 ^ (n - 1))) n))
-    unfolding saturatingLane
-    is-dmulh rounding =
-        is-clampS r hn (omega arith) (floor-fits true (n * 2 + 1) (plus rounding (x *ℤ y *ℤ pos 2) (2 ^ (n - 1))) (2 ^ n) (pow-pos n) (high-fits rounding))
-        (is-ashr r (omega arith) (high-fits rounding)
-        (is-plus rounding (2 ^ (n - 1)) small (is-doubled (n * 2 + 1) (omega arith))) (by-const r n (n * 2 + 1)))
+    pub is-high : (rounding : Bool) → Is r (exactLane (DoublingMultiplyHigh rounding) a b n true) (n * 2 + 1) (floor (plus rounding (x *ℤ y *ℤ pos 2) (2 ^ (n - 1))) n)
+    is-high rounding =
+        is-ashr r (omega arith) (high-fits n x y hn f g rounding)
+        (is-plus rounding (2 ^ (n - 1)) small (is-doubled (n * 2 + 1) (omega arith))) (by-const r n (n * 2 + 1))
       where
         small : 2 ^ (n - 1) < 2 ^ (n * 2 + 1)
         small = omega (arith, half n hn, pow-mono {i = n} {j = n * 2 + 1} (omega arith), pow-pos (n - 1))
+
+    pub is-dmulh : (rounding : Bool) → Is r (saturatingLane (DoublingMultiplyHigh rounding) a b n true) n (cS n (floor (plus rounding (x *ℤ y *ℤ pos 2) (2 ^ (n - 1))) n))
+    unfolding saturatingLane
+    is-dmulh rounding = is-clampS r hn (omega arith) (floor-high n x y hn f g rounding) (is-high rounding)
 
   -- two unsigned lanes
   module _ (a b : Expr) (n : ℕ) (x y : ℤ) (hn : 0 < n) (f : FitsU n x) (g : FitsU n y) (p : Is r a n x) (q : Is r b n y) where
     pub is-uqadd : Is r (saturatingLane (AddSub Add Unsigned) a b n false) n (cU n (x +ℤ y))
     unfolding saturatingLane
-    is-uqadd = is-clampU r hn (omega arith) (sumU hn f g) (is-add r (is-extend r false hn (omega arith) f p) (is-extend r false hn (omega arith) g q))
+    is-uqadd = is-clampU r hn (omega arith) (sumU hn f g) (is-joined false false false hn (omega arith) f g p q)
 
     pub is-uqsub : Is r (saturatingLane (AddSub Sub SignedToUnsigned) a b n false) n (cU n (x -ℤ y))
     unfolding saturatingLane
-    is-uqsub = is-clampSU r hn (omega arith) (lessU hn f g) (is-sub r (is-extend r false hn (omega arith) f p) (is-extend r false hn (omega arith) g q))
+    is-uqsub = is-clampSU r hn (omega arith) (lessU hn f g) (is-joined true false false hn (omega arith) f g p q)
 
   -- ---- one signed lane: the negative and the absolute value
   module _ (a b : Expr) (n : ℕ) (x : ℤ) (hn : 0 < n) (f : FitsS n x) (p : Is r a n x) where
-    pub wide-x : Is r (extend a (n + 1) true) (n + 1) x
+    wide-x : Is r (extend a (n + 1) true) (n + 1) x
     wide-x = is-extend r true hn (omega arith) f p
 
-    pub minus : Is r (Bv Sub (Const 0 (n + 1)) (extend a (n + 1) true)) (n + 1) (negℤ x)
-    minus = is-eq r (+ℤ-idl (negℤ x)) (is-sub r (is-const r 0 (n + 1) (pow-pos (n + 1))) wide-x)
+    pub is-minus : Is r (exactLane (Unary true) a b n true) (n + 1) (negℤ x)
+    is-minus = is-eq r (+ℤ-idl (negℤ x)) (is-sub r (is-const r 0 (n + 1) (pow-pos (n + 1))) wide-x)
 
     pub minus-fits : FitsS (n + 1) (negℤ x)
     minus-fits = record { low = omega (arith, neg-up x, neg-dn x, next n hn); high = omega (arith, neg-up x, neg-dn x, next n hn) }
 
-    pub x-fits : FitsS (n + 1) x
+    x-fits : FitsS (n + 1) x
     x-fits = record { low = omega (arith, next n hn); high = omega (arith, next n hn) }
 
-    pub abs-is : (x : ℤ) → cond (ltZ x (pos 0)) (negℤ x) x ≡ pos (natAbs x)
+    abs-is : (x : ℤ) → cond (ltZ x (pos 0)) (negℤ x) x ≡ pos (natAbs x)
     abs-is (pos m) = rw (ge-is (pos m) (pos 0) (omega arith))
     abs-is (negsuc m) = refl
 
-    pub abs-fits : (x : ℤ) → FitsS (n + 1) x → FitsS (n + 1) (negℤ x) → FitsS (n + 1) (pos (natAbs x))
-    abs-fits (pos m) f g = f
-    abs-fits (negsuc m) f g = g
+    abs-of : (x : ℤ) → FitsS (n + 1) x → FitsS (n + 1) (negℤ x) → FitsS (n + 1) (pos (natAbs x))
+    abs-of (pos m) f g = f
+    abs-of (negsuc m) f g = g
+
+    pub abs-fits : FitsS (n + 1) (pos (natAbs x))
+    abs-fits = abs-of x x-fits minus-fits
+
+    pub is-abs : Is r (exactLane (Unary false) a b n true) (n + 1) (pos (natAbs x))
+    is-abs =
+        is-eq r (abs-is x)
+        (is-ite r (says-slt r (omega arith) x-fits (zero-fits (n + 1)) wide-x (is-const r 0 (n + 1) (pow-pos (n + 1)))) is-minus wide-x)
 
     pub is-sqneg : Is r (saturatingLane (Unary true) a b n true) n (cS n (negℤ x))
     unfolding saturatingLane
-    is-sqneg = is-clampS r hn (omega arith) minus-fits minus
+    is-sqneg = is-clampS r hn (omega arith) minus-fits is-minus
 
     pub is-sqabs : Is r (saturatingLane (Unary false) a b n true) n (cS n (pos (natAbs x)))
     unfolding saturatingLane
-    is-sqabs =
-        is-clampS r hn (omega arith) (abs-fits x x-fits minus-fits)
-        (is-eq r (abs-is x)
-        (is-ite r (says-slt r (omega arith) x-fits (zero-fits (n + 1)) wide-x (is-const r 0 (n + 1) (pow-pos (n + 1)))) minus wide-x))
+    is-sqabs = is-clampS r hn (omega arith) abs-fits is-abs
 
   -- ---- narrowing: the source has n * 2 bits
   module _ (a b : Expr) (n : ℕ) (x : ℤ) (hn : 0 < n) (p : Is r a (n * 2) x) where
@@ -254,38 +275,23 @@ module _ (r : ℕ → ℕ) where
 
   -- ---- doubling, long: the source lanes have h bits, the result h * 2
   module _ (a b : Expr) (h : ℕ) (x y : ℤ) (hh : 0 < h) (f : FitsS h x) (g : FitsS h y) (p : Is r a h x) (q : Is r b h y) where
-    pub long-power : 2 ^ (h * 2 + 1 - 1) ≡ 4 * (2 ^ (h - 1) * 2 ^ (h - 1))
-    long-power = high-power a b h x y hh f g p q
-
     pub is-dmull : Is r (doublingProduct a b (h * 2)) (h * 2) (cS (h * 2) (x *ℤ y *ℤ pos 2))
     unfolding doublingProduct
-    is-dmull =
-        is-clampS r (omega arith) (omega arith) (doubled-fits a b h x y hh f g p q (h * 2 + 1) long-power)
-        (is-doubled a b h x y hh f g p q (h * 2 + 1) (omega arith))
+    is-dmull = is-clampS r (omega arith) (omega arith) (doubled-fits h x y hh f g) (is-doubled a b h x y hh f g p q (h * 2 + 1) (omega arith))
 
     pub is-dmlal : (subtract : Bool) (d : Expr) (z : ℤ) → FitsS (h * 2) z → Is r d (h * 2) z
         → Is r (doublingLongLane (With (cond subtract Sub Add)) d a b (h * 2)) (h * 2) (cS (h * 2) (applyZ subtract z (cS (h * 2) (x *ℤ y *ℤ pos 2))))
     unfolding doublingLongLane
     is-dmlal subtract d z k o =
         is-clampS r (omega arith) (omega arith) (apply-fits subtract (omega arith) k (clamp-fits (h * 2) (x *ℤ y *ℤ pos 2)))
-        (is-apply subtract (is-extend r true (omega arith) (omega arith) k o)
-        (is-extend r true (omega arith) (omega arith) (clamp-fits (h * 2) (x *ℤ y *ℤ pos 2)) is-dmull))
+        (is-joined subtract true true (omega arith) (omega arith) k (clamp-fits (h * 2) (x *ℤ y *ℤ pos 2)) o is-dmull)
 
   -- ---- the mixed signs, at n + 2 bits
   module _ (d a : Expr) (n : ℕ) (z x : ℤ) (hn : 0 < n) (o : Is r d n z) (p : Is r a n x) where
-    pub two-power : 2 ^ (n + 2 - 1) ≡ 4 * 2 ^ (n - 1)
-    two-power = ap (λ (k : ℕ). 2 ^ k) (omega arith) ∙ pow-add 2 n 1 ∙ omega (arith, half n hn)
-
     pub is-suqadd : FitsS n z → FitsU n x → Is r (mixedSignAddLane true d a n) n (cS n (z +ℤ x))
     unfolding mixedSignAddLane
-    is-suqadd f g =
-        is-clampS r hn (omega arith)
-        (record { low = omega (arith, two-power, sum z x, half n hn); high = omega (arith, two-power, sum z x, half n hn) })
-        (is-add r (is-extend r true hn (omega arith) f o) (is-extend r false hn (omega arith) g p))
+    is-suqadd f g = is-clampS r hn (omega arith) (sumSU hn f g) (is-joined false true false hn (omega arith) f g o p)
 
     pub is-usqadd : FitsU n z → FitsS n x → Is r (mixedSignAddLane false d a n) n (cU n (z +ℤ x))
     unfolding mixedSignAddLane
-    is-usqadd f g =
-        is-clampSU r hn (omega arith)
-        (record { low = omega (arith, two-power, sum z x, half n hn); high = omega (arith, two-power, sum z x, half n hn) })
-        (is-add r (is-extend r false hn (omega arith) f o) (is-extend r true hn (omega arith) g p))
+    is-usqadd f g = is-clampSU r hn (omega arith) (sumUS hn f g) (is-joined false false true hn (omega arith) f g o p)
