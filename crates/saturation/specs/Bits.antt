@@ -21,7 +21,6 @@ use Rattle.trees.specs.declared.Saturate.the-variants.{Never, Into}
 use Rattle.trees.specs.declared.ShiftKind.{ShiftKind}
 use Rattle.trees.specs.declared.ShiftKind.the-variants.{LeftImmediate, RightImmediate, Register}
 use Rattle.trees.specs.declared.SaturatingKind.{SaturatingKind}
-use Rattle.trees.specs.declared.SaturatingKind.the-variants.{AddSub, Halving, Narrow, ShiftNarrow, DoublingMultiplyHigh, Unary}
 use Rattle.trees.specs.declared.Combine.{Combine}
 use Rattle.trees.specs.declared.Combine.the-variants.{Nothing, With}
 use Rattle.trees.specs.Arith.{signedMax, shiftBy, joined, twice, scaled, exactLane, exactBits, kindTo, signedAmount, doublingProduct}
@@ -115,12 +114,7 @@ saturableShift (RightImmediate shift rounding) = false
 saturableShift (Register rounding saturate) = saturate
 
 abbrev pub saturableKind : SaturatingKind → Bool
-saturableKind (AddSub op to) = true
-saturableKind (Halving rounding) = false
-saturableKind (Narrow to) = true
-saturableKind (ShiftNarrow shift rounding to) = saturableTo to
-saturableKind (DoublingMultiplyHigh rounding) = true
-saturableKind (Unary negate) = true
+saturableKind kind = saturableTo (kindTo kind)
 
 abbrev pub saturable : NeonOp → Bool
 saturable (Shift kind signed) = saturableShift kind

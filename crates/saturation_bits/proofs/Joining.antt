@@ -15,7 +15,6 @@ use Rattle.trees.specs.declared.NeonShape.{NeonShape}
 use Rattle.trees.specs.declared.Saturate.{Saturate}
 use Rattle.trees.specs.declared.Saturate.the-variants.{Never}
 use Rattle.trees.specs.declared.SaturatingKind.{SaturatingKind}
-use Rattle.trees.specs.declared.SaturatingKind.the-variants.{AddSub, Halving, Narrow, ShiftNarrow, DoublingMultiplyHigh, Unary}
 use Rattle.trees.specs.Simd.{extractLane, concatLanes}
 use Rattle.trees.specs.Arith.{kindTo, sourceLane}
 use Rattle.lower.specs.Builds.{Source, Lowers, read, readIf, unread}
@@ -29,16 +28,8 @@ use Rattle.saturation.specs.Bits.{saturable, saturableKind, saturableTo, doubli
 use Rattle.saturation_bits.specs.Lanes.{familyBit, laneAt, BitMade}
 
 -- a kind that clamps has a range
-pub kind-range : (kind : SaturatingKind) → saturableKind kind ≡ saturableTo (kindTo kind)
-kind-range (AddSub op to) = refl
-kind-range (Halving rounding) = refl
-kind-range (Narrow to) = refl
-kind-range (ShiftNarrow shift rounding to) = refl
-kind-range (DoublingMultiplyHigh rounding) = refl
-kind-range (Unary negate) = refl
-
 pub not-never : (kind : SaturatingKind) {range : Saturate} → range ≡ kindTo kind → range ≡ Never → saturableKind kind ≡ true → ⊥
-not-never kind e q h = false≢true (sym (ap saturableTo q) ∙ ap saturableTo e ∙ sym (kind-range kind) ∙ h)
+not-never kind e q h = false≢true (sym (ap saturableTo q) ∙ ap saturableTo e ∙ h)
 
 -- an operation that cannot saturate is none of these
 pub not-op : {op op′ : NeonOp} → op ≡ op′ → saturable op′ ≡ false → saturable op ≡ true → ⊥

@@ -1,7 +1,6 @@
 -- saturable_kind: a kind saturates where it has a range.
-use mathlib.Core.Path.{sym, ap, _∙_}
+use mathlib.Core.Path.{ap, _∙_}
 use Rattle.saturation.specs.Bits.{saturableTo}
-use Rattle.saturation_bits.proofs.Joining.{kind-range}
 use borrow.Author.Needs.{needs}
 use Rattle.saturation_record.proofs.saturable_kind.Statement.{statement}
 use Rattle.saturation_record.proofs.saturable_kind.Tie as tie
@@ -14,10 +13,7 @@ clamps-requires c κs = search needs
 
 returns : tie.Need-returns
 returns c =
-    let l-clamps = c in
-    let l-kind-to = l-clamps .before in
-    let st = l-kind-to .before in
-    (l-clamps .clamps .ensures) ∙ ap saturableTo (l-kind-to .kind-to .ensures) ∙ sym (kind-range (st .args .kind))
+    (c .clamps .ensures) ∙ ap saturableTo (c .before .kind-to .ensures)
 
 pub saturable-kind-spec : {M : Type 1} → statement M
 saturable-kind-spec = tie.close (tie.spec kind-to-requires clamps-requires returns)
