@@ -29,211 +29,77 @@ last-is c =
     let from-19 = above k 18 (above k 17 from-17 (m .0 .1)) (m .1) in
     last-kind k from-19 (s .pre .0 .1)
 
-put-requires : tie.Need-put-requires
-unfolding kindAt kinds
-put-requires c κs = let m = c .before .before in room-as (named 3 (m .match .keys1)) (m .before .before .pre .1)
-
-put-requires-2 : tie.Need-put-requires-2
-unfolding kindAt kinds
-put-requires-2 c κs = let m = c .before .before in room-as (named 4 (m .match .keys2)) (m .before .before .pre .1)
-
-put-requires-3 : tie.Need-put-requires-3
-unfolding kindAt kinds
-put-requires-3 c κs = let m = c .before .before in room-as (named 5 (m .match .keys3)) (m .before .before .pre .1)
-
-put-requires-4 : tie.Need-put-requires-4
-unfolding kindAt kinds
-put-requires-4 c κs = let m = c .before .before in room-as (named 6 (m .match .keys4)) (m .before .before .pre .1)
-
-put-requires-5 : tie.Need-put-requires-5
-unfolding kindAt kinds
-put-requires-5 c κs = let m = c .before .before in room-as (named 7 (m .match .keys5)) (m .before .before .pre .1)
-
-put-requires-6 : tie.Need-put-requires-6
-unfolding kindAt kinds
-put-requires-6 c κs = let m = c .before .before in room-as (named 8 (m .match .keys6)) (m .before .before .pre .1)
-
-put-requires-7 : tie.Need-put-requires-7
-unfolding kindAt kinds
-put-requires-7 c κs = let m = c .before .before in room-as (named 9 (m .match .keys7)) (m .before .before .pre .1)
-
-put-requires-8 : tie.Need-put-requires-8
-unfolding kindAt kinds
-put-requires-8 c κs = let m = c .before .before in room-as (named 10 (m .match .keys8)) (m .before .before .pre .1)
-
-put-requires-9 : tie.Need-put-requires-9
-unfolding kindAt kinds
-put-requires-9 c κs = let m = c .before .before in room-as (named 11 (m .match .keys9)) (m .before .before .pre .1)
-
-put-requires-10 : tie.Need-put-requires-10
-unfolding kindAt kinds
-put-requires-10 c κs = let m = c .before .before in room-as (named 12 (m .match .keys10)) (m .before .before .pre .1)
-
-put-requires-11 : tie.Need-put-requires-11
-unfolding kindAt kinds
-put-requires-11 c κs = let m = c .before .before in room-as (named 13 (m .match .keys11)) (m .before .before .pre .1)
-
-put-requires-12 : tie.Need-put-requires-12
-unfolding kindAt kinds
-put-requires-12 c κs = let m = c .before .before in room-as (named 14 (m .match .keys12)) (m .before .before .pre .1)
-
-put-requires-13 : tie.Need-put-requires-13
-unfolding kindAt kinds
-put-requires-13 c κs = let m = c .before .before in room-as (named 15 (m .match .keys13)) (m .before .before .pre .1)
-
-put-requires-14 : tie.Need-put-requires-14
-unfolding kindAt kinds
-put-requires-14 c κs = let m = c .before .before in room-as (named 16 (m .match .keys14)) (m .before .before .pre .1)
-
-put-requires-15 : tie.Need-put-requires-15
-unfolding kindAt kinds
-put-requires-15 c κs = let m = c .before .before in room-as (named 17 (m .match .keys15)) (m .before .before .pre .1)
-
-put-requires-16 : tie.Need-put-requires-16
-unfolding kindAt kinds
-put-requires-16 c κs = let m = c .before .before in room-as (named 18 (m .match .keys16)) (m .before .before .pre .1)
-
-put-requires-17 : tie.Need-put-requires-17
-unfolding kindAt kinds
-put-requires-17 c κs = let m = c .before .before in room-as (named 19 (last-is m)) (m .before .before .pre .1)
-
-returns : tie.Need-returns
-unfolding kindAt kinds
-returns c = let q = c .before .before in wrote-as (named 3 (q .before .before .before .match .keys1)) (q .put .ensures)
-
-returns-2 : tie.Need-returns-2
-unfolding kindAt kinds
-returns-2 c = let q = c .before .before in wrote-as (named 4 (q .before .before .before .match .keys2)) (q .put2 .ensures)
-
-returns-3 : tie.Need-returns-3
-unfolding kindAt kinds
-returns-3 c = let q = c .before .before in wrote-as (named 5 (q .before .before .before .match .keys3)) (q .put3 .ensures)
-
-returns-4 : tie.Need-returns-4
-unfolding kindAt kinds
-returns-4 c = let q = c .before .before in wrote-as (named 6 (q .before .before .before .match .keys4)) (q .put4 .ensures)
-
-returns-5 : tie.Need-returns-5
-unfolding kindAt kinds
-returns-5 c = let q = c .before .before in wrote-as (named 7 (q .before .before .before .match .keys5)) (q .put5 .ensures)
-
-returns-6 : tie.Need-returns-6
-unfolding kindAt kinds
-returns-6 c = let q = c .before .before in wrote-as (named 8 (q .before .before .before .match .keys6)) (q .put6 .ensures)
-
-returns-7 : tie.Need-returns-7
-unfolding kindAt kinds
-returns-7 c = let q = c .before .before in wrote-as (named 9 (q .before .before .before .match .keys7)) (q .put7 .ensures)
-
-returns-8 : tie.Need-returns-8
-unfolding kindAt kinds
-returns-8 c = let q = c .before .before in wrote-as (named 10 (q .before .before .before .match .keys8)) (q .put8 .ensures)
-
-returns-9 : tie.Need-returns-9
-unfolding kindAt kinds
-returns-9 c = let q = c .before .before in wrote-as (named 11 (q .before .before .before .match .keys9)) (q .put9 .ensures)
-
-returns-10 : tie.Need-returns-10
-unfolding kindAt kinds
-returns-10 c = let q = c .before .before in wrote-as (named 12 (q .before .before .before .match .keys10)) (q .put10 .ensures)
-
-returns-11 : tie.Need-returns-11
-unfolding kindAt kinds
-returns-11 c = let q = c .before .before in wrote-as (named 13 (q .before .before .before .match .keys11)) (q .put11 .ensures)
-
-returns-12 : tie.Need-returns-12
-unfolding kindAt kinds
-returns-12 c = let q = c .before .before in wrote-as (named 14 (q .before .before .before .match .keys12)) (q .put12 .ensures)
-
-returns-13 : tie.Need-returns-13
-unfolding kindAt kinds
-returns-13 c = let q = c .before .before in wrote-as (named 15 (q .before .before .before .match .keys13)) (q .put13 .ensures)
-
-returns-14 : tie.Need-returns-14
-unfolding kindAt kinds
-returns-14 c = let q = c .before .before in wrote-as (named 16 (q .before .before .before .match .keys14)) (q .put14 .ensures)
-
-returns-15 : tie.Need-returns-15
-unfolding kindAt kinds
-returns-15 c = let q = c .before .before in wrote-as (named 17 (q .before .before .before .match .keys15)) (q .put15 .ensures)
-
-returns-16 : tie.Need-returns-16
-unfolding kindAt kinds
-returns-16 c = let q = c .before .before in wrote-as (named 18 (q .before .before .before .match .keys16)) (q .put16 .ensures)
-
-returns-17 : tie.Need-returns-17
-unfolding kindAt kinds
-returns-17 c = let q = c .before .before in wrote-as (named 19 (last-is (q .before .before .before))) (q .put17 .ensures)
-
+-- each arm's key is the kind whose function is due
 pub put-function-spec : {M : Type 1} → statement M
+unfolding kindAt kinds
 put-function-spec =
     tie.close
     (tie.spec
     (λ c. search needs)
-    put-requires
+    (λ c κs. room-as (named 3 (c .before .before .match .keys1)) (c .before .before .before .before .pre .1))
     (λ c. search needs)
-    put-requires-2
+    (λ c κs. room-as (named 4 (c .before .before .match .keys2)) (c .before .before .before .before .pre .1))
     (λ c. search needs)
-    put-requires-3
+    (λ c κs. room-as (named 5 (c .before .before .match .keys3)) (c .before .before .before .before .pre .1))
     (λ c. search needs)
-    put-requires-4
+    (λ c κs. room-as (named 6 (c .before .before .match .keys4)) (c .before .before .before .before .pre .1))
     (λ c. search needs)
-    put-requires-5
+    (λ c κs. room-as (named 7 (c .before .before .match .keys5)) (c .before .before .before .before .pre .1))
     (λ c. search needs)
-    put-requires-6
+    (λ c κs. room-as (named 8 (c .before .before .match .keys6)) (c .before .before .before .before .pre .1))
     (λ c. search needs)
-    put-requires-7
+    (λ c κs. room-as (named 9 (c .before .before .match .keys7)) (c .before .before .before .before .pre .1))
     (λ c. search needs)
-    put-requires-8
+    (λ c κs. room-as (named 10 (c .before .before .match .keys8)) (c .before .before .before .before .pre .1))
     (λ c. search needs)
-    put-requires-9
+    (λ c κs. room-as (named 11 (c .before .before .match .keys9)) (c .before .before .before .before .pre .1))
     (λ c. search needs)
-    put-requires-10
+    (λ c κs. room-as (named 12 (c .before .before .match .keys10)) (c .before .before .before .before .pre .1))
     (λ c. search needs)
-    put-requires-11
+    (λ c κs. room-as (named 13 (c .before .before .match .keys11)) (c .before .before .before .before .pre .1))
     (λ c. search needs)
-    put-requires-12
+    (λ c κs. room-as (named 14 (c .before .before .match .keys12)) (c .before .before .before .before .pre .1))
     (λ c. search needs)
-    put-requires-13
+    (λ c κs. room-as (named 15 (c .before .before .match .keys13)) (c .before .before .before .before .pre .1))
     (λ c. search needs)
-    put-requires-14
+    (λ c κs. room-as (named 16 (c .before .before .match .keys14)) (c .before .before .before .before .pre .1))
     (λ c. search needs)
-    put-requires-15
+    (λ c κs. room-as (named 17 (c .before .before .match .keys15)) (c .before .before .before .before .pre .1))
     (λ c. search needs)
-    put-requires-16
+    (λ c κs. room-as (named 18 (c .before .before .match .keys16)) (c .before .before .before .before .pre .1))
     (λ c. search needs)
-    put-requires-17
+    (λ c κs. room-as (named 19 (last-is (c .before .before))) (c .before .before .before .before .pre .1))
     (λ c. search needs)
-    returns
+    (λ c. wrote-as (named 3 (c .before .before .before .before .before .match .keys1)) (c .before .before .put .ensures))
     (λ c. search needs)
-    returns-2
+    (λ c. wrote-as (named 4 (c .before .before .before .before .before .match .keys2)) (c .before .before .put2 .ensures))
     (λ c. search needs)
-    returns-3
+    (λ c. wrote-as (named 5 (c .before .before .before .before .before .match .keys3)) (c .before .before .put3 .ensures))
     (λ c. search needs)
-    returns-4
+    (λ c. wrote-as (named 6 (c .before .before .before .before .before .match .keys4)) (c .before .before .put4 .ensures))
     (λ c. search needs)
-    returns-5
+    (λ c. wrote-as (named 7 (c .before .before .before .before .before .match .keys5)) (c .before .before .put5 .ensures))
     (λ c. search needs)
-    returns-6
+    (λ c. wrote-as (named 8 (c .before .before .before .before .before .match .keys6)) (c .before .before .put6 .ensures))
     (λ c. search needs)
-    returns-7
+    (λ c. wrote-as (named 9 (c .before .before .before .before .before .match .keys7)) (c .before .before .put7 .ensures))
     (λ c. search needs)
-    returns-8
+    (λ c. wrote-as (named 10 (c .before .before .before .before .before .match .keys8)) (c .before .before .put8 .ensures))
     (λ c. search needs)
-    returns-9
+    (λ c. wrote-as (named 11 (c .before .before .before .before .before .match .keys9)) (c .before .before .put9 .ensures))
     (λ c. search needs)
-    returns-10
+    (λ c. wrote-as (named 12 (c .before .before .before .before .before .match .keys10)) (c .before .before .put10 .ensures))
     (λ c. search needs)
-    returns-11
+    (λ c. wrote-as (named 13 (c .before .before .before .before .before .match .keys11)) (c .before .before .put11 .ensures))
     (λ c. search needs)
-    returns-12
+    (λ c. wrote-as (named 14 (c .before .before .before .before .before .match .keys12)) (c .before .before .put12 .ensures))
     (λ c. search needs)
-    returns-13
+    (λ c. wrote-as (named 15 (c .before .before .before .before .before .match .keys13)) (c .before .before .put13 .ensures))
     (λ c. search needs)
-    returns-14
+    (λ c. wrote-as (named 16 (c .before .before .before .before .before .match .keys14)) (c .before .before .put14 .ensures))
     (λ c. search needs)
-    returns-15
+    (λ c. wrote-as (named 17 (c .before .before .before .before .before .match .keys15)) (c .before .before .put15 .ensures))
     (λ c. search needs)
-    returns-16
+    (λ c. wrote-as (named 18 (c .before .before .before .before .before .match .keys16)) (c .before .before .put16 .ensures))
     (λ c. search needs)
-    returns-17)
+    (λ c. wrote-as (named 19 (last-is (c .before .before .before .before .before))) (c .before .before .put17 .ensures)))

@@ -57,7 +57,7 @@ same-length : tie.Need-same-length
 same-length c = search needs
 
 returns : tie.Need-returns
-returns c = let q = c .before .before in wrote-as (text-2 (q .before .before)) (q .put-constant .ensures)
+returns c = wrote-as (text-2 (c .before .before .before .before)) (c .before .before .put-constant .ensures)
 
 -- ---- an Ite: the operands are read
 
@@ -99,7 +99,7 @@ same-length-2 : tie.Need-same-length-2
 same-length-2 c = search needs
 
 returns-2 : tie.Need-returns-2
-returns-2 c = let q = c .before .before in wrote-as (text-15 (q .before .before)) (q .put-three .ensures)
+returns-2 c = wrote-as (text-15 (c .before .before .before .before)) (c .before .before .put-three .ensures)
 
 -- ---- an Extract: the operand and both bits are read
 
@@ -134,7 +134,7 @@ same-length-3 : tie.Need-same-length-3
 same-length-3 c = search needs
 
 returns-3 : tie.Need-returns-3
-returns-3 c = let q = c .before .before in wrote-as (text-16 (q .before .before)) (q .put-cut .ensures)
+returns-3 c = wrote-as (text-16 (c .before .before .before .before)) (c .before .before .put-cut .ensures)
 
 -- ---- two operands, which are read
 
@@ -184,7 +184,7 @@ same-length-4 : tie.Need-same-length-4
 same-length-4 c = search needs
 
 returns-4 : tie.Need-returns-4
-returns-4 c = let q = c .before .before in wrote-as (two-text (q .before .before)) (q .put-two .ensures)
+returns-4 c = wrote-as (two-text (c .before .before .before .before)) (c .before .before .put-two .ensures)
 
 -- ---- an extension
 
@@ -243,7 +243,7 @@ same-length-5 : tie.Need-same-length-5
 same-length-5 c = search needs
 
 returns-5 : tie.Need-returns-5
-returns-5 c = let q = c .before .before in wrote-as (text-18 (q .before .before)) (q .put-extension .ensures)
+returns-5 c = wrote-as (text-18 (c .before .before .before .before)) (c .before .before .put-extension .ensures)
 
 pub put-term-spec : {M : Type 1} → statement M
 put-term-spec =
