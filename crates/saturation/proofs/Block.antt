@@ -4,22 +4,22 @@ use mathlib.Core.Bool.{Bool, true, false, cond, _||_, false≢true}
 use mathlib.Core.List.{List, [], _∷_}
 use Prim.Native.Nat.{ℕ, zero, suc, _-_, _≤_, _<_}
 use native.Mathlib.Omega.{arith}
+use Rattle.facts.proofs.Tests.{or-assoc}
 use Rattle.terms.specs.Expr.{Expr, Var, width}
 use Rattle.terms.specs.Value.{value, bit}
 use Rattle.neon.specs.declared.Instruction.{Instruction}
 use Rattle.neon.specs.Op.{Op, Arrangement, opAt, arrangementAt, laneBits, full}
 use Rattle.neon.specs.Form.{form, firstFull, secondFull, byElement, least, most, laneCount, firstLane, secondLane}
-use Rattle.neon.specs.Arm.{lane}
 use Rattle.neon.specs.Run.{armStep}
 use Rattle.neon.specs.Refusal.{Legal, AllLegal}
 use Rattle.neon.proofs.Legal.{accepted}
 use Rattle.neon.proofs.Geometry.{sized, source-some, filled}
-use Rattle.trees.specs.Simd.{extractLane}
 use Rattle.trees.specs.Neon.{neonOp}
 use Rattle.trees.specs.Block.{treeStep}
-use Rattle.trees_value.proofs.Is.{Has, has-number}
-use Rattle.trees_value.proofs.Lanes.{is-lane, lane-lt}
+use Rattle.trees_value.proofs.Is.{Has}
+use Rattle.trees_value.proofs.Lanes.{lane-lt}
 use Rattle.trees_value.proofs.Lane.{sources}
+use Rattle.trees_value.proofs.Whole.{has-lane}
 use Rattle.trees_value.proofs.Block.{read-is, step-is}
 use Rattle.saturation.specs.Saturates.{some, saturatesLane, saturatesAt, saturates, saturatesStep, saturatesRun}
 use Rattle.saturation.specs.Bits.{no, saturable, bitAt, instructionBit, saturationTree, recordBit, bitRun, blockBit}
@@ -103,18 +103,15 @@ none zero f h = refl
 none (suc k) f h = rw (none k f h, h k)
 
 module _ (r : ℕ → ℕ) (o : Op) (v : Arrangement) (i : ℕ) (d a b : Expr) (l : least o ≤ i) (h : i ≤ most o (laneBits v)) where
-  has-lane : (e : Expr) (m j : ℕ) → 0 < m → Has r (extractLane e m j) m (lane m j (value r e))
-  has-lane e m j h = has-number r (lane-lt m j (value r e)) (is-lane r e m j h)
-
   part : (j : ℕ) → Has r (bitAt o v i d a b j) 1 (bit (saturatesAt o v i (value r d) (value r a) (value r b) j))
   unfolding bitAt saturatesAt
   part j =
       let hm = source-some (form o .lanes) (laneBits v) (sized v .eight) in
       let hn : 0 < laneBits v = omega (arith, sized v .eight) in
-      bit-has r (bit-is r (laneBits v) i _ _ _ _ _ _ (sized v .eight) (sized v .even) (lane-lt (laneBits v) j (value r d)) (has-lane d (laneBits v) j hn) o l h
+      bit-has r (bit-is r (laneBits v) i _ _ _ _ _ _ (sized v .eight) (sized v .even) (lane-lt (laneBits v) j (value r d)) (has-lane r d (laneBits v) j hn) o l h
       (sources r hm (lane-lt _ (firstLane (form o .lanes) (laneCount o v) j) (value r a))
-      (lane-lt _ (secondLane (form o .lanes) (byElement o) (laneCount o v) i j) (value r b)) (has-lane a _ (firstLane (form o .lanes) (laneCount o v) j) hm)
-      (has-lane b _ (secondLane (form o .lanes) (byElement o) (laneCount o v) i j) hm)) (full v))
+      (lane-lt _ (secondLane (form o .lanes) (byElement o) (laneCount o v) i j) (value r b)) (has-lane r a _ (firstLane (form o .lanes) (laneCount o v) j) hm)
+      (has-lane r b _ (secondLane (form o .lanes) (byElement o) (laneCount o v) i j) hm)) (full v))
 
   pub saturation-is : (before : Expr) (t : Bool) → Has r before 1 (bit t)
       → Has r (saturationTree o v i d a b before) 1 (bit (t || saturates o v i (value r d) (value r a) (value r b)))
@@ -146,10 +143,6 @@ module _ (start : ℕ → ℕ) where
       let lanes = form o .lanes in
       rw (← read-is start (full v) (t (c .d)), ← read-is start (firstFull lanes (full v)) (t (c .n)), ← read-is start (secondFull lanes (byElement o) (full v)) (t (c .m)))
       (saturation-is start o v (c .i) _ _ _ (f .low) (f .high) before s p)
-
-  or-assoc : (x y z : Bool) → ((x || y) || z) ≡ (x || (y || z))
-  or-assoc true y z = refl
-  or-assoc false y z = refl
 
   run-is : (cs : List Instruction) → AllLegal cs → (t : ℕ → Expr) (before : Expr) (s : Bool) → Has start before 1 (bit s)
       → Has start (bitRun cs t before) 1 (bit (s || saturatesRun cs (λ y. value start (t y))))

@@ -1,16 +1,15 @@
 -- The theorems of specs/Demand.antt: which operations can saturate, and what saturating is. Assumes nothing.
 use mathlib.Core.Path.{_≡_, refl, sym, ap, _∙_}
 use mathlib.Core.Bool.{Bool, true, false, cond, _&&_, _||_, false≢true}
-use mathlib.Core.List.{List}
 use mathlib.Core.Logic.{⊎-elim}
-use Prim.Native.Nat.{ℕ, _*_, _<_, _≤_}
+use Prim.Native.Nat.{ℕ, _*_, _≤_}
 use native.Mathlib.Omega.{arith}
 use lib.Dec.{leb, eqb}
-use lib.ListN.{getD}
 use borrow.Author.Tests.{eqb-true, lt-leb}
 use Rattle.terms.specs.Value.{bit}
 use Rattle.facts.proofs.Numbers.{before-or-from}
-use Rattle.facts.proofs.Table.{tabulate, entry}
+use Rattle.facts.proofs.Table.{tabulate, agree}
+use Rattle.facts.proofs.Tests.{bit-true}
 use Rattle.facts.proofs.Tests.{and-both}
 use Rattle.neon.specs.declared.Instruction.{Instruction}
 use Rattle.neon.specs.Op.{opAt, operations, arrangementAt, arrangements}
@@ -23,13 +22,6 @@ use Rattle.saturation.specs.Bits.{saturable}
 use Rattle.saturation.specs.Demand.{between, canSaturate, OthersNever, EachCan, OutsideIsAltered}
 use Rattle.saturation.proofs.Block.{none, unsaturable}
 use Rattle.saturation.proofs.Clip.{beyondS-is, beyondU-is}
-
-agree : (f g : ℕ → ℕ) (n : ℕ) → tabulate f 0 n ≡ tabulate g 0 n → (k : ℕ) → k < n → f k ≡ g k
-agree f g n e k h = sym (entry f n k h) ∙ ap (λ (l : List ℕ). getD l k 0) e ∙ entry g n k h
-
-bit-true : (b : Bool) → bit b ≡ 1 → b ≡ true
-bit-true true e = refl
-bit-true false e = absurd (omega (arith, e))
 
 bit-false : (b : Bool) → bit b ≡ 0 → b ≡ false
 bit-false false e = refl

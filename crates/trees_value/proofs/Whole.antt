@@ -112,23 +112,23 @@ as-lanes Op.RADDHN v i d a b = keeps v (full v) _ d
 as-lanes Op.SUBHN v i d a b = keeps v (full v) _ d
 as-lanes Op.RSUBHN v i d a b = keeps v (full v) _ d
 
+-- a lane of a source has its number
+pub has-lane : (r : ℕ → ℕ) (e : Expr) (m j : ℕ) → 0 < m → Has r (extractLane e m j) m (lane m j (value r e))
+has-lane r e m j h = has-number r (lane-lt m j (value r e)) (is-lane r e m j h)
+
 module _ (r : ℕ → ℕ) (o : Op) (v : Arrangement) (i : ℕ) (d a b : Expr) (l : least o ≤ i) (h : i ≤ most o (laneBits v)) where
   abbrev arm-at : ℕ → ℕ
   arm-at j = armAt o v i (value r d) (value r a) (value r b) j
-
-  -- a lane of a source has its number
-  has-lane : (e : Expr) (m j : ℕ) → 0 < m → Has r (extractLane e m j) m (lane m j (value r e))
-  has-lane e m j h = has-number r (lane-lt m j (value r e)) (is-lane r e m j h)
 
   part : (j : ℕ) → Has r (treeAt o v i d a b j) (laneBits v) (arm-at j)
   unfolding armAt
   part j =
       let hm = source-some (form o .lanes) (laneBits v) (sized v .eight) in
       let hn : 0 < laneBits v = omega (arith, sized v .eight) in
-      lane-is r (laneBits v) i _ _ _ _ _ _ (sized v .eight) (sized v .even) (lane-lt (laneBits v) j (value r d)) (has-lane d (laneBits v) j hn) o l h
+      lane-is r (laneBits v) i _ _ _ _ _ _ (sized v .eight) (sized v .even) (lane-lt (laneBits v) j (value r d)) (has-lane r d (laneBits v) j hn) o l h
       (sources r hm (lane-lt _ (firstLane (form o .lanes) (laneCount o v) j) (value r a))
-      (lane-lt _ (secondLane (form o .lanes) (byElement o) (laneCount o v) i j) (value r b)) (has-lane a _ (firstLane (form o .lanes) (laneCount o v) j) hm)
-      (has-lane b _ (secondLane (form o .lanes) (byElement o) (laneCount o v) i j) hm)) (full v)
+      (lane-lt _ (secondLane (form o .lanes) (byElement o) (laneCount o v) i j) (value r b)) (has-lane r a _ (firstLane (form o .lanes) (laneCount o v) j) hm)
+      (has-lane r b _ (secondLane (form o .lanes) (byElement o) (laneCount o v) i j) hm)) (full v)
 
   lanes-is : Has r (concatLanes (laneCount o v - 1) (treeAt o v i d a b)) (madeBits (form o .lanes) (full v)) (lanes (laneBits v) (laneCount o v) arm-at)
   lanes-is =

@@ -1,7 +1,7 @@
 -- What a word is decoded to, by the fields that were read. Assumes nothing.
 use mathlib.Core.Path.{_≡_, refl, sym, ap, _∙_}
 use mathlib.Core.Bool.{Bool, true, false, _&&_}
-use Prim.Native.Nat.{ℕ, suc, _%_, _≤_}
+use Prim.Native.Nat.{ℕ, zero, suc, _%_, _≤_, _<_}
 use native.Mathlib.Omega.{arith}
 use lib.Dec.{eqb}
 use borrow.Author.Tests.{eq-eqb, eqb-true, le-leb}
@@ -16,6 +16,11 @@ use Rattle.words_encoding.specs.declared.Decoded.the-variants.{Record, N
 use Rattle.words_encoding.specs.Encoding.{encoding}
 use Rattle.words_encoding.specs.Word.{encode}
 use Rattle.words_encoding.specs.Decode.{bits, operationAt, sizeAt, arrangementOf, immediateAt, secondAt, fieldsOf, decodedIf, isWordOf, decode}
+
+-- by the predecessor of a number that is not 0
+pub positive : {A : Type 0} (x : ℕ) → 0 < x → ((k : ℕ) → x ≡ suc k → A) → A
+positive zero h f = absurd (omega arith)
+positive (suc k) h f = f k refl
 
 number-2 : (c : Instruction) → c .operation ≡ 0 → recordNumber c ≡ 2
 unfolding recordNumber

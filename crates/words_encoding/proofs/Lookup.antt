@@ -5,15 +5,15 @@ use Prim.Native.Nat.{ℕ, zero, suc, _+_, _-_, _*_, _/_, _%_, _^_, _≤_, _<_}
 use native.Mathlib.Omega.{arith}
 use lib.Dec.{eqb}
 use borrow.Author.Tests.{eqb-true}
-use Rattle.facts.proofs.Tests.{and-both}
-use Rattle.facts.proofs.Table.{tabulate}
+use Rattle.facts.proofs.Tests.{and-both, bit-true}
+use Rattle.facts.proofs.Table.{tabulate, agree}
 use Rattle.neon.specs.Op.{operations, opAt}
 use Rattle.neon.specs.Form.{form}
 use Rattle.words_encoding.specs.Encoding.{Class, ShiftByImmediate, ThreeSame, ThreeDifferent, TwoMiscellaneous, ByElement, TwoMiscellaneous01, encoding}
 use Rattle.words_encoding.specs.Word.{bit}
 use Rattle.words_encoding.specs.Decode.{bits, classNumber, classAt, opcodeAt, upperIs, isCoded, operationOf, operationAt, sizeAt, sizeOfImmh}
 use Rattle.words_encoding.specs.Parts.{keyOf}
-use Rattle.words_encoding.proofs.Operations.{agree, bit-true, same-bit, same-bits, is-01}
+use Rattle.words_encoding.proofs.Operations.{same-bit, same-bits, is-01}
 
 -- ---- the last operation that has the fields
 

@@ -1,27 +1,18 @@
 -- Facts of the 67 operations, each by one computed test. Assumes nothing.
-use mathlib.Core.Path.{_≡_, refl, sym, ap, _∙_}
+use mathlib.Core.Path.{_≡_, refl, sym}
 use mathlib.Core.Bool.{Bool, true, false, cond, _&&_, false≢true}
-use mathlib.Core.List.{List}
 use Prim.Native.Nat.{ℕ, zero, suc, _+_, _-_, _*_, _/_, _%_, _≤_, _<_}
 use native.Mathlib.Omega.{arith}
 use lib.Dec.{ltb, leb, eqb}
-use lib.ListN.{getD}
 use borrow.Author.Tests.{leb-true, ltb-true}
-use Rattle.facts.proofs.Table.{tabulate, entry}
+use Rattle.facts.proofs.Table.{tabulate, agree}
+use Rattle.facts.proofs.Tests.{bit-true}
 use Rattle.facts.proofs.Tests.{and-both}
 use Rattle.neon.specs.Op.{Op, operations, opAt, Arrangement, arrangements, arrangementAt, laneBits}
 use Rattle.neon.specs.Form.{Lanes, Immediate, None, Left, Right, Element, isElement, form, hasForm, hasSecond, byElement}
 use Rattle.words_encoding.specs.Encoding.{Class, ShiftByImmediate, ThreeSame, ThreeDifferent, TwoMiscellaneous, ByElement, TwoMiscellaneous01, encoding}
 use Rattle.words_encoding.specs.Word.{bit, Qof, size, sizeOf}
 use Rattle.words_encoding.specs.Decode.{classNumber, upperIs, operationOf, arrangementOf}
-
--- two rules that compute to the same table agree at each entry
-pub agree : (f g : ℕ → ℕ) (n : ℕ) → tabulate f 0 n ≡ tabulate g 0 n → (k : ℕ) → k < n → f k ≡ g k
-agree f g n e k h = sym (entry f n k h) ∙ ap (λ (l : List ℕ). getD l k 0) e ∙ entry g n k h
-
-pub bit-true : (b : Bool) → bit b ≡ 1 → b ≡ true
-bit-true true e = refl
-bit-true false e = absurd (omega arith)
 
 -- two flags that are the same, as a flag
 abbrev pub same-bit : Bool → Bool → Bool

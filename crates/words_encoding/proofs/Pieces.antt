@@ -5,14 +5,13 @@ use Prim.Native.Nat.{ℕ, _+_, _-_, _*_, _/_, _≤_, min}
 use native.Mathlib.Omega.{arith}
 use lib.Dec.{ltb}
 use borrow.Author.Tests.{ltb-false}
-use Rattle.facts.proofs.Table.{tabulate}
+use Rattle.facts.proofs.Table.{tabulate, agree}
 use Rattle.neon.specs.Op.{Arrangement, B8, B16, H4, H8, S2, S4, D2, arrangements, arrangementAt, laneBits, full}
 use Rattle.neon.specs.Form.{Lanes, Same, Narrow, Long, Immediate, None, Left, Right, Element, mostOf, immediateCode}
 use Rattle.neon.proofs.Geometry.{sized}
 use Rattle.words_encoding.specs.Word.{bit, sizeOf}
 use Rattle.words_encoding.specs.Decode.{bits, arrangementOf, elementAt, immediateAt}
 use Rattle.words_encoding.specs.Parts.{isLong, viewPart, sizePart, elementPart, placePart}
-use Rattle.words_encoding.proofs.Operations.{agree}
 
 sizes : tabulate (λ a. sizeOf (arrangementAt a)) 0 7 ≡ tabulate (λ a. a / 2) 0 7
 unfolding tabulate arrangementAt arrangements

@@ -5,7 +5,8 @@ use Prim.Native.Nat.{ℕ, zero, suc, _+_, _-_, _*_, _/_, _%_, _≤_, _<_}
 use native.Mathlib.Omega.{arith}
 use lib.Dec.{ltb, leb}
 use borrow.Author.Tests.{ltb-true}
-use Rattle.facts.proofs.Table.{tabulate}
+use Rattle.facts.proofs.Tests.{bit-true}
+use Rattle.facts.proofs.Table.{tabulate, agree}
 use Rattle.neon.specs.declared.Instruction.{Instruction}
 use Rattle.neon.specs.Op.{Op, operations, opAt, Arrangement, B8, B16, H4, H8, S2, S4, D2, arrangements, arrangementAt, laneBits}
 use Rattle.neon.specs.Form.{Lanes, Same, Narrow, Long, Immediate, None, Left, Right, Element, isElement, form, hasForm}
@@ -14,7 +15,7 @@ use Rattle.neon.proofs.Legal.{accepted}
 use Rattle.words_encoding.specs.Encoding.{Class, ShiftByImmediate, ThreeSame, ThreeDifferent, TwoMiscellaneous, ByElement, TwoMiscellaneous01, encoding}
 use Rattle.words_encoding.specs.Word.{word, diagram, bit, Qof, size, immhb, Hof, Lof, Mof, Rmof, encodeOf, encode}
 use Rattle.words_encoding.specs.Parts.{upperBit, isLong, fixedOf, viewPart, sizePart, placePart}
-use Rattle.words_encoding.proofs.Operations.{agree, bit-true, same-bit, same-bits, is-01, at-each, isNone, isShift, immediateIs, tied-at, place, element-at}
+use Rattle.words_encoding.proofs.Operations.{same-bit, same-bits, is-01, at-each, isNone, isShift, immediateIs, tied-at, place, element-at}
 use Rattle.words_encoding.proofs.Reading.{most}
 use Rattle.words_encoding.proofs.Back.{most-is}
 

@@ -17,6 +17,7 @@ use Rattle.words_encoding.specs.Word.{encode}
 use Rattle.words_encoding.specs.declared.Decoded.{Decoded}
 use Rattle.words_encoding.specs.declared.Decoded.the-variants.{Record, Nothing}
 use Rattle.words_encoding.specs.Decode.{decode}
+use Rattle.words_encoding.proofs.Decoding.{positive}
 use Rattle.text_digits.specs.Writing.{Wrote}
 use Rattle.text_series.proofs.Places.{rows-length}
 use Rattle.words_lists.specs.Words.{wordAt, wholeWords, isRecord, flat, wordsRefusal, readRefusal, recordsIn, WordsRead, Good, wordBytes, writeRefusal, wordsIn, WordsWritten, AllGood}
@@ -126,10 +127,6 @@ module _ (fs : List ℕ) where
         count-is = rw m;
         list-is = rw m;
       }
-
-  positive : {A : Type 0} (x : ℕ) → 0 < x → ((k : ℕ) → x ≡ suc k → A) → A
-  positive zero h f = absurd (omega arith)
-  positive (suc k) h f = f k refl
 
   pub record-refused : (old : List ℕ) (n p : ℕ) → n ≡ records .number → p ≡ records .position → 0 < n → WordsWritten fs old (record { number = n; position = p; count = 0 }) old
   record-refused old n p en ep h =

@@ -1,6 +1,6 @@
 -- `words_encoding::decode::decode_word` meets its contract: the fields are read one after the other, and the word is made again.
-use mathlib.Core.Path.{_≡_, refl, sym, ap, _∙_}
-use Prim.Native.Nat.{ℕ, zero, suc, _%_, _≤_, _<_}
+use mathlib.Core.Path.{_≡_, sym, ap, _∙_}
+use Prim.Native.Nat.{ℕ, _%_, _≤_}
 use native.Mathlib.Omega.{arith}
 use Rattle.neon.specs.declared.Instruction.{Instruction}
 use Rattle.neon.specs.Op.{opAt, arrangementAt}
@@ -11,14 +11,10 @@ use Rattle.neon_form.proofs.Parts.{with-form}
 use Rattle.words_encoding.specs.Encoding.{encoding}
 use Rattle.words_encoding.specs.Decode.{bits, operationAt, sizeAt, arrangementOf, immediateAt, secondAt, fieldsOf}
 use Rattle.words_encoding.proofs.Lookup.{class-is}
-use Rattle.words_encoding.proofs.Decoding.{refused, read-as, other-word, no-operation, no-form, all-fields}
+use Rattle.words_encoding.proofs.Decoding.{positive, refused, read-as, other-word, no-operation, no-form, all-fields}
 use borrow.Author.Needs.{needs}
 use Rattle.words_encoding.proofs.decode.decode_word.Statement.{statement}
 use Rattle.words_encoding.proofs.decode.decode_word.Tie as tie
-
-positive : {A : Type 0} (x : ℕ) → 0 < x → ((k : ℕ) → x ≡ suc k → A) → A
-positive zero h f = absurd (omega arith)
-positive (suc k) h f = f k refl
 
 -- ---- what was read
 
