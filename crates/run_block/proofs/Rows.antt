@@ -4,13 +4,13 @@ use mathlib.Core.Bool.{Bool, true, false, cond, _&&_, _||_}
 use Prim.Native.Nat.{ℕ, zero, suc, _+_, _*_, _%_, _^_, _≤_, _<_}
 use native.Mathlib.Omega.{arith}
 use native.Mathlib.Nat.{add-zero}
-use Rattle.neon.specs.Op.{Op, Arrangement, laneBits, full, bitsIf, B8, B16, H4, H8, S2, S4, D2}
+use Rattle.neon.specs.Op.{Op, Arrangement, laneBits, full, B8, B16, H4, H8, S2, S4, D2}
 use Rattle.neon.specs.Form.{Form, form, hasForm, least, most, byElement, isElement}
 use Rattle.neon.specs.Form.{Lanes, Same, Narrow, Long, isNarrow, sourceBits, madeBits, laneCount, firstLane, secondLane, firstFull, secondFull}
 use Rattle.neon.specs.Arm.{lanes, armAt, armResult}
 use Rattle.neon.specs.Run.{readBits}
 use Rattle.wide.specs.Number.{words}
-use Rattle.neon.proofs.Geometry.{sized, filled, by-half, inside, first-in, second-in, made-max, source-some}
+use Rattle.neon.proofs.Geometry.{sized, filled, by-half, inside, first-in, second-in, bits-le, made-max, source-some}
 use Rattle.neon.proofs.Lanes.{lanes-eq, lanes-lt}
 use Rattle.trees.specs.Neon.{neonOp, shapeOf}
 use Rattle.trees.specs.declared.NeonOp.{NeonOp}
@@ -99,10 +99,6 @@ source-word (Long u) H8 h = refl
 source-word (Long u) S2 h = refl
 source-word (Long u) S4 h = refl
 source-word (Long u) D2 h = refl
-
-bits-le : (t : Bool) → bitsIf t ≤ 128
-bits-le true = omega arith
-bits-le false = omega arith
 
 module _ (o : Op) (v : Arrangement) (i : ℕ) (r : Row o v i) (hi : i ≤ most o (laneBits v)) where
   abbrev y : Layout

@@ -9,11 +9,12 @@ use native.Mathlib.Numerals.{add-one}
 use lib.Dec.{leb}
 use borrow.Author.Tests.{le-leb, lt-leb}
 use lib.ListN.{length}
+use Rattle.facts.proofs.Tests.{or-assoc}
 use Rattle.neon.specs.declared.Instruction.{Instruction}
 use Rattle.neon.specs.Op.{opAt, arrangementAt}
 use Rattle.neon.specs.Run.{update, armStep, armRun}
 use Rattle.neon.specs.Refusal.{Legal, mostRecords, recordsRefusal}
-use Rattle.neon.proofs.Legal.{accepted, m-le}
+use Rattle.neon.proofs.Legal.{registers-in}
 use Rattle.saturation.specs.Saturates.{saturatesStep, saturatesRun}
 use Rattle.block_record_check.specs.Record.{recordAt}
 use Rattle.block_check.specs.Records.{recordsFrom, recordsOf}
@@ -22,11 +23,6 @@ use Rattle.run_block.specs.declared.Ran.{Ran}
 use Rattle.wide.specs.Registers.{registersOf}
 use Rattle.run_block.specs.Lanes.{number, Written}
 use Rattle.run_block.specs.Run.{ResultOf, SteppedBy, RanBy, runRefusal, RunAnswered, FlagAnswered}
-
-pub registers-in : (c : Instruction) → Legal c → (c .d < 32) × (c .n < 32) × (c .m < 32)
-registers-in c k =
-    let a = accepted c k in
-    (omega (arith, a .at-d), omega (arith, a .at-n), omega (arith, a .at-m, m-le (opAt (c .operation)) (arrangementAt (c .arrangement))))
 
 -- a record that is accepted reads and keeps registers below 32
 module _ (c : Instruction) (k : Legal c) (f g : ℕ → ℕ) (e : (r : ℕ) → r < 32 → f r ≡ g r) where
@@ -64,10 +60,6 @@ arm-more (x ∷ cs) c regs = arm-more cs c (armStep x regs)
 or-none : (b : Bool) → (b || false) ≡ b
 or-none true = refl
 or-none false = refl
-
-or-assoc : (a b c : Bool) → ((a || b) || c) ≡ (a || (b || c))
-or-assoc true b c = refl
-or-assoc false b c = refl
 
 flag-more : (cs : List Instruction) (c : Instruction) (regs : ℕ → ℕ) → saturatesRun (cs ++ c ∷ []) regs ≡ (saturatesRun cs regs || saturatesStep c (armRun cs regs))
 unfolding saturatesRun armRun

@@ -30,7 +30,7 @@ use Rattle.run_exact.specs.Exact.{Held, Answers, isSub}
 pub fitting : {w u : ℕ} {v : Wide} {z : ℤ} → w ≤ u → Held w v z → Held u v z
 fitting {w} {u} {v} {z} h p = record { stands = p .stands; fits = wider w u z h (p .fits) }
 
-held-as : {w : ℕ} {v : Wide} {x y : ℤ} → x ≡ y → Held w v x → Held w v y
+pub held-as : {w : ℕ} {v : Wide} {x y : ℤ} → x ≡ y → Held w v x → Held w v y
 held-as {w} {v} e p = subst (Held w v) e p
 
 word-fits : (a : ℕ) → a < base → FitsS 65 (pos a)

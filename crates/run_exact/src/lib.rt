@@ -9,6 +9,8 @@ use wide::low_bits;
 use wide::mul;
 use wide::shl;
 use wide::sub;
+use wide::word::power;
+use wide::word::unsigned_max;
 use wide_bit_vectors::bv_ashr;
 use wide_bit_vectors::bv_slt;
 ghost use mathlib.Core.Path.{_≡_};
@@ -23,24 +25,6 @@ ghost use Rattle.run_exact.specs.Exact.{Held, isSub, Kept, Between, Clam
 pub struct Clamped {
     pub bits: u64,
     pub saturated: bool,
-}
-
-// 2^k in one word, and the largest number of k bits.
-pub fn power(k: u64) -> u64
-    requires { ⌜ k < 64 ⌝ }
-    ensures { λ r. ⌜ r ≡ 2 ^ k ⌝ }
-{
-    1u64 << k
-}
-
-fn largest(k: u64) -> u64
-    requires { ⌜ k ≤ 64 ⌝ }
-    ensures { λ r. ⌜ r ≡ 2 ^ k - 1 ⌝ }
-{
-    if k == 64 {
-        return u64::MAX;
-    }
-    power(k) - 1
 }
 
 // A number of one word.
@@ -67,7 +51,7 @@ fn signed(n: u64, a: u64) -> Wide
         };
     }
     Wide {
-        low: a + (u64::MAX - largest(n)),
+        low: a + (u64::MAX - unsigned_max(n)),
         high: u64::MAX,
         top: u64::MAX,
     }
@@ -127,7 +111,7 @@ fn clamp_unsigned(n: u64, v: Wide) -> Clamped
     requires { ⌜ (0 < n) × (n ≤ 64) ⌝ }
     ensures { λ r. ⌜ ClampedTo Unsigned n v (r .bits) (r .saturated) ⌝ }
 {
-    clamp(n, unsigned(0), unsigned(largest(n)), v)
+    clamp(n, unsigned(0), unsigned(unsigned_max(n)), v)
 }
 
 // Into the signed or the unsigned range of n bits.

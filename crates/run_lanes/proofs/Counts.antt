@@ -1,12 +1,10 @@
 -- Counts of bits, bits reversed, and inserts. Assumes nothing.
-use mathlib.Core.Path.{_≡_, refl, sym, ap, ap₂, _∙_, subst}
-use mathlib.Core.Bool.{Bool, true, false}
+use mathlib.Core.Path.{_≡_, sym, ap, ap₂, _∙_, subst}
 use Prim.Native.Nat.{ℕ, zero, suc, _+_, _-_, _*_, _/_, _%_, _^_, _≤_, _<_}
 use native.Mathlib.Omega.{arith}
 use native.Mathlib.Nat.{mod-lt, mod-le, add-zero, mul-mod-left, mul-le-mul-right, one-mul, div-add-mod'}
 use native.Mathlib.Numerals.{add-one}
-use borrow.Author.Tests.{eq-eqb, eqb-true}
-use lib.Dec.{eqb}
+use borrow.Author.Tests.{eq-eqb, ne-eqb}
 use native.Mathlib.Nat.{pow-suc}
 use lib.Pow.{pow-pos, pow-add, pow-mono, shr-lt, shl-shr, mod-pow-add}
 use lib.IntN.{pos}
@@ -16,19 +14,12 @@ pub ones-more : (j a : ℕ) → ones (j + 1) a ≡ ones j a + bitAt j a
 unfolding ones
 ones-more j a = rw (add-one j)
 
-eqb-no : (x t : ℕ) → (x ≡ t → ⊥) → eqb x t ≡ false
-eqb-no x t n = go (eqb x t) refl
-  where
-    go : (s : Bool) → eqb x t ≡ s → s ≡ false
-    go true e = absurd (n (eqb-true x t e))
-    go false e = refl
-
 pub run-stop : (t j a : ℕ) {b : ℕ} → 0 < j → b ≡ bitAt (j - 1) a → (b ≡ t → ⊥) → equalRun t j a ≡ 0
 unfolding equalRun
 run-stop t zero a h e n = absurd (omega arith)
 run-stop t (suc k) a h e n =
     let same : suc k - 1 ≡ k = omega arith in
-    rw (eqb-no (bitAt k a) t (λ q. n (e ∙ ap (λ (x : ℕ). bitAt x a) same ∙ q)))
+    rw (ne-eqb (bitAt k a) t (λ q. n (e ∙ ap (λ (x : ℕ). bitAt x a) same ∙ q)))
 
 pub run-more : (t j a : ℕ) {b : ℕ} → 0 < j → b ≡ bitAt (j - 1) a → b ≡ t → equalRun t j a ≡ suc (equalRun t (j - 1) a)
 unfolding equalRun

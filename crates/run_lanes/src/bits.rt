@@ -1,6 +1,6 @@
 // The lanes of CNT, CLZ, CLS and RBIT, bit by bit.
-use run_exact::power;
 use trees::BitwiseUnary;
+use wide::word::power;
 ghost use mathlib.Core.Path.{_≡_};
 ghost use Prim.Native.Nat.{_-_, _<_, _≤_};
 ghost use Rattle.neon.specs.Arm.{bitAt, ones, equalRun, lanes};

@@ -1,6 +1,7 @@
 -- `step` makes one step of the Arm run: register d becomes the result, the others stay (`SteppedBy`).
 use Rattle.neon.proofs.Legal.{accepted}
-use Rattle.run_block.proofs.Runs.{registers-in, stepped}
+use Rattle.neon.proofs.Legal.{registers-in}
+use Rattle.run_block.proofs.Runs.{stepped}
 use Rattle.run_block.proofs.step.Statement.{statement}
 use Rattle.run_block.proofs.step.Tie as tie
 

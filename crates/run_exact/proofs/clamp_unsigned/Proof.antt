@@ -10,8 +10,8 @@ use Rattle.run_exact.proofs.clamp_unsigned.Tie as tie
 unsigned-requires : tie.Need-unsigned-requires
 unsigned-requires c κs = search needs
 
-largest-requires : tie.Need-largest-requires
-largest-requires c κs = search needs
+unsigned-max-requires : tie.Need-unsigned-max-requires
+unsigned-max-requires c κs = search needs
 
 unsigned-requires-2 : tie.Need-unsigned-requires-2
 unsigned-requires-2 c κs = search needs
@@ -22,12 +22,12 @@ clamp-requires c κs = search needs
 returns : tie.Need-returns
 unfolding cU beyondU
 returns c =
-    let at-largest = c .before .before in
-    let at-unsigned = at-largest .before in
+    let at-unsigned-max = c .before .before in
+    let at-unsigned = at-unsigned-max .before in
     λ z p. c .clamp .ensures _ _ z (word-held refl (at-unsigned .unsigned .ensures))
-    (word-held (at-largest .largest .ensures) (c .before .unsigned2 .ensures)) p
+    (word-held (at-unsigned-max .unsigned-max .ensures) (c .before .unsigned2 .ensures)) p
 
 pub clamp-unsigned-spec : {M : Type 1} → statement M
 clamp-unsigned-spec =
     tie.close
-    (tie.spec unsigned-requires largest-requires unsigned-requires-2 clamp-requires returns)
+    (tie.spec unsigned-requires unsigned-max-requires unsigned-requires-2 clamp-requires returns)

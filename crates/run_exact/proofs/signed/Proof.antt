@@ -16,8 +16,8 @@ returns c =
     let s = c .before .before in
     signed-low (s .args .n) (s .args .a) (omega arith) (omega arith) (s .pre .2) (rw (c .before .power .ensures) at (c .if1 .taken))
 
-largest-requires : tie.Need-largest-requires
-largest-requires c κs = search needs
+unsigned-max-requires : tie.Need-unsigned-max-requires
+unsigned-max-requires c κs = search needs
 
 sub-t4 : tie.Need-sub-t4
 sub-t4 c = search needs
@@ -29,9 +29,9 @@ returns-2 : tie.Need-returns-2
 returns-2 c =
     let at-power = c .before .before in
     let s = at-power .before in
-    signed-high (s .args .n) (s .args .a) _ (omega arith) (omega arith) (s .pre .2) (omega (arith, c .largest .ensures)) (rw (c .largest .ensures))
+    signed-high (s .args .n) (s .args .a) _ (omega arith) (omega arith) (s .pre .2) (omega (arith, c .unsigned-max .ensures)) (rw (c .unsigned-max .ensures))
     (rw (at-power .power .ensures) at (c .before .if1 .left))
 
 pub signed-spec : {M : Type 1} → statement M
 signed-spec =
-    tie.close (tie.spec sub-power power-requires returns largest-requires sub-t4 add-t6 returns-2)
+    tie.close (tie.spec sub-power power-requires returns unsigned-max-requires sub-t4 add-t6 returns-2)
