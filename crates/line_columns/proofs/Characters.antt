@@ -6,22 +6,19 @@ use Prim.Native.Nat.{ℕ, _+_, _-_, _/_, _%_, _≤_, _<_}
 use native.Mathlib.Omega.{arith}
 use lib.Dec.{ltb}
 use lib.ListN.{length, replicate}
-use borrow.Author.Tests.{lt-ltb, eq-eqb, ne-eqb, ltb-true, ltb-false}
-use Rattle.terms.specs.Display.{digit, decimal}
+use borrow.Author.Tests.{eq-eqb, ne-eqb, ltb-true, ltb-false}
+use Rattle.terms.specs.Display.{decimal}
 use Rattle.text_digits.proofs.Laws.{digits-one, digits-more}
+use Rattle.text_digits.proofs.TwoDigits.{decimal-digit}
 use Rattle.line_columns.specs.Columns.{columns, characterOf}
-
--- a decimal digit's character
-digit-low : (x : ℕ) → x < 10 → digit x ≡ 48 + x
-digit-low x h = rw (lt-ltb x 10 h)
 
 one : (x : ℕ) → x < 10 → decimal x ≡ (48 + x) ∷ []
 unfolding decimal
-one x h = digits-one 10 x h ∙ ap (λ (k : ℕ). k ∷ []) (digit-low x h)
+one x h = digits-one 10 x h ∙ ap (λ (k : ℕ). k ∷ []) (decimal-digit x h)
 
 more : (x : ℕ) → 10 ≤ x → decimal x ≡ decimal (x / 10) ++ ((48 + x % 10) ∷ [])
 unfolding decimal
-more x h = digits-more 10 x (omega arith) h ∙ ap (λ (k : ℕ). decimal (x / 10) ++ (k ∷ [])) (digit-low (x % 10) (omega arith))
+more x h = digits-more 10 x (omega arith) h ∙ ap (λ (k : ℕ). decimal (x / 10) ++ (k ∷ [])) (decimal-digit (x % 10) (omega arith))
 
 two : (x : ℕ) → 10 ≤ x → x < 100 → decimal x ≡ (48 + x / 10) ∷ (48 + x % 10) ∷ []
 two x g h = more x g ∙ rw (one (x / 10) (omega arith))

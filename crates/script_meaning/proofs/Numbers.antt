@@ -9,11 +9,12 @@ use native.Mathlib.Nat.{div-lt-self}
 use native.Mathlib.Omega.{arith}
 use lib.ListN.{length}
 use lib.Pow.{mod-pow-add}
-use borrow.Author.Tests.{lt-ltb, le-leb, ne-eqb}
+use borrow.Author.Tests.{le-leb, ne-eqb}
 use Rattle.facts.proofs.Tests.{and-both}
 use Rattle.facts.proofs.Numbers.{before-or-from}
 use Rattle.terms.specs.Display.{digit, decimal}
 use Rattle.text_digits.proofs.Laws.{digits, digits-one, digits-more}
+use Rattle.text_digits.proofs.TwoDigits.{decimal-digit}
 use Rattle.script_meaning.specs.Read.{isDigit}
 use Rattle.script_meaning.specs.Values.{all, number, isNumeral, numeral, isBinaryDigit}
 use Rattle.script_meaning.specs.Script.{binary}
@@ -25,11 +26,8 @@ unfolding number
 number-append b x [] c = refl
 number-append b x (d ∷ s) c = number-append b (b * x + (d - 48)) s c
 
-digit-is : (d : ℕ) → d < 10 → digit d ≡ 48 + d
-digit-is d h = rw (lt-ltb d 10 h)
-
 digit-digit : (d : ℕ) → d < 10 → isDigit (digit d) ≡ true
-digit-digit d h = rw (digit-is d h, le-leb 48 (48 + d) (omega arith), le-leb (48 + d) 57 (omega arith))
+digit-digit d h = rw (decimal-digit d h, le-leb 48 (48 + d) (omega arith), le-leb (48 + d) 57 (omega arith))
 
 -- digits, the first not 0 where x is not
 record Spelt (x : ℕ) (s : List ℕ) : Type 0 where
@@ -54,9 +52,9 @@ spelt zero x h =
       more = [];
       are = digits-one 10 x l;
       digits-are = rw (digit-digit x l);
-      no-zero = λ p e. omega (arith, digit-is x l);
+      no-zero = λ p e. omega (arith, decimal-digit x l);
       alone = λ e. refl;
-      is = rw (digits-one 10 x l) (omega (arith, digit-is x l));
+      is = rw (digits-one 10 x l) (omega (arith, decimal-digit x l));
     }
 spelt (suc f) x h = go (before-or-from x 10) (λ g. spelt f (x / 10) (omega (arith, div-lt-self {n = x} {k = 10} (omega arith) (omega arith))))
   where
@@ -67,9 +65,9 @@ spelt (suc f) x h = go (before-or-from x 10) (λ g. spelt f (x / 10) (omega (ari
           more = [];
           are = digits-one 10 x l;
           digits-are = rw (digit-digit x l);
-          no-zero = λ p e. omega (arith, digit-is x l);
+          no-zero = λ p e. omega (arith, decimal-digit x l);
           alone = λ e. refl;
-          is = rw (digits-one 10 x l) (omega (arith, digit-is x l));
+          is = rw (digits-one 10 x l) (omega (arith, decimal-digit x l));
         }
     go (inr g) ih =
         let s = ih g in
@@ -86,7 +84,7 @@ spelt (suc f) x h = go (before-or-from x 10) (λ g. spelt f (x / 10) (omega (ari
               ap (number 10 0) (digits-more 10 x (omega arith) g)
               ∙ number-append 10 0 (digits 10 (x / 10)) d
               ∙ ap (λ (u : ℕ). 10 * u + (d - 48)) (s .is)
-              ∙ omega (arith, digit-is (x % 10) l);
+              ∙ omega (arith, decimal-digit (x % 10) l);
         }
 
 numeral-of : (x first : ℕ) (more : List ℕ) → all isDigit (first ∷ more) ≡ true → (0 < x → first ≡ 48 → ⊥) → (x ≡ 0 → more ≡ []) → isNumeral (first ∷ more) ≡ true
