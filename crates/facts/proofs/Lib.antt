@@ -1,5 +1,6 @@
--- Lemmas that all crates share: numbers and powers of two, joined tests, refusals, computed tables.
+-- Lemmas that all crates share: numbers and powers of two, joined tests, refusals, lists that are the same, computed tables.
 pub mod Numbers
 pub mod Tests
 pub mod Refused
+pub mod Same
 pub mod Table

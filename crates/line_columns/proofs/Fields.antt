@@ -9,7 +9,8 @@ use lib.ListN.{length, getD, take, drop}
 use lib.Seq.{drop-cons}
 use borrow.Author.Tests.{leb-true, eq-eqb, ne-eqb}
 use Rattle.facts.proofs.Tests.{and-both}
-use Rattle.line_columns.specs.Columns.{columns, characterOf, shown, fieldAt, same, isField}
+use Rattle.facts.specs.Same.{same}
+use Rattle.line_columns.specs.Columns.{columns, characterOf, shown, fieldAt, isField}
 use Rattle.line_columns.proofs.Characters.{characters, columns-are}
 
 -- 4 characters, one by one

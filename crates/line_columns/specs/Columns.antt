@@ -1,9 +1,10 @@
 -- Numbers in columns (document 01, "Text and program"): right-justified decimals in fields of 4 characters.
-use mathlib.Core.Bool.{Bool, true, false, cond, _&&_}
-use mathlib.Core.List.{List, [], _∷_, _++_}
+use mathlib.Core.Bool.{Bool, cond, _&&_}
+use mathlib.Core.List.{List, _++_}
 use Prim.Native.Nat.{ℕ, _+_, _-_, _*_, _%_}
 use lib.Dec.{leb, eqb}
 use lib.ListN.{length, getD, take, drop, replicate}
+use Rattle.facts.specs.Same.{same}
 use Rattle.terms.specs.Display.{decimal}
 
 -- x in 4 columns: its decimal, which has no leading zeros, and blanks to the left
@@ -22,12 +23,6 @@ shown b = cond (leb 48 b && leb b 57) (b - 48) 0
 unfoldable pub fieldAt : List ℕ → ℕ → ℕ
 fieldAt line at =
     1000 * shown (getD line at 0) + 100 * shown (getD line (at + 1) 0) + 10 * shown (getD line (at + 2) 0) + shown (getD line (at + 3) 0)
-
-abbrev pub same : List ℕ → List ℕ → Bool
-same [] [] = true
-same [] (y ∷ ys) = false
-same (x ∷ xs) [] = false
-same (x ∷ xs) (y ∷ ys) = eqb x y && same xs ys
 
 -- those characters are that number in columns
 unfoldable pub isField : List ℕ → ℕ → Bool

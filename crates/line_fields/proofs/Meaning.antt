@@ -1,5 +1,5 @@
 -- A line is in columns exactly where it is six numbers below 10,000, each in columns; they are then its fields. Assumes nothing.
-use mathlib.Core.Bool.{Bool, true, false, false≢true}
+use mathlib.Core.Bool.{Bool, true, false}
 use mathlib.Core.List.{List, [], _∷_, _++_, append-nil}
 use mathlib.Core.Path.{_≡_, refl, sym, ap, _∙_}
 use Prim.Native.Nat.{ℕ, _+_, _*_, _/_, _%_, _≤_, _<_}
@@ -7,9 +7,11 @@ use native.Mathlib.Omega.{arith}
 use lib.Dec.{eqb}
 use lib.ListN.{length, getD, take, drop, take-append-drop, drop-of-length-le}
 use lib.Seq.{drop-drop}
-use borrow.Author.Tests.{le-leb, eq-eqb, eqb-true}
+use borrow.Author.Tests.{le-leb, eqb-true}
+use Rattle.facts.specs.Same.{same}
 use Rattle.facts.proofs.Tests.{and-both}
-use Rattle.line_columns.specs.Columns.{columns, characterOf, shown, fieldAt, same, isField}
+use Rattle.facts.proofs.Same.{same-refl, same-eq}
+use Rattle.line_columns.specs.Columns.{columns, characterOf, shown, fieldAt, isField}
 use Rattle.line_fields.specs.Fields.{inColumns, fields}
 use Rattle.line_columns.proofs.Characters.{characters, columns-are}
 use Rattle.line_columns.proofs.Fields.{chars}
@@ -36,10 +38,6 @@ sum x a b c p q r s e f g h = omega arith
 digits-sum : (x : ℕ) → x < 10000 → 1000 * (x / 1000 % 10) + 100 * (x / 100 % 10) + 10 * (x / 10 % 10) + x % 10 ≡ x
 digits-sum x h =
     sum x (x / 1000) (x / 100) (x / 10) (x / 1000 % 10) (x / 100 % 10) (x / 10 % 10) (x % 10) (omega arith) (omega arith) (omega arith) (omega arith)
-
-same-refl : (l : List ℕ) → same l l ≡ true
-same-refl [] = refl
-same-refl (x ∷ l) = rw (eq-eqb x x refl) (same-refl l)
 
 module _ (line : List ℕ) (at x : ℕ) (low : x < 10000) (h : at + 4 ≤ length line) (e : take 4 (drop at line) ≡ characters x) where
   character-at : (k : ℕ) → getD (getD line at 0 ∷ getD line (at + 1) 0 ∷ getD line (at + 2) 0 ∷ getD line (at + 3) 0 ∷ []) k 0 ≡ getD (characters x) k 0
@@ -96,20 +94,10 @@ module _ (a b c d e f : ℕ) (la : a < 10000) (lb : b < 10000) (lc : c < 10000) 
 
 -- ---- a line in columns is its fields, each in columns
 
-same-true : (a b : List ℕ) → same a b ≡ true → a ≡ b
-same-true [] [] e = refl
-same-true [] (y ∷ b) e = absurd (false≢true e)
-same-true (x ∷ a) [] e = absurd (false≢true e)
-same-true (x ∷ a) (y ∷ b) e =
-    let p = and-both (eqb x y) (same a b) e in
-    let q : x ≡ y = eqb-true x y (p .0) in
-    let r : a ≡ b = same-true a b (p .1) in
-    cc
-
 module _ (line : List ℕ) where
   columns-at : (at : ℕ) → isField line at ≡ true → take 4 (drop at line) ≡ columns (fieldAt line at)
   unfolding isField
-  columns-at at e = same-true _ _ e
+  columns-at at e = same-eq _ _ e
 
   next : (at : ℕ) → isField line at ≡ true → drop at line ≡ columns (fieldAt line at) ++ drop (at + 4) line
   next at e =

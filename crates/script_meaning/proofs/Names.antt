@@ -5,33 +5,18 @@ use mathlib.Core.List.{List, [], _∷_}
 use mathlib.Core.Option.{some, none}
 use Prim.Native.Nat.{ℕ}
 use lib.Dec.{eqb}
-use borrow.Author.Tests.{eqb-true, eq-eqb}
+use borrow.Author.Tests.{eqb-true}
+use Rattle.facts.specs.Same.{same}
 use Rattle.facts.proofs.Tests.{and-both}
+use Rattle.facts.proofs.Same.{same-refl, not-same}
 use Rattle.terms.specs.Display.{bytes, decimal}
 use Rattle.pool.specs.Node.{Kind, bad, var, const, bv, compare, ite, extract, concat, zext, sext, Cell}
 use Rattle.script_meaning.specs.Read.{isDigit, isSymbolic, isPlain}
-use Rattle.script_meaning.specs.Values.{all, same, isAmong, literal, Meaning, Entry, _↦ᵉ_, find}
+use Rattle.script_meaning.specs.Values.{all, isAmong, literal, Meaning, Entry, _↦ᵉ_, find}
 use Rattle.script_meaning.specs.Functions.{taken}
 use Rattle.script_meaning.specs.Meaning.{atom}
 use Rattle.script_meaning.specs.Script.{registerName, nodeName, nameBy}
 use Rattle.script_meaning.proofs.Numbers.{decimal-one, decimal-digits}
-
-pub same-refl : (s : List ℕ) → same s s ≡ true
-same-refl [] = refl
-same-refl (c ∷ s) = rw (eq-eqb c c refl, same-refl s)
-
-same-eq : (s t : List ℕ) → same s t ≡ true → s ≡ t
-same-eq [] [] h = refl
-same-eq [] (d ∷ t) h = absurd (false≢true h)
-same-eq (c ∷ s) [] h = absurd (false≢true h)
-same-eq (c ∷ s) (d ∷ t) h = let p = and-both (eqb c d) (same s t) h in λ i. eqb-true c d (p .0) i ∷ same-eq s t (p .1) i
-
-not-same : (s t : List ℕ) → (s ≡ t → ⊥) → same s t ≡ false
-not-same s t h = go (same s t) refl
-  where
-    go : (b : Bool) → same s t ≡ b → same s t ≡ false
-    go true e = absurd (h (same-eq s t e))
-    go false e = e
 
 pub other-decimal : (j k : ℕ) → (j ≡ k → ⊥) → same (decimal j) (decimal k) ≡ false
 other-decimal j k h = not-same (decimal j) (decimal k) (λ e. h (decimal-one j k e))

@@ -18,7 +18,8 @@ use Rattle.pool.proofs.Facts.{valid-node}
 use Rattle.pool.proofs.Laws.{unfold-step}
 use Rattle.pool_check.proofs.Sound.{sound}
 use Rattle.pool_rules.proofs.Kept.{register, var-wide}
-use Rattle.script_meaning.specs.Values.{same, Meaning, meaning, _↦ᵉ_, find}
+use Rattle.facts.specs.Same.{same}
+use Rattle.script_meaning.specs.Values.{Meaning, meaning, _↦ᵉ_, find}
 use Rattle.script_meaning.specs.Meaning.{atom, term}
 use Rattle.script_meaning.specs.Script.{registerName, nodeName, nameBy, nameOf, termOf}
 use Rattle.script_meaning.proofs.Names.{other-decimal, find-here, find-past, atom-name}

@@ -10,7 +10,8 @@ use lib.Dec.{ltb, eqb}
 use Rattle.terms.specs.Display.{bytes}
 use Rattle.script_meaning.specs.Sexp.{Sexp, word, list, Items, stop, _⨾_}
 use Rattle.script_meaning.specs.Read.{read}
-use Rattle.script_meaning.specs.Values.{andThen, when, isNone, same, Entry, _↦ᵉ_, find, isAmong, numeral, isSymbol, Meaning, meaning, literal}
+use Rattle.facts.specs.Same.{same}
+use Rattle.script_meaning.specs.Values.{andThen, when, isNone, Entry, _↦ᵉ_, find, isAmong, numeral, isSymbol, Meaning, meaning, literal}
 use Rattle.script_meaning.specs.Functions.{functions, taken, indexed, one, two, three, applied, appliedAt}
 
 -- ---- terms

@@ -6,6 +6,7 @@ use mathlib.Core.Option.{Option, some, none}
 use Prim.Native.Nat.{ℕ, _+_, _-_, _*_}
 use lib.Dec.{eqb}
 use lib.ListN.{length}
+use Rattle.facts.specs.Same.{same}
 use Rattle.script_meaning.specs.Read.{isDigit, isSymbolic}
 
 -- ---- may be missing
@@ -23,12 +24,6 @@ isNone (some a) = false
 isNone none = true
 
 -- ---- names
-
-abbrev pub same : List ℕ → List ℕ → Bool
-same [] [] = true
-same [] (y ∷ ys) = false
-same (x ∷ xs) [] = false
-same (x ∷ xs) (y ∷ ys) = eqb x y && same xs ys
 
 pub record Entry (A : Type 0) : Type 0 where
   pub name : List ℕ
