@@ -10,7 +10,7 @@ use Rattle.facts.proofs.Table.{tabulate, agree}
 use Rattle.neon.specs.Op.{operations, opAt}
 use Rattle.neon.specs.Form.{form}
 use Rattle.words_encoding.specs.Encoding.{Class, ShiftByImmediate, ThreeSame, ThreeDifferent, TwoMiscellaneous, ByElement, TwoMiscellaneous01, encoding}
-use Rattle.words_encoding.specs.Word.{bit}
+use Rattle.terms.specs.Value.{bit}
 use Rattle.words_encoding.specs.Decode.{bits, classNumber, classAt, opcodeAt, upperIs, isCoded, operationOf, operationAt, sizeAt, sizeOfImmh}
 use Rattle.words_encoding.specs.Parts.{keyOf}
 use Rattle.words_encoding.proofs.Operations.{same-bit, same-bits, is-01}

@@ -11,7 +11,8 @@ use Rattle.facts.proofs.Tests.{and-both}
 use Rattle.neon.specs.Op.{Op, operations, opAt, Arrangement, arrangements, arrangementAt, laneBits}
 use Rattle.neon.specs.Form.{Lanes, Immediate, None, Left, Right, Element, isElement, form, hasForm, hasSecond, byElement}
 use Rattle.words_encoding.specs.Encoding.{Class, ShiftByImmediate, ThreeSame, ThreeDifferent, TwoMiscellaneous, ByElement, TwoMiscellaneous01, encoding}
-use Rattle.words_encoding.specs.Word.{bit, Qof, size, sizeOf}
+use Rattle.terms.specs.Value.{bit}
+use Rattle.words_encoding.specs.Word.{Qof, size, sizeOf}
 use Rattle.words_encoding.specs.Decode.{classNumber, upperIs, operationOf, arrangementOf}
 
 -- two flags that are the same, as a flag

@@ -9,7 +9,8 @@ use Rattle.facts.proofs.Table.{tabulate, agree}
 use Rattle.neon.specs.Op.{Arrangement, B8, B16, H4, H8, S2, S4, D2, arrangements, arrangementAt, laneBits, full}
 use Rattle.neon.specs.Form.{Lanes, Same, Narrow, Long, Immediate, None, Left, Right, Element, mostOf, immediateCode}
 use Rattle.neon.proofs.Geometry.{sized}
-use Rattle.words_encoding.specs.Word.{bit, sizeOf}
+use Rattle.terms.specs.Value.{bit}
+use Rattle.words_encoding.specs.Word.{sizeOf}
 use Rattle.words_encoding.specs.Decode.{bits, arrangementOf, elementAt, immediateAt}
 use Rattle.words_encoding.specs.Parts.{isLong, viewPart, sizePart, elementPart, placePart}
 

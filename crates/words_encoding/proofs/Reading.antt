@@ -9,7 +9,8 @@ use Rattle.neon.specs.Op.{Arrangement, B8, B16, H4, H8, S2, S4, D2, laneBits, f
 use Rattle.neon.specs.Form.{Lanes, Same, Narrow, Long, Immediate, None, Left, Right, Element, leastOf, mostOf, isElement}
 use Rattle.neon.proofs.Geometry.{sized}
 use Rattle.words_encoding.specs.Encoding.{Class, ShiftByImmediate, ThreeSame, ThreeDifferent, TwoMiscellaneous, ByElement, TwoMiscellaneous01}
-use Rattle.words_encoding.specs.Word.{word, diagram, bit, Qof, size, sizeOf, immhb, Hof, Lof, Mof, Rmof}
+use Rattle.terms.specs.Value.{bit}
+use Rattle.words_encoding.specs.Word.{word, diagram, Qof, size, sizeOf, immhb, Hof, Lof, Mof, Rmof}
 use Rattle.words_encoding.specs.Decode.{bits, classNumber, classAt, opcodeAt, upperIs, sizeOfImmh, sizeAt, immediateAt}
 use Rattle.words_encoding.proofs.Fields.{Common, shift, same, different, miscellaneous, miscellaneous-01, indexed}
 use Rattle.words_encoding.proofs.Operations.{isNone, isShift, immediateIs, secondIs, opcodeBits, sizeBack}

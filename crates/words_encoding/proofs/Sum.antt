@@ -13,7 +13,8 @@ use Rattle.neon.specs.Form.{Lanes, Same, Narrow, Long, Immediate, None, Left, R
 use Rattle.neon.specs.Refusal.{Legal}
 use Rattle.neon.proofs.Legal.{accepted}
 use Rattle.words_encoding.specs.Encoding.{Class, ShiftByImmediate, ThreeSame, ThreeDifferent, TwoMiscellaneous, ByElement, TwoMiscellaneous01, encoding}
-use Rattle.words_encoding.specs.Word.{word, diagram, bit, Qof, size, immhb, Hof, Lof, Mof, Rmof, encodeOf, encode}
+use Rattle.terms.specs.Value.{bit}
+use Rattle.words_encoding.specs.Word.{word, diagram, Qof, size, immhb, Hof, Lof, Mof, Rmof, encodeOf, encode}
 use Rattle.words_encoding.specs.Parts.{upperBit, isLong, fixedOf, viewPart, sizePart, placePart}
 use Rattle.words_encoding.proofs.Operations.{same-bit, same-bits, is-01, at-each, isNone, isShift, immediateIs, tied-at, place, element-at}
 use Rattle.words_encoding.proofs.Reading.{most}

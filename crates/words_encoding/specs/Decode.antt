@@ -9,7 +9,8 @@ use Rattle.neon.specs.Refusal.{recordNumber}
 use Rattle.words_encoding.specs.declared.Decoded.{Decoded}
 use Rattle.words_encoding.specs.declared.Decoded.the-variants.{Record, Nothing}
 use Rattle.words_encoding.specs.Encoding.{Class, ShiftByImmediate, ThreeSame, ThreeDifferent, TwoMiscellaneous, ByElement, TwoMiscellaneous01, encoding}
-use Rattle.words_encoding.specs.Word.{bit, encode}
+use Rattle.terms.specs.Value.{bit}
+use Rattle.words_encoding.specs.Word.{encode}
 
 -- bits hi to lo of w, the manual's w<hi:lo>
 abbrev pub bits : ℕ → ℕ → ℕ → ℕ

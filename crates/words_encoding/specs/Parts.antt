@@ -6,7 +6,8 @@ use Rattle.neon.specs.Op.{Op, Arrangement, full}
 use Rattle.neon.specs.Form.{Lanes, Same, Narrow, Long, Immediate, None, Left, Right, Element, form}
 use Rattle.words_encoding.specs.Encoding.{encoding}
 use Rattle.words_encoding.specs.Decode.{bits}
-use Rattle.words_encoding.specs.Word.{word, diagram, bit, size}
+use Rattle.terms.specs.Value.{bit}
+use Rattle.words_encoding.specs.Word.{word, diagram, size}
 
 abbrev pub upperBit : Lanes → ℕ
 upperBit Same = 0

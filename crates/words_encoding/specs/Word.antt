@@ -1,8 +1,9 @@
 -- The A64 word of a record: the manual's diagram of its class, with the fields of the record put in.
-use mathlib.Core.Bool.{Bool, cond}
+use mathlib.Core.Bool.{cond}
 use mathlib.Core.List.{List, [], _∷_}
 use Prim.Native.Nat.{ℕ, _+_, _-_, _*_, _/_, _%_, _^_}
 use lib.Dec.{eqb}
+use Rattle.terms.specs.Value.{bit}
 use Rattle.neon.specs.declared.Instruction.{Instruction}
 use Rattle.neon.specs.Op.{Op, opAt, Arrangement, arrangementAt, B8, B16, H4, H8, S2, S4, D2, laneBits, full}
 use Rattle.neon.specs.Form.{Lanes, Same, Narrow, Long, Immediate, None, Left, Right, Element, form}
@@ -25,9 +26,6 @@ below x (f ∷ fs) = below (x * 2 ^ f .bits + f .holds) fs
 -- the word of a diagram, from bit 31 down
 abbrev pub word : List Field → ℕ
 word fs = below 0 fs
-
-abbrev pub bit : Bool → ℕ
-bit b = cond b 1 0
 
 -- ---- what the fields hold
 

@@ -6,7 +6,7 @@ use native.Mathlib.Omega.{arith}
 use Rattle.neon.specs.Op.{opAt, arrangementAt}
 use Rattle.neon.specs.Form.{form}
 use Rattle.words_encoding.specs.Parts.{viewPart}
-use Rattle.words_encoding.specs.Word.{bit}
+use Rattle.terms.specs.Value.{bit}
 use Rattle.words_encoding.proofs.Pieces.{view-long, view-other}
 use borrow.Author.Needs.{needs}
 use Rattle.words_encoding.proofs.encode.view_part.Statement.{statement}
