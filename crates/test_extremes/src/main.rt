@@ -4,58 +4,59 @@
 // nodes 1 and 2 are a condition and a register; then kind, width and operands of the nodes of even number, and of
 // those of odd number. `tests/extremes` makes the lines and what is to be written.
 use line_columns::field;
+use pool::Node;
+use pool::push;
 use pool::words::Kind;
+use pool::words::kind_word;
+use pool::words::operands_word;
 ghost use Prim.Native.Nat.{_<_};
 
 const NODES: usize = 65535;
 
 // Word 1 of a node, by a number for the operands that are the node before it: 0 for A, 1 for B, 2 for both; 3 for B
 // and 4 for C, where A is node 1; 5 for A, where B is node 1. The others are node 0.
-fn operands(which: u64, last: u64) -> u64
-    requires { ⌜ last < 65536 ⌝ }
+fn operands(which: u64, last: Node) -> u64
+    requires { ⌜ last .0 < 65536 ⌝ }
 {
     match which {
-        0 => last,
-        1 => 65536 * last,
-        2 => last + 65536 * last,
-        3 => 1 + 65536 * last,
-        4 => 1 + 4294967296 * last,
-        _ => last + 65536,
+        0 => operands_word(last, Node(0), Node(0)),
+        1 => operands_word(Node(0), last, Node(0)),
+        2 => operands_word(last, last, Node(0)),
+        3 => operands_word(Node(1), last, Node(0)),
+        4 => operands_word(Node(1), Node(0), last),
+        _ => operands_word(last, Node(1), Node(0)),
     }
 }
 
 // Writes node n. An Extract has lo 0, and hi by its width.
-fn put_node(pool: &mut [u64; 262140], n: usize, kind: u64, width: u64, word: u64)
-    requires { ⌜ (n < 65535) × (kind < 10000) × (width < 10000) ⌝ }
+fn put_node(pool: &mut [u64; 262140], n: Node, kind: u64, width: u64, word: u64)
+    requires { ⌜ (n .0 < 65535) × (kind < 10000) × (width < 10000) ⌝ }
 {
-    let at = 4 * n;
     // every node of a chain stands over v0
-    pool[at] = kind + 65536 * width + 4294967296;
-    pool[at + 1] = word;
-    pool[at + 2] = 0;
-    pool[at + 3] = 0;
-    if kind == Kind::EXTRACT {
-        if 0 < width {
-            pool[at + 2] = width - 1;
-        }
-    }
+    let w0 = kind_word(kind, width, 1);
+    let hi = if kind == Kind::EXTRACT {
+        one_less(width as usize) as u64
+    } else {
+        0
+    };
+    push(&mut pool[..], n.0, w0, word, hi, 0);
 }
 
 fn build(pool: &mut [u64; 262140], case: &[u8]) {
     if case.len() < 32 {
         return;
     }
-    put_node(pool, 0, Kind::VAR, 128, 0);
+    put_node(pool, Node(0), Kind::VAR, 128, 0);
     let mut n = 1;
     while n < NODES {
         let at = 8 + n % 2 * 12;
-        let word = operands(field(case, at + 8), (n - 1) as u64);
-        put_node(pool, n, field(case, at), field(case, at + 4), word);
+        let word = operands(field(case, at + 8), Node(n - 1));
+        put_node(pool, Node(n), field(case, at), field(case, at + 4), word);
         n += 1;
     }
     if field(case, 4) == 1 {
-        put_node(pool, 1, Kind::EQ, 0, 0);
-        put_node(pool, 2, Kind::VAR, 128, 0);
+        put_node(pool, Node(1), Kind::EQ, 0, 0);
+        put_node(pool, Node(2), Kind::VAR, 128, 0);
     }
 }
 
@@ -92,9 +93,9 @@ fn print(x: u64, end: &[u8]) {
 }
 
 // One buffer: its bytes, the number, the length, and a sum over all of it.
-fn attempt(pool: &[u64], node: usize, buffer: &mut [u8]) {
+fn attempt(pool: &[u64], node: Node, buffer: &mut [u8]) {
     fill(buffer);
-    let w = text::write_text(pool, NODES, node, buffer);
+    let w = text::write_text(pool, NODES, node.0, buffer);
     print(buffer.len() as u64, b" ");
     print(w.number, b" ");
     print(w.length as u64, b" ");
@@ -117,15 +118,15 @@ fn size(i: usize, exact: usize) -> usize {
     }
 }
 
-fn sized(pool: &[u64], node: usize, buffer: &mut [u8], n: usize) {
+fn sized(pool: &[u64], node: Node, buffer: &mut [u8], n: usize) {
     if n <= buffer.len() {
         attempt(pool, node, &mut buffer[..n]);
     }
 }
 
 // A chain in each buffer that there is room for.
-fn buffers(pool: &[u64], node: usize, buffer: &mut [u8]) {
-    let exact = text_length::text_length(pool, NODES, node, 1441792).length as usize;
+fn buffers(pool: &[u64], node: Node, buffer: &mut [u8]) {
+    let exact = text_length::text_length(pool, NODES, node.0, 1441792).length as usize;
     let mut i = 0;
     while i < 6 {
         sized(pool, node, buffer, size(i, exact));
@@ -134,11 +135,11 @@ fn buffers(pool: &[u64], node: usize, buffer: &mut [u8]) {
 }
 
 // The last node of a chain.
-fn last(case: &[u8]) -> usize {
+fn last(case: &[u8]) -> Node {
     if case.len() < 4 {
-        return 0;
+        return Node(0);
     }
-    NODES - 1 - (field(case, 0) as usize)
+    Node(NODES - 1 - (field(case, 0) as usize))
 }
 
 // One chain, if the input has one more.

@@ -31,8 +31,8 @@ add-field c = search needs
 field-requires : tie.Need-field-requires Inv-loop μ-loop
 field-requires c κs = search needs
 
-sub-operands : tie.Need-sub-operands Inv-loop μ-loop
-sub-operands c = search needs
+sub-field : tie.Need-sub-field Inv-loop μ-loop
+sub-field c = search needs
 
 operands-requires : tie.Need-operands-requires Inv-loop μ-loop
 operands-requires c κs = search needs
@@ -86,7 +86,7 @@ build-spec =
     add-at
     add-field
     field-requires
-    sub-operands
+    sub-field
     operands-requires
     field-requires-2
     add-field-2
