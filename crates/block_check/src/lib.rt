@@ -16,6 +16,14 @@ pub struct Checked {
     pub position: usize,
 }
 
+// What comes back of a list that is read or written: 0 or a number of documents 01 and 02, the position of what is refused, and how
+// many lines, words or records there are.
+pub struct ListAnswer {
+    pub number: u64,
+    pub position: usize,
+    pub count: usize,
+}
+
 // The first record that is refused.
 pub fn records_refusal(records: &[u64]) -> Checked
     ensures { λ r. ⌜ Refuses r (recordsRefusal 0 (recordsOf (now (records .entry)))) ⌝ }

@@ -11,11 +11,11 @@ use lib.ListN.{length, drop, take, getD, set, length-take, length-drop, List·ge
 use lib.Seq.{sets-eq}
 use borrow.Author.Tests.{eqb-true, ne-eqb, le-leb, lt-leb}
 use Rattle.neon.specs.Refusal.{Refusal, refusal}
+use Rattle.neon.proofs.First.{passed-all, all-pass, first-fails}
 use Rattle.line_fields.specs.Fields.{inColumns, fields}
 use Rattle.text_digits.specs.Writing.{Wrote}
 use Rattle.text_series.proofs.Places.{rows-length}
-use Rattle.line_routine.proofs.First.{all-pass, first-fails}
-use Rattle.line_routine.specs.Routine.{lineCount, lineAt, isLine, linesRefusal, readRefusal, numbersIn, LinesRead, Good}
+use Rattle.line_routine.specs.Routine.{lineCount, lineAt, isLine, readRefusal, numbersIn, LinesRead, Good}
 
 -- ---- one line
 
@@ -71,12 +71,6 @@ wrote-six l at f line e = rw e (record { next-is = refl; after-is = simp towards
 -- ---- all lines
 
 module _ (bs : List ℕ) where
-  refusal-good : (r : ℕ) → Good bs r → lineCount bs ≤ r → linesRefusal bs ≡ refusal 0 0
-  refusal-good r g h = all-pass (isLine bs) 10 (lineCount bs) (λ i m. g .before i (omega arith))
-
-  refusal-bad : (r : ℕ) → Good bs r → r < lineCount bs → linesRefusal bs ≡ refusal 10 r
-  refusal-bad r g h = first-fails (isLine bs) 10 (lineCount bs) r h (g .before) (g .first h)
-
   pub numbers-length : length (numbersIn bs) ≡ 6 * lineCount bs
   unfolding numbersIn
   numbers-length = rows-length 6 (λ j. fields (lineAt bs j)) (lineCount bs) (λ j m. refl)
@@ -85,15 +79,15 @@ module _ (bs : List ℕ) where
 
   pub bad-line : (room r : ℕ) → Good bs r → r < lineCount bs → readRefusal bs room ≡ refusal 10 r
   unfolding readRefusal
-  bad-line room r g h = rw (refusal-bad r g h)
+  bad-line room r g h = rw (first-fails g 10 (omega arith) h)
 
   pub long-routine : (room r : ℕ) → Good bs r → lineCount bs ≤ r → room < 6 * lineCount bs → readRefusal bs room ≡ refusal 8 0
   unfolding readRefusal
-  long-routine room r g h s = rw (refusal-good r g h, lt-leb (6 * lineCount bs) room s)
+  long-routine room r g h s = rw (all-pass g 10 h, lt-leb (6 * lineCount bs) room s)
 
   pub no-refusal : (room r : ℕ) → Good bs r → lineCount bs ≤ r → 6 * lineCount bs ≤ room → readRefusal bs room ≡ refusal 0 0
   unfolding readRefusal
-  no-refusal room r g h s = rw (refusal-good r g h, le-leb (6 * lineCount bs) room s)
+  no-refusal room r g h s = rw (all-pass g 10 h, le-leb (6 * lineCount bs) room s)
 
   pub refused : (old : List ℕ) (k p : ℕ) → readRefusal bs (length old) ≡ refusal (suc k) p → LinesRead bs old (record { number = suc k; position = p; count = 0 }) old
   refused old k p e =
@@ -105,7 +99,7 @@ module _ (bs : List ℕ) where
       }
 
   pub all-good : (r : ℕ) → Good bs r → lineCount bs ≤ r → Good bs (lineCount bs)
-  all-good r g h = record { most = omega arith; before = λ j l. g .before j (omega arith); first = λ l. absurd (omega arith) }
+  all-good r g h = passed-all (isLine bs) (lineCount bs) (λ j l. g .before j (omega arith))
 
   pub written : {old new : List ℕ} {end n : ℕ} → n ≡ lineCount bs → readRefusal bs (length old) ≡ refusal 0 0 → length (numbersIn bs) ≤ length old → Wrote old 0 (numbersIn bs) end new
       → LinesRead bs old (record { number = 0; position = 0; count = n }) new

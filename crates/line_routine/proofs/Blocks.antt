@@ -11,7 +11,7 @@ use borrow.Author.Tests.{eqb-false, leb-true, leb-false}
 use Rattle.neon.specs.Refusal.{Refusal, refusal}
 use Rattle.block_check.specs.Records.{recordsOf}
 use Rattle.block_check.proofs.Refusals.{from-length}
-use Rattle.line_routine.specs.declared.Answer.{Answer}
+use Rattle.block_check.specs.declared.ListAnswer.{ListAnswer}
 use Rattle.line_routine.specs.Routine.{lineCount, linesRefusal, readRefusal, numbersIn, routineOf, routineRefusal, LinesRead}
 use Rattle.line_routine.proofs.Answers.{numbers-length}
 
@@ -37,7 +37,7 @@ module _ (bs : List ℕ) where
     ways : Ways
     ways = by-lines (eqb (linesRefusal bs .number) 0) refl (leb (6 * lineCount bs) 510) refl
 
-    module _ {old records : List ℕ} (r : Answer) (size : length old ≡ 510) (h : LinesRead bs old r records) where
+    module _ {old records : List ℕ} (r : ListAnswer) (size : length old ≡ 510) (h : LinesRead bs old r records) where
       number-by : r .number ≡ readRefusal bs 510 .number
       number-by = h .number-is ∙ ap (λ (k : ℕ). readRefusal bs k .number) size
 

@@ -1,4 +1,3 @@
--- The first place that is refused, by the places before it; what reading lines answers, by the way that it took; a routine that was read into a list for 85 records, handed on as a block.
-pub mod First
+-- What reading lines answers, by the way that it took; a routine that was read into a list for 85 records, handed on as a block.
 pub mod Answers
 pub mod Blocks

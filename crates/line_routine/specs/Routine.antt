@@ -1,18 +1,17 @@
 -- A routine in document 01's columns: lines of 24 characters, each ended by a newline; the last newline may be missing.
-use mathlib.Core.Bool.{Bool, true, false, _&&_}
+use mathlib.Core.Bool.{Bool, _&&_}
 use mathlib.Core.List.{List}
 use mathlib.Core.Path.{_≡_}
-use Prim.Native.Nat.{ℕ, _+_, _*_, _/_, _≤_, _<_}
+use Prim.Native.Nat.{ℕ, _+_, _*_, _/_}
 use lib.Dec.{leb, eqb}
 use lib.ListN.{length, getD, take, drop}
 use Rattle.facts.specs.Refuse.{byNumber, listBy, unless}
 use Rattle.neon.specs.declared.Instruction.{Instruction}
-use Rattle.neon.specs.Refusal.{Refusal, refusal, firstOf}
+use Rattle.neon.specs.Refusal.{Refusal, refusal, firstOf, firstRefusal, PassedTo}
+use Rattle.block_check.specs.declared.ListAnswer.{ListAnswer}
 use Rattle.block_check.specs.Records.{recordsOf}
 use Rattle.line_fields.specs.Fields.{inColumns, fields}
 use Rattle.text_series.specs.Series.{upTo}
-use Rattle.line_routine.specs.First.{firstRefusal}
-use Rattle.line_routine.specs.declared.Answer.{Answer}
 
 -- a line is 25 bytes, of the last the newline may be missing
 abbrev pub lineCount : List ℕ → ℕ
@@ -46,14 +45,12 @@ unfoldable pub routineRefusal : List ℕ → (block : Refusal) → Refusal
 routineRefusal bs block = firstOf (linesRefusal bs) block
 
 -- lines were read
-pub record LinesRead (bs old : List ℕ) (r : Answer) (new : List ℕ) : Type 0 where
+pub record LinesRead (bs old : List ℕ) (r : ListAnswer) (new : List ℕ) : Type 0 where
   pub number-is : r .number ≡ readRefusal bs (length old) .number
   pub position-is : r .position ≡ readRefusal bs (length old) .position
   pub count-is : r .count ≡ byNumber (readRefusal bs (length old) .number) (lineCount bs)
   pub list-is : new ≡ listBy (readRefusal bs (length old) .number) (numbersIn bs) old
 
 -- the first r lines are in columns, and line r, if there is one, is not
-pub record Good (bs : List ℕ) (r : ℕ) : Type 0 where
-  pub most : r ≤ lineCount bs
-  pub before : (j : ℕ) → j < r → isLine bs j ≡ true
-  pub first : r < lineCount bs → isLine bs r ≡ false
+abbrev pub Good : List ℕ → ℕ → Type 0
+Good bs r = PassedTo (isLine bs) (lineCount bs) r

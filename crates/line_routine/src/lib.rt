@@ -1,4 +1,5 @@
 // A routine as lines of document 01's columns, read into records of flat numbers, six each.
+use block_check::ListAnswer;
 use line_fields::fields_of;
 use line_fields::in_columns;
 ghost use mathlib.Core.Path.{_≡_};
@@ -7,13 +8,6 @@ ghost use lib.ListN.{length};
 ghost use Rattle.text_digits.specs.Writing.{Room, Wrote};
 ghost use Rattle.line_fields.specs.Fields.{fields};
 ghost use Rattle.line_routine.specs.Routine.{lineCount, lineAt, isLine, numbersIn, Good, LinesRead};
-
-// 0 or a number of document 01, the position of the line that is refused, and how many lines there are.
-pub struct Answer {
-    pub number: u64,
-    pub position: usize,
-    pub count: usize,
-}
 
 // The lines, the last also where no newline ends it.
 fn line_count(bytes: &[u8]) -> usize
@@ -96,27 +90,27 @@ fn put_numbers(bytes: &[u8], records: &mut [u64]) -> usize
 
 // Reads lines into records. Refuses by 10 with the position of the first line that is not in columns, then by 8 where there are more
 // lines than the lent list holds; a refusal writes nothing.
-pub fn read_lines(bytes: &[u8], records: &mut [u64]) -> Answer
+pub fn read_lines(bytes: &[u8], records: &mut [u64]) -> ListAnswer
     ensures { λ r. ⌜ LinesRead (now (bytes .entry)) (now (records .entry)) r (now (records .exit)) ⌝ }
 {
     let count = line_count(bytes);
     let good = good_lines(bytes);
     if good < count {
-        return Answer {
+        return ListAnswer {
             number: 10,
             position: good,
             count: 0,
         };
     }
     if records.len() < 6 * count {
-        return Answer {
+        return ListAnswer {
             number: 8,
             position: 0,
             count: 0,
         };
     }
     put_numbers(bytes, records);
-    Answer {
+    ListAnswer {
         number: 0,
         position: 0,
         count,

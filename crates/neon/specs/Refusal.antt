@@ -1,8 +1,8 @@
 -- The refusals of a record and of a block (document 01, "The numbers"): the first in order wins.
-use mathlib.Core.Bool.{Bool, cond, _&&_}
+use mathlib.Core.Bool.{Bool, true, false, cond, _&&_}
 use mathlib.Core.List.{List, [], _∷_}
 use mathlib.Core.Path.{_≡_}
-use Prim.Native.Nat.{ℕ, suc, _+_, _*_, _/_}
+use Prim.Native.Nat.{ℕ, zero, suc, _+_, _*_, _/_, _≤_, _<_}
 use lib.Dec.{leb, eqb}
 use lib.ListN.{length}
 use Rattle.facts.specs.Refuse.{unless}
@@ -67,6 +67,17 @@ refusal k p = record { number = k; position = p }
 -- r where it refuses, else what follows: `unless`, with a position
 abbrev pub firstOf : Refusal → Refusal → Refusal
 firstOf r rest = cond (eqb (r .number) 0) rest r
+
+-- the number and the position of the first of k places, from place j on, that does not pass; 0 and 0 where all do
+unfoldable pub firstRefusal : (passes : ℕ → Bool) → (number k j : ℕ) → Refusal
+firstRefusal passes number zero j = refusal 0 0
+firstRefusal passes number (suc k) j = firstOf (refusal (unless (passes j) number 0) j) (firstRefusal passes number k (suc j))
+
+-- of k places the first r pass, and place r, if there is one, does not
+pub record PassedTo (passes : ℕ → Bool) (k r : ℕ) : Type 0 where
+  pub most : r ≤ k
+  pub before : (j : ℕ) → j < r → passes j ≡ true
+  pub first : r < k → passes r ≡ false
 
 -- the first bad record's number and position, counted from p; 0 and 0 where all are accepted
 unfoldable pub recordsRefusal : ℕ → List Instruction → Refusal

@@ -18,7 +18,7 @@ use Rattle.wide.specs.Registers.{registersOf}
 use Rattle.saturation.specs.Saturates.{saturatesRun}
 use Rattle.neon.specs.Run.{armRun}
 use Rattle.run_block.specs.Run.{runRefusal, RunAnswered, FlagAnswered}
-use Rattle.line_routine.specs.declared.Answer.{Answer}
+use Rattle.block_check.specs.declared.ListAnswer.{ListAnswer}
 use Rattle.line_routine.specs.Routine.{routineOf, LinesRead}
 use Rattle.line_routine.proofs.Blocks as blocks
 use Rattle.line_routine.proofs.Blocks.{count-fits, block-is, records-are}
@@ -44,7 +44,7 @@ module _ (rest : List ℕ) where
   long : 85 < length (routineOf rest) → runRefusal (routineOf rest) ≡ refusal 8 0
   long h = rw (lt-leb (length (routineOf rest)) 85 h)
 
-  module _ {old records : List ℕ} (r : Answer) (size : length old ≡ 510) (h : LinesRead rest old r records) where
+  module _ {old records : List ℕ} (r : ListAnswer) (size : length old ≡ 510) (h : LinesRead rest old r records) where
     pub lines-fit : r .number ≤ 0 → 6 * r .count ≤ 510
     lines-fit = count-fits rest (runRefusal (routineOf rest)) long r size h
 

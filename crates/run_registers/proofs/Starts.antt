@@ -1,10 +1,9 @@
 -- Gaps, and the registers between them. Assumes nothing.
 use mathlib.Core.Bool.{Bool, true, false, _&&_, and-true, and-false, false≢true}
 use mathlib.Core.List.{List, _∷_}
-use mathlib.Core.Logic.{⊎-elim}
 use mathlib.Core.Path.{_≡_, refl, sym, ap, _∙_, subst}
 use Prim.Native.Nat.{ℕ, suc, _+_, _*_, _≤_, _<_}
-use native.Mathlib.Nat.{add-zero, eq-or-lt-of-le}
+use native.Mathlib.Nat.{add-zero}
 use native.Mathlib.Numerals.{add-one}
 use native.Mathlib.Omega.{arith}
 use lib.Dec.{eqb, leb}
@@ -16,11 +15,12 @@ use Rattle.text_digits.proofs.Laws.{wrote-none, wrote-as}
 use Rattle.text_series.specs.Series.{upTo}
 use Rattle.text_series.proofs.Places.{rows-length}
 use Rattle.text_series.proofs.Texts.{wrote-next}
-use Rattle.line_routine.proofs.First.{all-pass, first-fails}
+use Rattle.neon.specs.Refusal.{PassedTo}
+use Rattle.neon.proofs.First.{one-more, passed-all, all-pass, first-fails}
 use Rattle.line_routine.proofs.Answers.{getD-any}
 use Rattle.run_registers.specs.declared.Start.{Start}
 use Rattle.run_registers.specs.Digits.{isHex, allHex}
-use Rattle.run_registers.specs.Start.{isGap, gap, skip, after, placeOf, isRegister, pairAt, startWords, readBy, lineRefusal, startRefusal, LineRead, StartRead}
+use Rattle.run_registers.specs.Start.{isGap, gap, skip, after, placeOf, isRegister, isThere, pairAt, startWords, readBy, lineRefusal, startRefusal, LineRead, StartRead}
 
 module _ (newlines : Bool) (bs : List ℕ) (i : ℕ) where
   pub gap-over : length bs ≤ i → skip newlines bs i ≡ i
@@ -71,7 +71,7 @@ pub record Reading (bs old words : List ℕ) (next r : ℕ) : Type 0 where
   pub wrote : Wrote old 0 (startWords bs r) (2 * r) words
   pub next-is : next ≡ after bs r
   pub next-in : next ≤ length bs
-  pub good : (i : ℕ) → i < r → isRegister bs (placeOf bs i) ≡ true
+  pub good : (i : ℕ) → i < r → isThere bs i ≡ true
   pub most : r ≤ 32
 
 pub start-length : (bs : List ℕ) (r : ℕ) → length (startWords bs r) ≡ 2 * r
@@ -105,14 +105,15 @@ module _ (bs old : List ℕ) where
               (wrote-next rows r (h .wrote) (wrote-as (ap (pairAt bs) (sym at-place)) w));
           next-is = rw (add-one, after) (ap (λ (k : ℕ). k + 32) at-place);
           next-in = register-fits bs at g;
-          good = λ i m. ⊎-elim (λ q. ap (isRegister bs) (ap (placeOf bs) q ∙ sym at-place) ∙ g) (λ q. h .good i q) (eq-or-lt-of-le (let q : i ≤ r = omega arith in q));
+          good = one-more (isThere bs) r (h .good) (ap (isRegister bs) (sym at-place) ∙ g);
           most = omega arith;
         }
 
     pub reading-bad : r < 32 → isRegister bs at ≡ false → (s : Start) → (s .number ≡ 10) × (s .position ≡ r) × (s .next ≡ 0) → StartRead bs old s words
     unfolding startRefusal
     reading-bad l b s q =
-        let e = first-fails (λ r. isRegister bs (placeOf bs r)) 10 32 r l (h .good) (ap (isRegister bs) (sym at-place) ∙ b) in
+        let good : PassedTo (isThere bs) 32 r = record { most = h .most; before = h .good; first = λ m. ap (isRegister bs) (sym at-place) ∙ b } in
+        let e = first-fails good 10 (omega arith) l in
         record {
           number-is = rw e (q .0);
           position-is = rw e (q .1);
@@ -125,7 +126,7 @@ module _ (bs old : List ℕ) where
   pub reading-all : {words : List ℕ} {next : ℕ} (s : Start) → Reading bs old words next 32 → LineRead bs next s → StartRead bs old s words
   unfolding startRefusal
   reading-all {words} {next} s h l =
-      let e = all-pass (λ r. isRegister bs (placeOf bs r)) 10 32 (h .good) in
+      let e = all-pass (passed-all (isThere bs) 32 (h .good)) 10 (omega arith) in
       let n = h .next-is in
       record {
         number-is = rw (e, ← n) (l .number-is);

@@ -6,8 +6,7 @@ use Prim.Native.Nat.{ℕ, zero, suc, _+_, _≤_}
 use lib.Dec.{eqb}
 use lib.ListN.{length, getD, drop}
 use lib.Seq.{sets}
-use Rattle.neon.specs.Refusal.{Refusal, refusal}
-use Rattle.line_routine.specs.First.{firstRefusal}
+use Rattle.neon.specs.Refusal.{Refusal, refusal, firstOf, firstRefusal}
 use Rattle.text_series.specs.Series.{upTo}
 use Rattle.run_registers.specs.declared.Start.{Start}
 use Rattle.run_registers.specs.Digits.{hexAt, allHex}
@@ -37,6 +36,10 @@ placeOf bs r = skip true bs (after bs r)
 unfoldable pub isRegister : List ℕ → ℕ → Bool
 isRegister bs at = allHex bs at 32 && isGap true (getD bs (at + 32) 10)
 
+-- register r is there
+abbrev pub isThere : List ℕ → ℕ → Bool
+isThere bs r = isRegister bs (placeOf bs r)
+
 -- where the line of the last register ends, if only blanks stand there
 abbrev pub lineEnd : List ℕ → ℕ
 lineEnd bs = skip false bs (after bs 32)
@@ -47,9 +50,7 @@ lineRefusal bs end = cond (eqb (getD bs end 10) 10) (refusal 0 0) (refusal 10 32
 
 -- 10 and the first register that is not there; then that of the line
 unfoldable pub startRefusal : List ℕ → Refusal
-startRefusal bs =
-    let r = firstRefusal (λ r. isRegister bs (placeOf bs r)) 10 32 0 in
-    cond (eqb (r .number) 0) (lineRefusal bs (lineEnd bs)) r
+startRefusal bs = firstOf (firstRefusal (isThere bs) 10 32 0) (lineRefusal bs (lineEnd bs))
 
 -- two words a register, the low one, of its last 16 digits, first
 abbrev pub pairAt : List ℕ → ℕ → List ℕ

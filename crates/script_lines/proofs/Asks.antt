@@ -18,7 +18,7 @@ use Rattle.block_check.specs.Records.{recordsOf}
 use Rattle.block.specs.declared.BlockAnswer.{BlockAnswer}
 use Rattle.block.specs.Block as block
 use Rattle.script_write.specs.Answer as scripts
-use Rattle.line_routine.specs.declared.Answer.{Answer}
+use Rattle.block_check.specs.declared.ListAnswer.{ListAnswer}
 use Rattle.line_routine.specs.Routine.{routineOf, routineRefusal, LinesRead}
 use Rattle.line_routine.proofs.Blocks as blocks
 use Rattle.line_routine.proofs.Blocks.{count-fits, block-is, records-are}
@@ -93,7 +93,7 @@ module _ (input : List ℕ) (a b : ℕ) (pool old : List ℕ) where
       unfolding blockRefusal sizeNumber
       long h = rw (lt-leb (length (routineOf input)) 85 h)
 
-      module _ {none records : List ℕ} (r : Answer) (size : length none ≡ 510) (h : LinesRead input none r records) where
+      module _ {none records : List ℕ} (r : ListAnswer) (size : length none ≡ 510) (h : LinesRead input none r records) where
         pub lines-refused : 0 < r .number → (r .number ≡ asked .number) × (r .position ≡ asked .position)
         lines-refused z = rw routine (blocks.lines-refused input block-of long r size h z)
 

@@ -1,15 +1,15 @@
 -- What reading and writing words answer, by the way that they took. Assumes nothing.
 use mathlib.Core.Path.{_≡_, refl, sym, ap, _∙_, subst}
-use mathlib.Core.Logic.{⊎-elim}
 use mathlib.Core.Bool.{true, false, false≢true}
 use mathlib.Core.List.{List, _++_}
 use Prim.Native.Nat.{ℕ, zero, suc, _+_, _*_, _/_, _%_, _≤_, _<_}
-use native.Mathlib.Nat.{zero-add, eq-or-lt-of-le}
+use native.Mathlib.Nat.{zero-add}
 use native.Mathlib.Omega.{arith}
 use lib.ListN.{length, drop}
 use lib.Seq.{sets-eq}
 use borrow.Author.Tests.{eq-eqb, ne-eqb, le-leb, lt-leb}
 use Rattle.neon.specs.Refusal.{Refusal, refusal, recordsRefusal, Legal}
+use Rattle.neon.proofs.First.{all-pass, first-fails}
 use Rattle.block_record_check.specs.Record.{recordAt}
 use Rattle.block_check.specs.Records.{recordsOf}
 use Rattle.block_check.proofs.Refusals.{all-legal, legal-at}
@@ -20,32 +20,9 @@ use Rattle.words_encoding.specs.Decode.{decode}
 use Rattle.words_encoding.proofs.Decoding.{positive}
 use Rattle.text_digits.specs.Writing.{Wrote}
 use Rattle.text_series.proofs.Places.{rows-length}
-use Rattle.words_lists.specs.Words.{wordAt, wholeWords, isRecord, flat, wordsRefusal, readRefusal, recordsIn, WordsRead, Good, wordBytes, writeRefusal, wordsIn, WordsWritten, AllGood}
+use Rattle.words_lists.specs.Words.{wordAt, wholeWords, isRecord, flat, readRefusal, recordsIn, WordsRead, Good, wordBytes, writeRefusal, wordsIn, WordsWritten, AllGood}
 
 module _ (bs : List ℕ) where
-  abbrev good : ℕ → Type 0
-  good j = isRecord (decode (wordAt bs j)) ≡ true
-
-  walk-good : (k j : ℕ) → ((i : ℕ) → j ≤ i → i < j + k → good i) → wordsRefusal bs k j ≡ refusal 0 0
-  unfolding wordsRefusal
-  walk-good zero j g = refl
-  walk-good (suc k) j g = rw (wordsRefusal, g j (omega arith) (omega arith)) (walk-good k (suc j) (λ i l h. g i (omega arith) (omega arith)))
-
-  walk-bad : (k j r : ℕ) → j ≤ r → r < j + k → ((i : ℕ) → j ≤ i → i < r → good i) → isRecord (decode (wordAt bs r)) ≡ false → wordsRefusal bs k j ≡ refusal 12 r
-  unfolding wordsRefusal
-  walk-bad zero j r l h g b = absurd (omega arith)
-  walk-bad (suc k) j r l h g b =
-      ⊎-elim
-      (λ e. let f : isRecord (decode (wordAt bs j)) ≡ false = ap (λ (i : ℕ). isRecord (decode (wordAt bs i))) e ∙ b in rw (wordsRefusal, f) (ap (refusal 12) e))
-      (λ s. rw (wordsRefusal, g j (omega arith) s) (walk-bad k (suc j) r s (omega arith) (λ i m n. g i (omega arith) n) b))
-      (eq-or-lt-of-le l)
-
-  refusal-good : (r : ℕ) → Good bs r → wholeWords bs ≤ r → wordsRefusal bs (wholeWords bs) 0 ≡ refusal 0 0
-  refusal-good r g h = walk-good (wholeWords bs) 0 (λ i l m. g .before i (omega arith))
-
-  refusal-bad : (r : ℕ) → Good bs r → r < wholeWords bs → wordsRefusal bs (wholeWords bs) 0 ≡ refusal 12 r
-  refusal-bad r g h = walk-bad (wholeWords bs) 0 r (omega arith) (omega arith) (λ i l m. g .before i m) (g .first h)
-
   pub flat-length : (d : Decoded) → isRecord d ≡ true → length (flat d) ≡ 6
   flat-length (Record c) h = refl
   flat-length Nothing h = absurd (false≢true h)
@@ -59,19 +36,19 @@ module _ (bs : List ℕ) where
 
   pub bad-word : (room r : ℕ) → Good bs r → r < wholeWords bs → readRefusal bs room ≡ refusal 12 r
   unfolding readRefusal
-  bad-word room r g h = rw (refusal-bad r g h)
+  bad-word room r g h = rw (first-fails g 12 (omega arith) h)
 
   pub broken-word : (room r : ℕ) → Good bs r → wholeWords bs ≤ r → 0 < length bs % 4 → readRefusal bs room ≡ refusal 12 (wholeWords bs)
   unfolding readRefusal
-  broken-word room r g h b = rw (refusal-good r g h, ne-eqb (length bs % 4) 0 (λ e. omega (arith, e, b)))
+  broken-word room r g h b = rw (all-pass g 12 h, ne-eqb (length bs % 4) 0 (λ e. omega (arith, e, b)))
 
   pub short-list : (room r : ℕ) → Good bs r → wholeWords bs ≤ r → length bs % 4 ≡ 0 → room < 6 * wholeWords bs → readRefusal bs room ≡ refusal 9 0
   unfolding readRefusal
-  short-list room r g h b s = rw (refusal-good r g h, eq-eqb (length bs % 4) 0 b, lt-leb (6 * wholeWords bs) room s)
+  short-list room r g h b s = rw (all-pass g 12 h, eq-eqb (length bs % 4) 0 b, lt-leb (6 * wholeWords bs) room s)
 
   pub no-refusal : (room r : ℕ) → Good bs r → wholeWords bs ≤ r → length bs % 4 ≡ 0 → 6 * wholeWords bs ≤ room → readRefusal bs room ≡ refusal 0 0
   unfolding readRefusal
-  no-refusal room r g h b s = rw (refusal-good r g h, eq-eqb (length bs % 4) 0 b, le-leb (6 * wholeWords bs) room s)
+  no-refusal room r g h b s = rw (all-pass g 12 h, eq-eqb (length bs % 4) 0 b, le-leb (6 * wholeWords bs) room s)
 
   pub refused : (old : List ℕ) (k p : ℕ) → readRefusal bs (length old) ≡ refusal (suc k) p → WordsRead bs old (record { number = suc k; position = p; count = 0 }) old
   refused old k p e =

@@ -1,19 +1,19 @@
 -- Going and returning, on lists: the words of records are read back as these, and the records of words are written back as these. Assumes nothing.
-use mathlib.Core.Path.{_≡_, refl, sym, ap, _∙_, subst}
-use mathlib.Core.Logic.{⊎-elim}
-use mathlib.Core.Bool.{Bool, true, false, cond, false≢true}
+use mathlib.Core.Path.{_≡_, refl, sym, ap, _∙_}
+use mathlib.Core.Bool.{true, false, false≢true}
 use mathlib.Core.List.{List, [], _∷_}
 use Prim.Native.Nat.{ℕ, zero, suc, _+_, _*_, _/_, _%_, _^_, _≤_, _<_}
-use native.Mathlib.Nat.{add-zero, add-assoc, eq-or-lt-of-le}
+use native.Mathlib.Nat.{add-zero, add-assoc}
 use native.Mathlib.Omega.{arith}
 use lib.Dec.{eqb}
 use lib.ListN.{length, getD, take, drop}
 use lib.Seq.{take-all}
-use borrow.Author.Tests.{eq-eqb, eqb-true, eqb-false}
+use borrow.Author.Tests.{eq-eqb, eqb-true}
 use Rattle.neon.specs.declared.Instruction.{Instruction}
 use Rattle.facts.specs.Refuse.{unless}
 use Rattle.facts.proofs.Tests.{passed}
-use Rattle.neon.specs.Refusal.{Refusal, refusal, firstOf, recordNumber, recordsRefusal, Legal}
+use Rattle.neon.specs.Refusal.{Refusal, refusal, recordNumber, recordsRefusal, Legal}
+use Rattle.neon.proofs.First.{first-zero, none-refused}
 use Rattle.block_record_check.specs.Record.{instruction, recordAt}
 use Rattle.block_check.specs.Records.{recordsFrom, recordsOf}
 use Rattle.words_encoding.specs.declared.Decoded.{Decoded}
@@ -23,7 +23,7 @@ use Rattle.words_encoding.specs.Decode.{decode}
 use Rattle.words_encoding.proofs.Back.{decode-encode, decoded-where, word-fits}
 use Rattle.text_series.specs.Series.{upTo}
 use Rattle.text_series.proofs.Places.{rows-eq, row-entry, cut-rows, entries-are}
-use Rattle.words_lists.specs.Words.{wordAt, wholeWords, isRecord, numbers, flat, wordsRefusal, readRefusal, recordsIn, Good, wordBytes, writeRefusal, wordsIn, AllGood}
+use Rattle.words_lists.specs.Words.{wordAt, wholeWords, isRecord, isLegalWord, numbers, flat, wordsRefusal, readRefusal, recordsIn, Good, wordBytes, writeRefusal, wordsIn, AllGood}
 use Rattle.words_lists.specs.Lists.{ReadsWritten, WritesRead}
 use Rattle.words_lists.proofs.Answers.{flat-length, records-length, no-refusal, words-length, all-good, all-fit}
 
@@ -108,20 +108,12 @@ module _ (fs : List ℕ) (good : AllGood fs) where
   accepted : (room : ℕ) → 6 * count ≤ room → readRefusal written room ≡ refusal 0 0
   accepted room h = no-refusal written room count all-read (omega (arith, count-is)) (omega (arith, words-length fs)) (omega (arith, count-is))
 
--- neither of two refuses
-first-zero : (r rest : Refusal) → firstOf r rest .number ≡ 0 → (r .number ≡ 0) × (rest .number ≡ 0)
-first-zero r rest e = go (eqb (r .number) 0) refl e
-  where
-    go : (b : Bool) → eqb (r .number) 0 ≡ b → cond b rest r .number ≡ 0 → (r .number ≡ 0) × (rest .number ≡ 0)
-    go true q z = (eqb-true (r .number) 0 q, z)
-    go false q z = absurd (eqb-false (r .number) 0 q z)
-
-none-refused : (fs : List ℕ) (room : ℕ) → writeRefusal fs room .number ≡ 0 → recordsRefusal 0 (recordsOf fs) .number ≡ 0
+no-record : (fs : List ℕ) (room : ℕ) → writeRefusal fs room .number ≡ 0 → recordsRefusal 0 (recordsOf fs) .number ≡ 0
 unfolding writeRefusal
-none-refused fs room e = first-zero (recordsRefusal 0 (recordsOf fs)) _ e .0
+no-record fs room e = first-zero (recordsRefusal 0 (recordsOf fs)) _ e .0
 
 pub reads-written : ReadsWritten
-reads-written fs room e room′ h = let g = all-good fs (none-refused fs room e) in (accepted fs g room′ h, read-back fs g)
+reads-written fs room e room′ h = let g = all-good fs (no-record fs room e) in (accepted fs g room′ h, read-back fs g)
 
 -- ---- writing what was read
 
@@ -136,37 +128,22 @@ all-legal fs (suc k) j h =
     rw (eq-eqb (recordNumber (recordAt fs j)) 0 (h j (omega arith) (omega arith))) (all-legal fs k (suc j) (λ i l m. h i (omega arith) (omega arith)))
 
 module _ (bs : List ℕ) (byte : (j : ℕ) → getD bs j 0 < 256) where
-  walk-all : (k j : ℕ) → wordsRefusal bs k j .number ≡ 0 → (i : ℕ) → j ≤ i → i < j + k → isRecord (decode (wordAt bs i)) ≡ true
-  unfolding wordsRefusal
-  walk-all zero j e i l h = absurd (omega arith)
-  walk-all (suc k) j e i l h = go (isRecord (decode (wordAt bs j))) refl (walk-all k (suc j))
-    where
-      go : (b : Bool) → isRecord (decode (wordAt bs j)) ≡ b
-          → (wordsRefusal bs k (suc j) .number ≡ 0 → (i : ℕ) → suc j ≤ i → i < suc j + k → isRecord (decode (wordAt bs i)) ≡ true)
-          → isRecord (decode (wordAt bs i)) ≡ true
-      go true q ih =
-          ⊎-elim (λ s. subst (λ (x : ℕ). isRecord (decode (wordAt bs x)) ≡ true) s q) (λ s. ih (rw (wordsRefusal, q) at e) i s (omega arith)) (eq-or-lt-of-le l)
-      go false q ih = absurd (let z : 12 ≡ 0 = rw (wordsRefusal, q) at e in omega arith)
-
   module _ (room : ℕ) (e : readRefusal bs room .number ≡ 0) where
-    abbrev words : Refusal
-    words = wordsRefusal bs (wholeWords bs) 0
-
-    whole : (words .number ≡ 0) × (length bs % 4 ≡ 0)
+    whole : (wordsRefusal bs .number ≡ 0) × (length bs % 4 ≡ 0)
     unfolding readRefusal
     whole =
-        let later = first-zero words _ e in
+        let later = first-zero (wordsRefusal bs) _ e in
         let last = first-zero (refusal (unless (eqb (length bs % 4) 0) 12 0) (wholeWords bs)) _ (later .1) in
         (later .0, eqb-true (length bs % 4) 0 (passed (eqb (length bs % 4) 0) (λ z. absurd (omega (arith, z))) (last .0) .0))
 
     abbrev many : ℕ
     many = wholeWords bs
 
-    is-record : (j : ℕ) → j < many → isRecord (decode (wordAt bs j)) ≡ true
-    is-record j h = walk-all many 0 (whole .0) j (omega arith) (omega arith)
-
     good-words : Good bs many
-    good-words = record { most = omega arith; before = is-record; first = λ h. absurd (omega arith) }
+    good-words = none-refused (isLegalWord bs) 12 (omega arith) many (whole .0)
+
+    is-record : (j : ℕ) → j < many → isLegalWord bs j ≡ true
+    is-record = good-words .before
 
     records-are : length (recordsIn bs) ≡ 6 * many
     records-are = records-length bs many good-words (omega arith)

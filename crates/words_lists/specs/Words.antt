@@ -2,21 +2,21 @@
 use mathlib.Core.Bool.{Bool, true, false}
 use mathlib.Core.List.{List, [], _∷_}
 use mathlib.Core.Path.{_≡_}
-use Prim.Native.Nat.{ℕ, zero, suc, _+_, _*_, _/_, _%_, _≤_, _<_}
+use Prim.Native.Nat.{ℕ, _+_, _*_, _/_, _%_, _<_}
 use lib.Dec.{leb, eqb}
 use lib.ListN.{length, getD}
 use Rattle.facts.specs.Refuse.{byNumber, listBy, unless}
 use Rattle.neon.specs.declared.Instruction.{Instruction}
-use Rattle.neon.specs.Refusal.{Refusal, refusal, firstOf, recordsRefusal, Legal}
+use Rattle.neon.specs.Refusal.{Refusal, refusal, firstOf, firstRefusal, PassedTo, recordsRefusal, Legal}
 use Rattle.words_encoding.specs.declared.Decoded.{Decoded}
 use Rattle.words_encoding.specs.declared.Decoded.the-variants.{Record, Nothing}
 use Rattle.words_encoding.specs.Decode.{decode}
 use Rattle.words_encoding.specs.Word.{encode}
 use Rattle.block_record_check.specs.Record.{recordAt}
+use Rattle.block_check.specs.declared.ListAnswer.{ListAnswer}
 use Rattle.block_check.specs.Records.{recordsOf}
 use Rattle.line_records.specs.Line.{line}
 use Rattle.text_series.specs.Series.{upTo}
-use Rattle.words_lists.specs.declared.Answer.{Answer}
 
 -- word j, its low byte first
 abbrev pub wordAt : List ℕ → ℕ → ℕ
@@ -42,15 +42,18 @@ abbrev pub listed : Decoded → List ℕ
 listed (Record c) = line c
 listed Nothing = []
 
--- 12 and the position of the first of k words, from word j on, that encodes no legal form
-unfoldable pub wordsRefusal : List ℕ → (k j : ℕ) → Refusal
-wordsRefusal bs zero j = refusal 0 0
-wordsRefusal bs (suc k) j = elim (isRecord (decode (wordAt bs j))) [ true ↦ wordsRefusal bs k (suc j) | false ↦ refusal 12 j ]
+-- word j encodes a legal form
+abbrev pub isLegalWord : List ℕ → ℕ → Bool
+isLegalWord bs j = isRecord (decode (wordAt bs j))
+
+-- 12 and the position of the first whole word that encodes no legal form
+abbrev pub wordsRefusal : List ℕ → Refusal
+wordsRefusal bs = firstRefusal (isLegalWord bs) 12 (wholeWords bs) 0
 
 -- a broken last word is such a word; then 9 where the lent list is too short
 unfoldable pub readRefusal : List ℕ → (room : ℕ) → Refusal
 readRefusal bs room =
-    firstOf (wordsRefusal bs (wholeWords bs) 0)
+    firstOf (wordsRefusal bs)
     (firstOf (refusal (unless (eqb (length bs % 4) 0) 12 0) (wholeWords bs)) (refusal (unless (leb (6 * wholeWords bs) room) 9 0) 0))
 
 -- the records of all words
@@ -58,17 +61,15 @@ unfoldable pub recordsIn : List ℕ → List ℕ
 recordsIn bs = upTo (wholeWords bs) λ j. flat (decode (wordAt bs j))
 
 -- words were read
-pub record WordsRead (bs old : List ℕ) (r : Answer) (new : List ℕ) : Type 0 where
+pub record WordsRead (bs old : List ℕ) (r : ListAnswer) (new : List ℕ) : Type 0 where
   pub number-is : r .number ≡ readRefusal bs (length old) .number
   pub position-is : r .position ≡ readRefusal bs (length old) .position
   pub count-is : r .count ≡ byNumber (readRefusal bs (length old) .number) (wholeWords bs)
   pub list-is : new ≡ listBy (readRefusal bs (length old) .number) (recordsIn bs) old
 
 -- the first r whole words encode legal forms, and word r, if there is one, does not
-pub record Good (bs : List ℕ) (r : ℕ) : Type 0 where
-  pub most : r ≤ wholeWords bs
-  pub before : (j : ℕ) → j < r → isRecord (decode (wordAt bs j)) ≡ true
-  pub first : r < wholeWords bs → isRecord (decode (wordAt bs r)) ≡ false
+abbrev pub Good : List ℕ → ℕ → Type 0
+Good bs r = PassedTo (isLegalWord bs) (wholeWords bs) r
 
 -- ---- writing
 
@@ -85,7 +86,7 @@ unfoldable pub wordsIn : List ℕ → List ℕ
 wordsIn fs = upTo (length fs / 6) λ j. wordBytes (encode (recordAt fs j))
 
 -- records were written as words
-pub record WordsWritten (fs old : List ℕ) (r : Answer) (new : List ℕ) : Type 0 where
+pub record WordsWritten (fs old : List ℕ) (r : ListAnswer) (new : List ℕ) : Type 0 where
   pub number-is : r .number ≡ writeRefusal fs (length old) .number
   pub position-is : r .position ≡ writeRefusal fs (length old) .position
   pub count-is : r .count ≡ byNumber (writeRefusal fs (length old) .number) (length fs / 6)

@@ -1,4 +1,5 @@
 // Lists of A64 words, read as records of flat numbers, six each, and written back (document 02, S-7).
+use block_check::ListAnswer;
 use block_check::records_refusal;
 use block_record_check::record_at;
 use line_records::put_line;
@@ -12,13 +13,6 @@ ghost use lib.ListN.{length};
 ghost use Rattle.words_encoding.specs.Decode.{decode};
 ghost use Rattle.text_digits.specs.Writing.{Room, Wrote};
 ghost use Rattle.words_lists.specs.Words.{wordAt, isRecord, numbers, flat, listed, recordsIn, Good, WordsRead, wordBytes, AllGood, wordsIn, WordsWritten};
-
-// 0 or a number of document 01 and 02, a position, and how many words or records there are.
-pub struct Answer {
-    pub number: u64,
-    pub position: usize,
-    pub count: usize,
-}
 
 fn wide(b: u8) -> u64
     ensures { λ r. ⌜ (r ≡ b) × (r < 256) ⌝ }
@@ -121,34 +115,34 @@ fn put_records(bytes: &[u8], records: &mut [u64]) -> usize
 
 // Reads words into records. Refuses by 12 with the position of the first word that encodes no legal form, a broken last word among
 // them, then by 9 where the lent list is too short; a refusal writes nothing.
-pub fn read_words(bytes: &[u8], records: &mut [u64]) -> Answer
+pub fn read_words(bytes: &[u8], records: &mut [u64]) -> ListAnswer
     ensures { λ r. ⌜ WordsRead (now (bytes .entry)) (now (records .entry)) r (now (records .exit)) ⌝ }
 {
     let count = bytes.len() / 4;
     let good = good_words(bytes);
     if good < count {
-        return Answer {
+        return ListAnswer {
             number: 12,
             position: good,
             count: 0,
         };
     }
     if 0 < bytes.len() % 4 {
-        return Answer {
+        return ListAnswer {
             number: 12,
             position: count,
             count: 0,
         };
     }
     if records.len() < 6 * count {
-        return Answer {
+        return ListAnswer {
             number: 9,
             position: 0,
             count: 0,
         };
     }
     put_records(bytes, records);
-    Answer {
+    ListAnswer {
         number: 0,
         position: 0,
         count,
@@ -190,28 +184,28 @@ fn put_words(records: &[u64], bytes: &mut [u8]) -> usize
 
 // Writes records as words. Refuses by 2, 3, 4 and 7 with the position of the first bad record, then by 9 where the lent bytes are too
 // few; a refusal writes nothing. Numbers after the last whole record are not read.
-pub fn write_words(records: &[u64], bytes: &mut [u8]) -> Answer
+pub fn write_words(records: &[u64], bytes: &mut [u8]) -> ListAnswer
     ensures { λ r. ⌜ WordsWritten (now (records .entry)) (now (bytes .entry)) r (now (bytes .exit)) ⌝ }
 {
     let count = records.len() / 6;
     let refused = records_refusal(records);
     let number = refused.number;
     if 0 < number {
-        return Answer {
+        return ListAnswer {
             number,
             position: refused.position,
             count: 0,
         };
     }
     if bytes.len() < 4 * count {
-        return Answer {
+        return ListAnswer {
             number: 9,
             position: 0,
             count: 0,
         };
     }
     put_words(records, bytes);
-    Answer {
+    ListAnswer {
         number: 0,
         position: 0,
         count,

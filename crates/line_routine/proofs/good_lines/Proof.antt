@@ -1,12 +1,11 @@
 -- `line_routine::good_lines` meets its contract: after each turn the lines so far are in columns.
 use mathlib.Core.Bool.{true}
-use mathlib.Core.Logic.{⊎-elim}
-use mathlib.Core.Path.{_≡_, sym, _∙_, subst}
+use mathlib.Core.Path.{_≡_, sym, _∙_}
 use Prim.Native.Nat.{ℕ, _-_, _≤_, _<_}
-use native.Mathlib.Nat.{eq-or-lt-of-le}
 use native.Mathlib.Omega.{arith}
 use borrow.Author.Needs.{needs}
 use borrow.Author.Tests.{not-true, not-false}
+use Rattle.neon.proofs.First.{one-more}
 use Rattle.line_routine.specs.Routine.{lineCount, isLine}
 use Rattle.line_routine.proofs.good_lines.Statement.{statement}
 use Rattle.line_routine.proofs.good_lines.Tie as tie
@@ -55,8 +54,7 @@ loop-again c =
     let good : isLine bs (l .loop .j) ≡ true = sym (c .before .is-line .ensures) ∙ not-false _ (c .if1 .left) in (
       l .loop .inv .0,
       omega (arith, turn c .loop-test .taken),
-      λ i h.
-          ⊎-elim (λ e. subst (λ (k : ℕ). isLine bs k ≡ true) (sym e) good) (λ s. l .loop .inv .2 i s) (eq-or-lt-of-le (let q : i ≤ l .loop .j = omega arith in q)),
+      one-more (isLine bs) (l .loop .j) (l .loop .inv .2) good,
     )
 
 returns-2 : tie.Need-returns-2 Inv-loop μ-loop

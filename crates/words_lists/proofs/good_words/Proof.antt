@@ -1,20 +1,19 @@
 -- `words_lists::good_words` meets its contract: after each turn the words so far encode legal forms.
 use mathlib.Core.Bool.{true}
-use mathlib.Core.Logic.{⊎-elim}
-use mathlib.Core.Path.{_≡_, refl, sym, ap, _∙_, subst}
+use mathlib.Core.Path.{_≡_, refl, sym, ap, _∙_}
 use Prim.Native.Nat.{ℕ, _-_, _/_, _≤_, _<_}
-use native.Mathlib.Nat.{eq-or-lt-of-le}
 use native.Mathlib.Omega.{arith}
 use lib.ListN.{length}
 use borrow.Author.Needs.{needs}
 use borrow.Author.Tests.{not-true, not-false}
+use Rattle.neon.proofs.First.{one-more}
 use Rattle.words_encoding.specs.Decode.{decode}
-use Rattle.words_lists.specs.Words.{wordAt, isRecord}
+use Rattle.words_lists.specs.Words.{isRecord, isLegalWord}
 use Rattle.words_lists.proofs.good_words.Statement.{statement}
 use Rattle.words_lists.proofs.good_words.Tie as tie
 
 abbrev Inv-loop : tie.InvT-loop
-Inv-loop bytes count j₀ j = (count ≡ length bytes / 4) × (j ≤ count) × ((i : ℕ) → i < j → isRecord (decode (wordAt bytes i)) ≡ true)
+Inv-loop bytes count j₀ j = (count ≡ length bytes / 4) × (j ≤ count) × ((i : ℕ) → i < j → isLegalWord bytes i ≡ true)
 
 abbrev μ-loop : tie.MeasureT-loop
 μ-loop bytes count j₀ j = count - j
@@ -31,7 +30,7 @@ abbrev top : tie.After-is-record Inv-loop μ-loop → tie.At-loop Inv-loop μ-lo
 top r = turn r .before
 
 -- the word of a turn is tested
-tested : (r : tie.After-is-record Inv-loop μ-loop) → let l = top r in isRecord (decode (wordAt (entry l .args .bytes .now) (l .loop .j))) ≡ r .is-record .result
+tested : (r : tie.After-is-record Inv-loop μ-loop) → let l = top r in isLegalWord (entry l .args .bytes .now) (l .loop .j) ≡ r .is-record .result
 tested r = ap (λ (x : ℕ). isRecord (decode x)) (sym (r .before .word-at .ensures)) ∙ sym (r .is-record .ensures)
 
 -- ---- needs
@@ -74,8 +73,7 @@ loop-again c =
     let good = tested (c .before) ∙ not-false (c .before .is-record .result) (c .if1 .left) in (
       l .loop .inv .0,
       omega (arith, turn (c .before) .loop-test .taken),
-      λ i h.
-          ⊎-elim (λ e. subst (λ (k : ℕ). isRecord (decode (wordAt bs k)) ≡ true) (sym e) good) (λ s. l .loop .inv .2 i s) (eq-or-lt-of-le (let q : i ≤ l .loop .j = omega arith in q)),
+      one-more (isLegalWord bs) (l .loop .j) (l .loop .inv .2) good,
     )
 
 returns-2 : tie.Need-returns-2 Inv-loop μ-loop
