@@ -1,4 +1,5 @@
 // The length of a pool's script by lanes, with no byte written: each line's length is a sum.
+use pool::Bit;
 use pool::Node;
 use pool::words::Kind;
 use pool::words::kind_of;
@@ -47,26 +48,26 @@ fn nodes_length(p: &[u64], count: usize) -> usize
 }
 
 // The whole script: the first line and 32 declarations have 1,128 bytes.
-pub fn lane_measure(p: &[u64], count: usize, x: Node, y: Node, hi: u64, lo: u64) -> usize
-    requires { ⌜ AllNamed (now p) count × (count ≤ 65535) × (x .0 < count) × (y .0 < count) × (hi < 1000) × (lo < 1000) ⌝ }
-    ensures { λ r. ⌜ r ≡ length (laneScriptOf (now (p .entry)) count (x .0) (y .0) hi lo) ⌝ }
+pub fn lane_measure(p: &[u64], count: usize, x: Node, y: Node, hi: Bit, lo: Bit) -> usize
+    requires { ⌜ AllNamed (now p) count × (count ≤ 65535) × (x .0 < count) × (y .0 < count) × (hi .0 < 1000) × (lo .0 < 1000) ⌝ }
+    ensures { λ r. ⌜ r ≡ length (laneScriptOf (now (p .entry)) count (x .0) (y .0) (hi .0) (lo .0)) ⌝ }
 {
     let claim = cut_length(p, x, hi, lo) + cut_length(p, y, hi, lo) + 34;
     nodes_length(p, count) + claim + 1128
 }
 
 // The number of a refusal that has nothing to do with a buffer: 1, 5, or 0.
-pub fn lane_number(pool: &[u64], count: usize, a: Node, b: Node, hi: u64, lo: u64) -> u64
-    ensures { λ r. ⌜ r ≡ laneNumber (now (pool .entry)) count (a .0) (b .0) hi lo 0 ⌝ }
+pub fn lane_number(pool: &[u64], count: usize, a: Node, b: Node, hi: Bit, lo: Bit) -> u64
+    ensures { λ r. ⌜ r ≡ laneNumber (now (pool .entry)) count (a .0) (b .0) (hi .0) (lo .0) 0 ⌝ }
 {
     let number = script_number(pool, count, a, b);
     if 0 < number {
         return number;
     }
-    if hi < lo {
+    if hi.0 < lo.0 {
         return 5;
     }
-    if 127 < hi {
+    if 127 < hi.0 {
         return 5;
     }
     0
@@ -83,12 +84,12 @@ pub fn lane_script_length(
 ) -> Script
     ensures { λ r. ⌜ LaneMeasured (now (pool .entry)) count a b hi lo (r .number) (r .length) ⌝ }
 {
-    let number = lane_number(pool, count, Node(a), Node(b), hi, lo);
+    let number = lane_number(pool, count, Node(a), Node(b), Bit(hi), Bit(lo));
     if 0 < number {
         return Script { number, length: 0 };
     }
     Script {
         number: 0,
-        length: lane_measure(pool, count, Node(a), Node(b), hi, lo),
+        length: lane_measure(pool, count, Node(a), Node(b), Bit(hi), Bit(lo)),
     }
 }

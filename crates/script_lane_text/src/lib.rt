@@ -1,4 +1,5 @@
 // The script of a pool by lanes as bytes: the lines that S-1's form does not have.
+use pool::Bit;
 use pool::Node;
 use pool::words::Kind;
 use pool::words::kind_of;
@@ -76,10 +77,10 @@ fn put_nodes(p: &[u64], count: usize, buf: &mut [u8], at: usize) -> usize
 }
 
 // The last two lines.
-fn put_lanes(p: &[u64], x: Node, y: Node, hi: u64, lo: u64, buf: &mut [u8], at: usize) -> usize
+fn put_lanes(p: &[u64], x: Node, y: Node, hi: Bit, lo: Bit, buf: &mut [u8], at: usize) -> usize
     requires { ⌜ (4 * x .0 + 3 < length (now p)) × (4 * y .0 + 3 < length (now p)) ⌝ }
-    requires { ⌜ Room (now buf) at (laneLines (now p) (x .0) (y .0) hi lo) ⌝ }
-    ensures { λ e. ⌜ Wrote (now (buf .entry)) at (laneLines (now (p .entry)) (x .0) (y .0) hi lo) e (now (buf .exit)) ⌝ }
+    requires { ⌜ Room (now buf) at (laneLines (now p) (x .0) (y .0) (hi .0) (lo .0)) ⌝ }
+    ensures { λ e. ⌜ Wrote (now (buf .entry)) at (laneLines (now (p .entry)) (x .0) (y .0) (hi .0) (lo .0)) e (now (buf .exit)) ⌝ }
 {
     let i = put(b"(assert (distinct ", buf, at);
     let j = put_cut(p, x, hi, lo, buf, i);
@@ -94,14 +95,14 @@ pub fn put_lane_script(
     count: usize,
     x: Node,
     y: Node,
-    hi: u64,
-    lo: u64,
+    hi: Bit,
+    lo: Bit,
     buf: &mut [u8],
     at: usize,
 ) -> usize
     requires { ⌜ AllReady (now p) count × (4 * x .0 + 3 < length (now p)) × (4 * y .0 + 3 < length (now p)) ⌝ }
-    requires { ⌜ Room (now buf) at (laneScriptOf (now p) count (x .0) (y .0) hi lo) ⌝ }
-    ensures { λ e. ⌜ Wrote (now (buf .entry)) at (laneScriptOf (now (p .entry)) count (x .0) (y .0) hi lo) e (now (buf .exit)) ⌝ }
+    requires { ⌜ Room (now buf) at (laneScriptOf (now p) count (x .0) (y .0) (hi .0) (lo .0)) ⌝ }
+    ensures { λ e. ⌜ Wrote (now (buf .entry)) at (laneScriptOf (now (p .entry)) count (x .0) (y .0) (hi .0) (lo .0)) e (now (buf .exit)) ⌝ }
 {
     let i = put(b"(set-logic QF_BV)\n", buf, at);
     let j = put_declarations(buf, i);

@@ -1,4 +1,5 @@
 // The length of a pool's script (document 02, S-1), with no byte written: each line's length is a sum.
+use pool::Bit;
 use pool::Node;
 use pool::words::Kind;
 use pool::words::kind_of;
@@ -88,11 +89,11 @@ fn three_length(p: &[u64], a: Node, b: Node, c: Node) -> usize
 }
 
 // ((_ extract hi lo) a)
-pub fn cut_length(p: &[u64], a: Node, hi: u64, lo: u64) -> usize
-    requires { ⌜ Named (now p) (a .0) × (hi < 1000) × (lo < 1000) ⌝ }
-    ensures { λ r. ⌜ (r ≡ length (show (apply1 (index2 (bytes "extract") hi lo) (nameOf (now (p .entry)) (a .0))))) × (r ≤ 131) ⌝ }
+pub fn cut_length(p: &[u64], a: Node, hi: Bit, lo: Bit) -> usize
+    requires { ⌜ Named (now p) (a .0) × (hi .0 < 1000) × (lo .0 < 1000) ⌝ }
+    ensures { λ r. ⌜ (r ≡ length (show (apply1 (index2 (bytes "extract") (hi .0) (lo .0)) (nameOf (now (p .entry)) (a .0))))) × (r ≤ 131) ⌝ }
 {
-    number_length(hi) + number_length(lo) + name_length(p, a) + 16
+    number_length(hi.0) + number_length(lo.0) + name_length(p, a) + 16
 }
 
 // ((_ zero_extend by) a), ((_ sign_extend by) a)
@@ -117,7 +118,7 @@ pub fn term_length(p: &[u64], n: Node, k: u64) -> usize
     if k == Kind::EXTRACT {
         let hi = cut_hi(p, n);
         let lo = cut_lo(p, n);
-        return cut_length(p, first(p, n), hi.0, lo.0);
+        return cut_length(p, first(p, n), hi, lo);
     }
     if k < Kind::ZERO_EXTEND {
         return two_length(p, k, first(p, n), second(p, n));

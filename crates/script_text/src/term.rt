@@ -1,4 +1,5 @@
 // Names, sorts and terms as a script spells them (document 02, S-1).
+use pool::Bit;
 use pool::Node;
 use pool::words::Kind;
 use pool::words::kind_of;
@@ -154,15 +155,15 @@ fn put_three(p: &[u64], a: Node, b: Node, c: Node, buf: &mut [u8], at: usize) ->
 }
 
 // ((_ extract hi lo) a)
-pub fn put_cut(p: &[u64], a: Node, hi: u64, lo: u64, buf: &mut [u8], at: usize) -> usize
+pub fn put_cut(p: &[u64], a: Node, hi: Bit, lo: Bit, buf: &mut [u8], at: usize) -> usize
     requires { ⌜ 4 * a .0 + 3 < length (now p) ⌝ }
-    requires { ⌜ Room (now buf) at (show (apply1 (index2 (bytes "extract") hi lo) (nameOf (now p) (a .0)))) ⌝ }
-    ensures { λ r. ⌜ Wrote (now (buf .entry)) at (show (apply1 (index2 (bytes "extract") hi lo) (nameOf (now (p .entry)) (a .0)))) r (now (buf .exit)) ⌝ }
+    requires { ⌜ Room (now buf) at (show (apply1 (index2 (bytes "extract") (hi .0) (lo .0)) (nameOf (now p) (a .0)))) ⌝ }
+    ensures { λ r. ⌜ Wrote (now (buf .entry)) at (show (apply1 (index2 (bytes "extract") (hi .0) (lo .0)) (nameOf (now (p .entry)) (a .0)))) r (now (buf .exit)) ⌝ }
 {
     let i = put(b"((_ extract ", buf, at);
-    let j = put_number(hi, buf, i);
+    let j = put_number(hi.0, buf, i);
     let l = put(b" ", buf, j);
-    let m = put_number(lo, buf, l);
+    let m = put_number(lo.0, buf, l);
     let o = put(b") ", buf, m);
     let q = put_name(p, a, buf, o);
     put(b")", buf, q)
@@ -208,7 +209,7 @@ pub fn put_term(p: &[u64], n: Node, k: u64, buf: &mut [u8], at: usize) -> usize
     if k == Kind::EXTRACT {
         let hi = cut_hi(p, n);
         let lo = cut_lo(p, n);
-        return put_cut(p, first(p, n), hi.0, lo.0, buf, at);
+        return put_cut(p, first(p, n), hi, lo, buf, at);
     }
     if k < Kind::ZERO_EXTEND {
         return put_two(p, k, first(p, n), second(p, n), buf, at);

@@ -37,7 +37,7 @@ returns c =
       at-cut-length2 .cut-length2 .ensures .0,
       at-cut-length .cut-length .ensures .0,
       size-script (st .args .p .now)
-          (st .args .count) (st .args .x .0) (st .args .y .0) (st .args .hi) (st .args .lo),
+          (st .args .count) (st .args .x .0) (st .args .y .0) (st .args .hi .0) (st .args .lo .0),
     )
 
 pub lane-measure-spec : {M : Type 1} → statement M

@@ -38,10 +38,10 @@ before-4 c = c .before .before .before .before
 abbrev texts : tie.Start → List (List ℕ)
 texts s =
     let a = s .args in
-    bytes "(set-logic QF_BV)\n" ∷ upTo 32 declarationLine ∷ upTo (a .count) (linesAt (a .p .now)) ∷ laneLines (a .p .now) (a .x .0) (a .y .0) (a .hi) (a .lo) ∷ []
+    bytes "(set-logic QF_BV)\n" ∷ upTo 32 declarationLine ∷ upTo (a .count) (linesAt (a .p .now)) ∷ laneLines (a .p .now) (a .x .0) (a .y .0) (a .hi .0) (a .lo .0) ∷ []
 
 room : (s : tie.Start) → Room (s .args .buf .now) (s .args .at) (together (texts s))
-room s = room-as (script-lines (s .args .p .now) (s .args .count) (s .args .x .0) (s .args .y .0) (s .args .hi) (s .args .lo)) (s .pre .1)
+room s = room-as (script-lines (s .args .p .now) (s .args .count) (s .args .x .0) (s .args .y .0) (s .args .hi .0) (s .args .lo .0)) (s .pre .1)
 
 room-1 : (c : tie.After-put) → Room (c .put .last .1 .0) (c .put .result) (left 1 (texts (entry-1 c)))
 room-1 c = room-step (c .put .ensures) (room (entry-1 c))
@@ -83,7 +83,7 @@ returns c =
     let w2 = before-3 w3 in
     let w1 = before-2 w2 in
     let s = entry-1 w1 in
-    wrote-as (script-lines (s .args .p .now) (s .args .count) (s .args .x .0) (s .args .y .0) (s .args .hi) (s .args .lo))
+    wrote-as (script-lines (s .args .p .now) (s .args .count) (s .args .x .0) (s .args .y .0) (s .args .hi .0) (s .args .lo .0))
     (wrote-then (w1 .put .ensures) (wrote-then (w2 .put-declarations .ensures) (wrote-then (w3 .put-nodes .ensures) (w4 .put-lanes .ensures))))
 
 pub put-lane-script-spec : {M : Type 1} → statement M

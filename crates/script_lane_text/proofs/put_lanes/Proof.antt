@@ -43,10 +43,10 @@ before-5 c = c .before .before .before .before .before
 abbrev texts : tie.Start → List (List ℕ)
 texts s =
     let a = s .args in
-    bytes "(assert (distinct " ∷ show (laneOf (a .p .now) (a .hi) (a .lo) (a .x .0)) ∷ bytes " " ∷ show (laneOf (a .p .now) (a .hi) (a .lo) (a .y .0)) ∷ bytes "))\n(check-sat)\n" ∷ []
+    bytes "(assert (distinct " ∷ show (laneOf (a .p .now) (a .hi .0) (a .lo .0) (a .x .0)) ∷ bytes " " ∷ show (laneOf (a .p .now) (a .hi .0) (a .lo .0) (a .y .0)) ∷ bytes "))\n(check-sat)\n" ∷ []
 
 room : (s : tie.Start) → Room (s .args .buf .now) (s .args .at) (together (texts s))
-room s = room-as (lanes-are (s .args .p .now) (s .args .x .0) (s .args .y .0) (s .args .hi) (s .args .lo)) (s .pre .1)
+room s = room-as (lanes-are (s .args .p .now) (s .args .x .0) (s .args .y .0) (s .args .hi .0) (s .args .lo .0)) (s .pre .1)
 
 room-1 : (c : tie.After-put) → Room (c .put .last .1 .0) (c .put .result) (left 1 (texts (entry-1 c)))
 room-1 c = room-step (c .put .ensures) (room (entry-1 c))
@@ -101,7 +101,7 @@ returns c =
     let w2 = before-3 w3 in
     let w1 = before-2 w2 in
     let s = entry-1 w1 in
-    wrote-as (lanes-are (s .args .p .now) (s .args .x .0) (s .args .y .0) (s .args .hi) (s .args .lo))
+    wrote-as (lanes-are (s .args .p .now) (s .args .x .0) (s .args .y .0) (s .args .hi .0) (s .args .lo .0))
     (wrote-then (w1 .put .ensures) (wrote-then (w2 .put-cut .ensures) (wrote-then (w3 .put2 .ensures)
     (wrote-then (w4 .put-cut2 .ensures) (w5 .put3 .ensures)))))
 

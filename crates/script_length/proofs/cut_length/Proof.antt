@@ -36,7 +36,7 @@ returns c =
         at-number-length2 .number-length2 .ensures .0,
         at-number-length .number-length .ensures .0,
         size-cut (nameOf (a .p .now)
-            (a .a .0)) (a .hi) (a .lo),
+            (a .a .0)) (a .hi .0) (a .lo .0),
       ),
       omega (arith, c .name-length .ensures .1, at-number-length2 .number-length2 .ensures .1, at-number-length .number-length .ensures .1),
     )

@@ -54,19 +54,19 @@ before-7 c = c .before .before .before .before .before
 abbrev texts : tie.Start → List (List ℕ)
 texts s =
     let a = s .args in
-    bytes "((_ extract " ∷ decimal (a .hi) ∷ bytes " " ∷ decimal (a .lo) ∷ bytes ") " ∷ nameOf (a .p .now) (a .a .0) ∷ bytes ")" ∷ []
+    bytes "((_ extract " ∷ decimal (a .hi .0) ∷ bytes " " ∷ decimal (a .lo .0) ∷ bytes ") " ∷ nameOf (a .p .now) (a .a .0) ∷ bytes ")" ∷ []
 
 room : (s : tie.Start) → Room (s .args .buf .now) (s .args .at) (together (texts s))
-room s = room-as (indexed-2 (bytes "extract") (nameOf (s .args .p .now) (s .args .a .0)) (s .args .hi) (s .args .lo)) (s .pre .1)
+room s = room-as (indexed-2 (bytes "extract") (nameOf (s .args .p .now) (s .args .a .0)) (s .args .hi .0) (s .args .lo .0)) (s .pre .1)
 
 room-1 : (c : tie.After-put) → Room (c .put .last .1 .0) (c .put .result) (left 1 (texts (entry-1 c)))
 room-1 c = room-step (c .put .ensures) (room (entry-1 c))
 
 -- the first number is hi, the second lo
-hi-first : (c : tie.After-put-number) → Wrote (before-2 c .put .last .1 .0) (before-2 c .put .result) (decimal (entry-2 c .args .hi)) (c .put-number .result) (c .put-number .last .1 .0)
+hi-first : (c : tie.After-put-number) → Wrote (before-2 c .put .last .1 .0) (before-2 c .put .result) (decimal (entry-2 c .args .hi .0)) (c .put-number .result) (c .put-number .last .1 .0)
 hi-first c = c .put-number .ensures
 
-lo-second : (c : tie.After-put-number2) → Wrote (before-4 c .put2 .last .1 .0) (before-4 c .put2 .result) (decimal (entry-4 c .args .lo)) (c .put-number2 .result) (c .put-number2 .last .1 .0)
+lo-second : (c : tie.After-put-number2) → Wrote (before-4 c .put2 .last .1 .0) (before-4 c .put2 .result) (decimal (entry-4 c .args .lo .0)) (c .put-number2 .result) (c .put-number2 .last .1 .0)
 lo-second c = c .put-number2 .ensures
 
 room-2 : (c : tie.After-put-number) → Room (c .put-number .last .1 .0) (c .put-number .result) (left 2 (texts (entry-2 c)))
@@ -134,7 +134,7 @@ returns c =
     let w2 = before-3 w3 in
     let w1 = before-2 w2 in
     let s = entry-1 w1 in
-    wrote-as (indexed-2 (bytes "extract") (nameOf (s .args .p .now) (s .args .a .0)) (s .args .hi) (s .args .lo))
+    wrote-as (indexed-2 (bytes "extract") (nameOf (s .args .p .now) (s .args .a .0)) (s .args .hi .0) (s .args .lo .0))
     (wrote-then (w1 .put .ensures) (wrote-then (hi-first w2) (wrote-then (w3 .put2 .ensures) (wrote-then (lo-second w4)
     (wrote-then (w5 .put3 .ensures) (wrote-then (w6 .put-name .ensures) (w7 .put4 .ensures)))))))
 
