@@ -6,6 +6,8 @@ use pool::Node;
 use terms::BinOp;
 use terms::CmpOp;
 use trees::SaturateTo;
+use wide::word::power;
+use wide::word::unsigned_max;
 ghost use mathlib.Core.List.{[], _∷_};
 ghost use Prim.Native.Nat.{_*_, _-_, _≤_, _<_, _^_};
 ghost use Rattle.terms.specs.Expr.{Const};
@@ -81,24 +83,17 @@ pub fn clamp(
         SaturateTo::Signed => {
             let low = crate::minus_power(wide, narrow - 1);
             let high = Words {
-                lo: crate::power(narrow - 1) - 1,
+                lo: power(narrow - 1) - 1,
                 hi: 0,
             };
             clamp_between(pool, count, value, low, high, wide, narrow)
         }
         SaturateTo::Unsigned => {
-            clamp_below(
-                pool,
-                count,
-                value,
-                crate::unsigned_max(narrow),
-                wide,
-                narrow,
-            )
+            clamp_below(pool, count, value, unsigned_max(narrow), wide, narrow)
         }
         SaturateTo::SignedToUnsigned => {
             let high = Words {
-                lo: crate::unsigned_max(narrow),
+                lo: unsigned_max(narrow),
                 hi: 0,
             };
             clamp_between(

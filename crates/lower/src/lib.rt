@@ -1,11 +1,12 @@
 // The Rust's neon/lower.rs: what several families use. arith has what the families of neon/lower/arith.rs share.
 use pool::Built;
 use pool::Node;
+use wide::word::power;
+use wide::word::unsigned_max;
 ghost use mathlib.Core.Path.{_≡_};
 ghost use Prim.Native.Nat.{_-_, _≤_, _<_, _^_};
 ghost use Rattle.pool.specs.Node.{wide as wideWords};
 ghost use Rattle.pool.specs.Growth.{Room};
-ghost use Rattle.trees.specs.Lower.{unsignedMax};
 ghost use Rattle.lower.specs.Builds.{MadeExtend};
 
 pub mod arith;
@@ -14,25 +15,6 @@ pub mod arith;
 pub struct Words {
     pub lo: u64,
     pub hi: u64,
-}
-
-// 2^bits in one word.
-pub fn power(bits: u64) -> u64
-    requires { ⌜ bits < 64 ⌝ }
-    ensures { λ r. ⌜ r ≡ 2 ^ bits ⌝ }
-{
-    1u64 << bits
-}
-
-// The largest number of so many bits, 0 for none.
-pub fn unsigned_max(bits: u64) -> u64
-    requires { ⌜ bits ≤ 64 ⌝ }
-    ensures { λ r. ⌜ r ≡ unsignedMax bits ⌝ }
-{
-    if bits == 64 {
-        return 0xffff_ffff_ffff_ffff;
-    }
-    power(bits) - 1
 }
 
 // -2^bits, at the width wide.

@@ -7,6 +7,7 @@ use terms::BinOp;
 use trees::Saturate;
 use trees::SaturateTo;
 use trees::SaturatingKind;
+use wide::word::power;
 ghost use mathlib.Core.Path.{_≡_};
 ghost use mathlib.Core.List.{[], _∷_};
 ghost use Prim.Native.Nat.{_+_, _*_, _≤_, _<_, _^_};
@@ -164,7 +165,7 @@ fn exact_narrow(
         (λ a. exactLane (SaturatingKind.ShiftNarrow shift rounding to) a a «lane_bits» «signed») (a .0 ∷ []) ⌝ }
 {
     let wide = lane_bits * 2 + 1;
-    let half = lower::power(shift - 1);
+    let half = power(shift - 1);
     let value = lower::extend(pool, count, a, wide, signed);
     shift_down(
         pool,

@@ -5,6 +5,7 @@ use pool::Built;
 use pool::Node;
 use terms::BinOp;
 use trees::SaturatingKind;
+use wide::word::power;
 ghost use mathlib.Core.Bool.{true};
 ghost use mathlib.Core.List.{[], _∷_};
 ghost use Prim.Native.Nat.{_+_, _*_, _≤_, _<_};
@@ -38,7 +39,7 @@ pub fn exact_high(
         (λ a b. exactLane (SaturatingKind.DoublingMultiplyHigh rounding) a b «lane_bits» true) (a .0 ∷ b .0 ∷ []) ⌝ }
 {
     let wide = lane_bits * 2 + 1;
-    let half = lower::power(lane_bits - 1);
+    let half = power(lane_bits - 1);
     let doubled = double(pool, count, a, b, lane_bits, wide);
     shift_down(
         pool,

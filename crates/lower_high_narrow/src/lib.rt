@@ -4,6 +4,7 @@ use neon::Lane;
 use pool::Bit;
 use pool::Built;
 use pool::Node;
+use wide::word::power;
 ghost use mathlib.Core.List.{[], _∷_};
 ghost use Prim.Native.Nat.{_+_, _-_, _*_, _≤_, _<_};
 ghost use Rattle.pool.specs.Growth.{Room};
@@ -28,7 +29,7 @@ fn high_narrow_lane(
 {
     let source_bits = lane_bits * 2;
     let op = sum_op(subtract);
-    let half = lower::power(lane_bits - 1);
+    let half = power(lane_bits - 1);
     let sum = pool_nodes::bv(pool, count, op, a, b);
     let value = lower::arith::plus_if(pool, sum.count, rounding, sum.node, half, source_bits);
     pool_nodes::extract(

@@ -4,6 +4,7 @@ use neon::Lane;
 use pool::Built;
 use pool::Node;
 use terms::BinOp;
+use wide::word::unsigned_max;
 ghost use mathlib.Core.Path.{_≡_};
 ghost use mathlib.Core.List.{[], _∷_};
 ghost use Prim.Native.Nat.{_+_, _*_, _-_, _≤_, _<_, _^_};
@@ -22,7 +23,7 @@ fn low_bits(bits: u64) -> u64
     if bits == 0 {
         return 0;
     }
-    lower::unsigned_max(bits)
+    unsigned_max(bits)
 }
 
 // The bits of the old destination that an insert keeps: the low ones, or the high ones.
@@ -34,7 +35,7 @@ fn kept_bits(left: bool, lane_bits: u64, shift: u64) -> u64
         return low_bits(shift);
     }
     // the Rust's ^: the low bits are among all of them
-    lower::unsigned_max(lane_bits) - low_bits(lane_bits - shift)
+    unsigned_max(lane_bits) - low_bits(lane_bits - shift)
 }
 
 // Lane `index` of an insert, over the node of its amount.

@@ -3,7 +3,6 @@ use Prim.Native.Nat.{ℕ, _-_, _^_, _≤_, _<_}
 use mathlib.Core.Path.{_≡_, refl}
 use mathlib.Core.Bool.{Bool, true, false, cond}
 use mathlib.Core.List.{List, [], _∷_}
-use mathlib.Core.Logic.{_⊎_, inl, inr}
 use native.Mathlib.Omega.{arith}
 use lib.Pow.{pow-pos, ones-lt, pow-lt}
 use Rattle.terms.specs.declared.BinOp.{BinOp}
@@ -95,11 +94,6 @@ pub left-exact : {w0 w1 : List ℕ} {k : ℕ} {r : Built} {value : Node} {n : �
     → Builds1 w0 k w1 r 10 value n n (λ v. leftImmediate (Into SignedToUnsigned) v shift n true) (value .0 ∷ [])
     → Builds1 w0 k w1 r 10 value n n (λ v. leftImmediate (Into to) v shift n signed) (value .0 ∷ [])
 left-exact shift signed q d = rw q d
-
--- the third of three kinds is not the first or the second
-pub not-third : (k : ℕ) → (k ≡ 0) ⊎ (k ≡ 1) → k ≡ 2 → ⊥
-not-third k (inl e) q = omega (arith, e, q)
-not-third k (inr e) q = omega (arith, e, q)
 
 clamps : (to : SaturateTo) → (to ≡ SignedToUnsigned → ⊥) → (v : Expr) (shift n : ℕ) (signed : Bool)
     → leftImmediate (Into to) v shift n signed ≡ saturatingShiftLeft v (Const shift n) n signed

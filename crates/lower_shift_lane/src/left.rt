@@ -6,6 +6,8 @@ use terms::BinOp;
 use terms::CmpOp;
 use trees::Saturate;
 use trees::SaturateTo;
+use wide::word::power;
+use wide::word::unsigned_max;
 ghost use mathlib.Core.Bool.{true};
 ghost use mathlib.Core.List.{[], _∷_};
 ghost use Prim.Native.Nat.{_≤_, _<_};
@@ -22,14 +24,14 @@ fn shift_bound(pool: &mut [u64], count: usize, value: Node, lane_bits: u64, sign
     ensures { λ r. ⌜ Builds1 (now (pool .entry)) count (now (pool .exit)) r 5 value «lane_bits» «lane_bits» (λ v. shiftBound v «lane_bits» signed) [] ⌝ }
 {
     if signed {
-        let magnitude = lower::power(lane_bits - 1);
+        let magnitude = power(lane_bits - 1);
         let zero = pool_nodes::konst(pool, count, 0, 0, lane_bits);
         let negative = pool_nodes::compare(pool, zero.count, CmpOp::Slt, value, zero.node);
         let low = pool_nodes::konst(pool, negative.count, magnitude, 0, lane_bits);
         let high = pool_nodes::konst(pool, low.count, magnitude - 1, 0, lane_bits);
         return pool_nodes::ite(pool, high.count, negative.node, low.node, high.node);
     }
-    pool_nodes::konst(pool, count, lower::unsigned_max(lane_bits), 0, lane_bits)
+    pool_nodes::konst(pool, count, unsigned_max(lane_bits), 0, lane_bits)
 }
 
 // A left shift that clamps. A shift back, which goes by the value's sign, restores the value just where no bit of it was lost; so too for an

@@ -3,7 +3,6 @@ use Prim.Native.Nat.{ℕ, _-_, _^_, _≤_, _<_}
 use mathlib.Core.Path.{_≡_, refl, sym, ap, _∙_}
 use mathlib.Core.Bool.{Bool, true, false, cond, false≢true}
 use mathlib.Core.List.{List, [], _∷_}
-use mathlib.Core.Logic.{_⊎_, inl, inr}
 use native.Mathlib.Omega.{arith}
 use lib.Pow.{pow-pos}
 use Rattle.facts.proofs.Numbers.{small}
@@ -124,8 +123,3 @@ module _ {w0 w1 : List ℕ} {k : ℕ} {r : Built} {kind : ShiftKind} {value amou
   is-register {rounding} {saturate} q h e =
       let t : saturate ≡ true = sym (ap saturableShift q) ∙ h in
       rw (q, t) (record { sized = omega (arith, e .sized); made = λ v x y. e .made v x (y refl) })
-
--- the third of three kinds is not the first or the second
-pub not-third : (k : ℕ) → (k ≡ 0) ⊎ (k ≡ 1) → k ≡ 2 → ⊥
-not-third k (inl e) q = omega (arith, e, q)
-not-third k (inr e) q = omega (arith, e, q)

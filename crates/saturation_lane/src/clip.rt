@@ -4,6 +4,8 @@ use pool::Built;
 use pool::Node;
 use terms::CmpOp;
 use trees::SaturateTo;
+use wide::word::power;
+use wide::word::unsigned_max;
 ghost use mathlib.Core.List.{[], _∷_};
 ghost use Prim.Native.Nat.{_≤_, _<_, _^_};
 ghost use Rattle.terms.specs.Expr.{Const, Ite, Compare};
@@ -98,21 +100,21 @@ pub fn clip(
         SaturateTo::Signed => {
             let low = lower::minus_power(wide, narrow - 1);
             let high = Words {
-                lo: lower::power(narrow - 1) - 1,
+                lo: power(narrow - 1) - 1,
                 hi: 0,
             };
             clip_between(pool, count, value, low, high, wide)
         }
         SaturateTo::Unsigned => {
             let high = Words {
-                lo: lower::unsigned_max(narrow),
+                lo: unsigned_max(narrow),
                 hi: 0,
             };
             clip_above(pool, count, CmpOp::Ult, value, high, wide)
         }
         SaturateTo::SignedToUnsigned => {
             let high = Words {
-                lo: lower::unsigned_max(narrow),
+                lo: unsigned_max(narrow),
                 hi: 0,
             };
             clip_between(pool, count, value, Words { lo: 0, hi: 0 }, high, wide)

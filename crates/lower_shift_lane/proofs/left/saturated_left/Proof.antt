@@ -1,6 +1,7 @@
 -- saturated_left builds `leftImmediate` of a shift that clamps, into each range
 use native.Mathlib.Omega.{arith}
-use Rattle.lower_shift_lane.proofs.ShiftingLeft.{left-exact, left-clamped, not-third}
+use Rattle.facts.proofs.Numbers.{not-third}
+use Rattle.lower_shift_lane.proofs.ShiftingLeft.{left-exact, left-clamped}
 use mathlib.Core.Path.{refl}
 use borrow.Author.Needs.{needs}
 use Rattle.lower_shift_lane.proofs.left.saturated_left.Statement.{statement}

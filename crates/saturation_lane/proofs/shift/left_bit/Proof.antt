@@ -1,6 +1,7 @@
 -- left_bit: SQSHLU by its exact product, the others by what the shift loses.
 use mathlib.Core.Path.{refl}
-use Rattle.saturation_lane.proofs.Shifts.{left-exact, left-lost, not-third}
+use Rattle.facts.proofs.Numbers.{not-third}
+use Rattle.saturation_lane.proofs.Shifts.{left-exact, left-lost}
 use borrow.Author.Needs.{needs}
 use Rattle.saturation_lane.proofs.shift.left_bit.Statement.{statement}
 use Rattle.saturation_lane.proofs.shift.left_bit.Tie as tie
