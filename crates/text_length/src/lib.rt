@@ -14,6 +14,7 @@ use pool_fields::right;
 use text_digits::decimal_length;
 use text_digits::left_after_hex;
 use text_digits::minus_or_zero;
+use text_operators::operator_length;
 use text_parts::is_single;
 ghost use mathlib.Core.Path.{_≡_};
 ghost use mathlib.Core.Bool.{true, cond};
@@ -56,13 +57,14 @@ fn left_after_single(p: &[u64], n: Node, k: u64, b: usize) -> usize
     minus_or_zero(b, decimal_length(width_of(p, n)) + 8)
 }
 
-// How many characters of its own a node with two operands has, or an Ite.
+// How many characters of its own a node with two operands has, or an Ite. By comparisons: the word of `operator_characters` would be kept
+// in a register, 16 bytes more of stack at each level of nesting.
 fn own_length(k: u64) -> usize
     requires { ⌜ Joined k ⌝ }
     ensures { λ r. ⌜ r ≡ length (openText k) + cond (eqb k 15) 2 0 + length (betweenText k) + 1 ⌝ }
 {
     if k < Kind::ITE {
-        return nodes::operator_characters(k);
+        return operator_length(k) + 2;
     }
     if k == Kind::ITE { 9 } else { 10 }
 }

@@ -72,8 +72,7 @@ fn extension_length(p: &[u64], n: Node) -> usize
     decimal_length(width_of(p, n)) + 8
 }
 
-// How many characters of its own an operator has. A constant array would be copied to the frame of each level of nesting.
-pub fn operator_characters(k: u64) -> usize
+fn operator_characters(k: u64) -> usize
     requires { ⌜ (3 ≤ k) × (k < 15) ⌝ }
     ensures { λ r. ⌜ (r ≡ length (openText k) + length (betweenText k) + 1) × (r < 16) ⌝ }
 {

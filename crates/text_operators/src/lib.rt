@@ -4,6 +4,7 @@ use text_digits::put;
 ghost use mathlib.Core.Path.{_≡_};
 ghost use mathlib.Core.List.{[], _∷_};
 ghost use Prim.Native.Nat.{_≤_, _<_};
+ghost use lib.ListN.{length};
 ghost use Rattle.text_digits.specs.Writing.{Room, Wrote};
 ghost use Rattle.text_operators.specs.Between.{Joined, betweenText};
 
@@ -39,4 +40,18 @@ pub fn put_between(k: u64, buf: &mut [u8], at: usize) -> usize
         Kind::SLT => put(b" <s ", buf, at),
         _ => put(b", ", buf, at),
     }
+}
+
+// The length of an operator. A constant table would be copied to the frame of each level of nesting.
+pub fn operator_length(k: u64) -> usize
+    requires { ⌜ (3 ≤ k) × (k < 15) ⌝ }
+    ensures { λ r. ⌜ (r ≡ length (betweenText k)) × (r ≤ 5) ⌝ }
+{
+    if k < Kind::SHL {
+        return 3;
+    }
+    if k < Kind::LSHR {
+        return 4;
+    }
+    if k < Kind::EQ { 5 } else { 4 }
 }

@@ -1,0 +1,2 @@
+-- What stands between two operands, and its length.
+pub mod Lengths
