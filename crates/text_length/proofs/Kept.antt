@@ -1,17 +1,13 @@
 -- Lengths that are kept up to a bound: of the first nodes, of one more, and of the registers. Assumes nothing.
-use mathlib.Core.Bool.{Bool, true, false}
 use mathlib.Core.List.{List}
 use mathlib.Core.Logic.{⊎-elim}
 use mathlib.Core.Path.{_≡_, refl, sym, subst}
 use Prim.Native.Nat.{ℕ, _+_, _≤_, _<_, min}
 use native.Mathlib.Omega.{arith}
 use native.Mathlib.Nat.{eq-or-lt-of-le}
-use lib.Dec.{ltb}
 use lib.ListN.{length, getD, set}
 use lib.Seq.{getD-set-same, getD-set-other}
-use borrow.Author.Tests.{ltb-true, ltb-false}
-use Rattle.terms.specs.Display.{decimal}
-use Rattle.text_digits.proofs.Lengths.{decimal-one, decimal-two}
+use Rattle.text_digits.proofs.Lengths.{register-short}
 use Rattle.text_parts.specs.Text.{text, Ready}
 use Rattle.text_parts.proofs.Operands.{ready-less}
 use Rattle.text_length.specs.Known.{Known, Kept, Registers, RegisterLengths}
@@ -39,14 +35,6 @@ known-more {ws} {lengths} {b} k l e = record { at = stored (λ m x. x ≡ min (l
 -- nodes up to n keep the rules
 pub ready-to : {ws : List ℕ} {n m : ℕ} → m ≤ n → Ready ws n → Ready ws m
 ready-to {ws} {n} l r = ⊎-elim (λ e. subst (λ (i : ℕ). Ready ws i) (sym e) r) (λ i. ready-less i r) (eq-or-lt-of-le l)
-
--- a register's text is short
-register-short : (r : ℕ) → r < 32 → length (decimal r) ≤ 2
-register-short r h = go (ltb r 10) refl
-  where
-    go : (t : Bool) → ltb r 10 ≡ t → length (decimal r) ≤ 2
-    go true e = omega (arith, decimal-one r (ltb-true r 10 e))
-    go false e = omega (arith, decimal-two r (ltb-false r 10 e) (omega (arith, h)))
 
 pub registers-known : {ws lengths : List ℕ} {b n : ℕ} → Ready ws n → 32 ≤ n → Registers ws → RegisterLengths lengths → 4 ≤ b → Known ws b lengths 32
 registers-known {ws} {lengths} {b} {n} y h v e l = record { at = λ r i. go r i }
