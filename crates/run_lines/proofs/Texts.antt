@@ -3,11 +3,9 @@ use mathlib.Core.Bool.{Bool, true, false, _&&_}
 use mathlib.Core.Path.{_≡_, refl, sym}
 use Prim.Native.Nat.{ℕ, _≤_, _<_}
 use native.Mathlib.Omega.{arith}
-use lib.Dec.{eqb, ltb}
+use lib.Dec.{eqb}
 use lib.ListN.{length}
-use borrow.Author.Tests.{eqb-true, eqb-false, eq-eqb, ne-eqb, ltb-true, ltb-false}
-use Rattle.terms.specs.Display.{decimal}
-use Rattle.text_digits.proofs.Lengths.{decimal-one, decimal-two}
+use borrow.Author.Tests.{eqb-true, eqb-false, eq-eqb, ne-eqb}
 use Rattle.wide.specs.Number.{words}
 use Rattle.run_lines.specs.Output.{mark}
 
@@ -27,13 +25,6 @@ module _ (l h m k : ℕ) (lb : l < 18446744073709551616) (mb : m < 1844674407370
       low : (b : Bool) → eqb l m ≡ b → goal
       low true q = high (eqb h k) (eqb-true l m q) refl
       low false q = let f = eqb-false l m q in rw q (sym (ne-eqb (words l h 0) (words m k 0) (λ x. f (omega (arith, x, lb, mb)))))
-
-pub name-length : (r : ℕ) → r < 32 → length (decimal r) ≤ 2
-name-length r h = go (ltb r 10) refl
-  where
-    go : (b : Bool) → ltb r 10 ≡ b → length (decimal r) ≤ 2
-    go true e = omega (arith, decimal-one r (ltb-true r 10 e))
-    go false e = omega (arith, decimal-two r (ltb-false r 10 e) (omega arith))
 
 pub mark-length : (b : Bool) → length (mark b) ≤ 2
 mark-length true = omega arith

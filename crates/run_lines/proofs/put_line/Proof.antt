@@ -4,7 +4,8 @@ use native.Mathlib.Omega.{arith}
 use Prim.Native.Nat.{_+_, _≤_}
 use lib.ListN.{length}
 use Rattle.text_digits.proofs.Laws.{wrote-then, wrote-as, wrote-length}
-use Rattle.run_lines.proofs.Texts.{name-length, mark-length}
+use Rattle.text_digits.proofs.Lengths.{register-short}
+use Rattle.run_lines.proofs.Texts.{mark-length}
 use Rattle.run_block.specs.Lanes.{number}
 use Rattle.run_registers.proofs.Digits.{digits-length}
 use Rattle.run_lines.specs.Output.{mark}
@@ -51,7 +52,7 @@ from-name : (c : tie.After-put-decimal) → let a = start c .args in (c .put-dec
 from-name c =
     let w = c .put-decimal .ensures in
     let f = from-blank (blank-done (c .before)) in
-    (omega (arith, f .0, w .next-is, name-length (start c .args .r) (start c .pre .0)), omega (arith, f .1, wrote-length w))
+    (omega (arith, f .0, w .next-is, register-short (start c .args .r) (start c .pre .0)), omega (arith, f .1, wrote-length w))
 
 from-mark : (c : tie.After-put-mark) → let a = start (name-done (c .before)) .args in (c .put-mark .result ≤ a .at + 38) × (length (c .put-mark .last .1 .0) ≡ length (a .buf .now))
 from-mark c =
@@ -78,7 +79,7 @@ put-decimal-requires c κs =
     let b = blank-done c in
     let s = entry (digits-done (b .before)) in
     let f = from-blank b in
-    record { room = omega (arith, f .0, f .1, name-length (s .args .r) (s .pre .0), s .pre .1) }
+    record { room = omega (arith, f .0, f .1, register-short (s .args .r) (s .pre .0), s .pre .1) }
 
 is-same-requires : tie.Need-is-same-requires
 is-same-requires c κs = search needs
