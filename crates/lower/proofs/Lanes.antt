@@ -10,7 +10,7 @@ use Rattle.pool.specs.declared.Node.{Node}
 use Rattle.pool.specs.declared.Built.{Built}
 use Rattle.pool.specs.Growth.{Room, Grown, Reach, AllReached, Sized, Made}
 use Rattle.pool_nodes.specs.Builders.{MadeConcat}
-use Rattle.lower_simd.specs.Cut.{MadeCut}
+use Rattle.lower_simd.specs.Cut.{MadeCut, MadeLane}
 use Rattle.pool.proofs.Laws.{is-kept, reach-kept, reach-trans, grown-trans}
 use Rattle.pool.proofs.Steps.{start, step, finish, forget, stay, given, spare}
 use Rattle.trees.specs.Simd.{concatLanes}
@@ -28,6 +28,10 @@ all-kept g l (m ∷ ms) h = (reach-kept g l (h .0), all-kept g l ms (h .1))
 pub all-trans : {ws : List ℕ} {r p : ℕ} → Reach ws r p → (ms : List ℕ) → AllReached ws p ms → AllReached ws r ms
 all-trans h [] x = tt
 all-trans h (m ∷ ms) x = (reach-trans h (x .0), all-trans h ms (x .1))
+
+-- a lane of so many bits, by their other name
+pub lane-of : {w0 w1 : List ℕ} {k : ℕ} {r : Built} {value : Node} {bits m j : ℕ} → bits ≡ m → MadeLane w0 k w1 r value bits j → MadeLane w0 k w1 r value m j
+lane-of e d = rw (← e) d
 
 -- the lanes 0 to i - 1, each of so many bits and at most m nodes with its concatenation
 module _ (old : List ℕ) (k : ℕ) (new : List ℕ) (r : Built) where

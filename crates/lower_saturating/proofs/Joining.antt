@@ -1,7 +1,7 @@
 -- The lanes of the saturating operations, from what their calls build. Assumes nothing.
 use Prim.Native.Nat.{ℕ, _+_, _-_, _*_, _≤_, _<_}
 use mathlib.Core.Path.{_≡_, refl, sym}
-use mathlib.Core.Bool.{Bool, true, false, cond, false≢true}
+use mathlib.Core.Bool.{Bool, true, false, false≢true}
 use mathlib.Core.List.{List, [], _∷_}
 use mathlib.Core.Logic.{_⊎_, inl, inr}
 use native.Mathlib.Omega.{arith}
@@ -14,29 +14,20 @@ use Rattle.pool.proofs.Steps.{start, step, finish, spare}
 use Rattle.trees.specs.declared.SaturatingKind.{SaturatingKind}
 use Rattle.trees.specs.declared.SaturatingKind.the-variants.{AddSub, Halving, Narrow, ShiftNarrow, DoublingMultiplyHigh, Unary}
 use Rattle.trees.specs.Simd.{extractLane, concatLanes}
-use Rattle.trees.specs.Arith.{saturatingAt, narrowing, keepLower, saturatingLane, saturatingLanes, kindBits}
+use Rattle.trees.specs.Arith.{saturatingAt, keepLower, saturatingLane, saturatingLanes, kindBits}
 use Rattle.lower_simd.specs.Cut.{MadeLane}
 use Rattle.lower.specs.Builds.{BuildsIf, BuildsCut, Lowers, read, readIf, unread, withLower}
-use Rattle.lower.proofs.Lanes.{lane-fits, kept-below}
+use Rattle.lower.proofs.Lanes.{lane-fits, lane-of, kept-below}
 use Rattle.lower_kinds.specs.Sources.{usesSecond}
+use Rattle.lower_kinds.proofs.Bits.{source-least}
 
 -- ---- the bits of a source lane
-
-at-least : (b : Bool) (n : ℕ) → n ≤ cond b (n * 2) n
-at-least true n = omega arith
-at-least false n = omega arith
-
-pub source-least : (kind : SaturatingKind) (n : ℕ) → n ≤ kindBits kind n
-source-least kind n = at-least (narrowing kind) n
 
 -- the lanes that are made are no wider than those that are read
 pub made-most : (kind : SaturatingKind) (n lanes : ℕ) → kindBits kind n * lanes ≤ 128 → n * lanes ≤ 128
 made-most kind n lanes h = omega (arith, mul-le-mul-left lanes (source-least kind n))
 
 -- ---- one lane
-
-lane-of : {w0 w1 : List ℕ} {k : ℕ} {r : Built} {value : Node} {bits m j : ℕ} → bits ≡ m → MadeLane w0 k w1 r value bits j → MadeLane w0 k w1 r value m j
-lane-of e d = rw (← e) d
 
 at-two : {w0 w1 w2 w3 : List ℕ} {k : ℕ} {r1 r2 r3 : Built} {first second : Node} {bits n lanes j : ℕ} (kind : SaturatingKind) (signed : Bool)
     → j < lanes

@@ -6,7 +6,8 @@ use mathlib.Core.Path.{_≡_, sym, subst, _∙_}
 use Prim.Native.Nat.{ℕ, _+_, _*_, _≤_}
 use Rattle.lower_kinds.specs.Sources.{usesSecond}
 use Rattle.lower.proofs.Lanes.{lane-fits}
-use Rattle.lower_saturating.proofs.Joining.{source-least, Second, Both, both-sized, at-lane}
+use Rattle.lower_kinds.proofs.Bits.{source-least}
+use Rattle.lower_saturating.proofs.Joining.{Second, Both, both-sized, at-lane}
 use borrow.Author.Needs.{needs}
 use Rattle.lower_saturating.proofs.saturating_at.Statement.{statement}
 use Rattle.lower_saturating.proofs.saturating_at.Tie as tie
