@@ -10,9 +10,6 @@ use borrow.Author.Tests.{leb-true, le-leb, lt-leb}
 use Rattle.facts.proofs.Tests.{passed}
 use Rattle.pool.specs.Rules.{poolOk, nodeNumber}
 use Rattle.pool_check.proofs.Number.{good-node, first-refusal, accepted}
-use Rattle.text_parts.specs.Text.{Ready}
-use Rattle.pool_check.proofs.Passed.{words-for, keeps}
-use Rattle.text_parts.proofs.Operands.{ready-of}
 use Rattle.wide.specs.Number.{words}
 use Rattle.evaluate.specs.Visits.{visitsAt}
 use Rattle.evaluate.specs.Step.{Visited, InWords}
@@ -23,9 +20,6 @@ empty-ok [] e i = omega arith
 empty-ok (x ∷ xs) e i = absurd (omega arith)
 
 module _ (ws regs : List ℕ) (count n allowance : ℕ) where
-  pub ready : poolOk ws count ≡ true → n < count → Ready ws n
-  ready h l = ready-of ws count n (keeps ws count h) l (words-for ws count h)
-
   refusal : (k : ℕ) → evaluateNumber ws regs count n allowance ≡ suc k → Answered ws regs count n allowance (noValue (suc k))
   unfolding words
   refusal k e = record { number-is = sym e; value-is = rw e; visits-is = rw e }

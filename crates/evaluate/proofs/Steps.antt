@@ -5,7 +5,7 @@ use mathlib.Core.Bool.{Bool, true, false}
 use mathlib.Core.List.{List}
 use mathlib.Core.Logic.{⊎-elim}
 use native.Mathlib.Omega.{arith}
-use lib.Dec.{ltb, eqb}
+use lib.Dec.{eqb}
 use lib.ListN.{getD}
 use borrow.Author.Tests.{lt-ltb, eqb-true, eqb-false}
 use Rattle.terms.specs.declared.CmpOp.the-variants.{Eq, Ult, Slt}
@@ -13,7 +13,7 @@ use Rattle.terms.specs.declared.CmpOp.{CmpOp}
 use Rattle.terms.specs.Expr.{Expr, Var, Const, Bv, Compare, Ite, Extract, Concat, ZeroExtend, SignExtend, width}
 use Rattle.terms.specs.Value.{value, ite, bit, holds}
 use Rattle.pool.specs.Node.{Kind, kinds, kindAt, cellAt, widthAt, kindNumber}
-use Rattle.pool.specs.Unfold.{shapeOf, earlier, unfoldAt}
+use Rattle.pool.specs.Unfold.{shapeOf, unfoldAt}
 use Rattle.pool.proofs.Laws.{unfold-step}
 use Rattle.pool_rules.proofs.Numbers.{within}
 use Rattle.pool_fields.specs.Fields.{opA, opB, opC}
@@ -23,10 +23,7 @@ use Rattle.wide.specs.Number.{base, words}
 use Rattle.wide.specs.Registers.{registersOf}
 use Rattle.evaluate.specs.Visits.{visits, valueAt, visitsAt}
 use Rattle.evaluate.specs.Step.{held, Visited}
-
--- the tree of an operand, where that has a smaller number
-abbrev operandTree : List ℕ → ℕ → ℕ → Expr
-operandTree ws n m = earlier (ltb m n) (unfoldAt ws m)
+use Rattle.evaluate.proofs.Values.{operandTree, found-value}
 
 module _ (ws regs : List ℕ) (n : ℕ) where
   abbrev shaped : Kind → Expr
@@ -34,10 +31,6 @@ module _ (ws regs : List ℕ) (n : ℕ) where
 
   unfolds : unfoldAt ws n ≡ shaped (kindAt (kindNumber ws n))
   unfolds = unfold-step ws n (cellAt ws n) refl
-
-  found-value : {m : ℕ} → m < n → value (registersOf regs) (operandTree ws n m) ≡ valueAt ws regs m
-  unfolding valueAt
-  found-value {m} l = rw (lt-ltb m n l)
 
   found-visits : {m : ℕ} → m < n → visits (registersOf regs) (operandTree ws n m) ≡ visitsAt ws regs m
   unfolding visitsAt

@@ -9,12 +9,13 @@ use lib.Dec.{ltb}
 use lib.ListN.{getD}
 use lib.Arith.{digits-lt}
 use borrow.Author.Tests.{lt-ltb}
-use Rattle.terms.specs.Expr.{Expr, Var, Const, Bv, Compare, Ite, Extract, Concat, ZeroExtend, SignExtend, width}
+use Rattle.terms.specs.Expr.{Expr, width}
 use Rattle.terms.specs.Value.{value}
 use Rattle.terms.specs.Rules.{Good}
 use Rattle.pool.specs.Node.{Kind, bad, var, const, bv, compare, ite, extract, concat, zext, sext, kinds, kindAt, Cell, cellAt, widthAt, wordAt, kindNumber, wide}
 use Rattle.pool.specs.Unfold.{shapeOf, earlier, unfoldAt}
 use Rattle.pool.proofs.Laws.{unfold-step}
+use Rattle.pool.proofs.Facts.{good-wide}
 use Rattle.pool_check.proofs.Sound.{sound}
 use Rattle.pool_rules.proofs.Numbers.{within}
 use Rattle.pool_fields.specs.Fields.{opA, opB, opC}
@@ -51,19 +52,6 @@ TwoK concat = Unit {0}
 TwoK zext = ⊥
 TwoK sext = ⊥
 
--- no width is above 129
-good-most : (t : Expr) → Good t → width t ≤ 129
-unfolding Good width
-good-most (Var x) g = omega arith
-good-most (Const v w) g = g .1
-good-most (Bv o a b) g = good-most a (g .0)
-good-most (Compare o a b) g = omega arith
-good-most (Ite c a b) g = good-most a (g .1)
-good-most (Extract a hi lo) g = omega (arith, good-most a (g .0), g .2)
-good-most (Concat a b) g = g .4
-good-most (ZeroExtend a w) g = g .3
-good-most (SignExtend a w) g = g .3
-
 module _ (r : ℕ → ℕ) (bits : (x : ℕ) → x < 32 → r x < 2 ^ 128) (k : Cell) (a b c : Expr) where
   one-value : (κ : Kind) → OneK κ → (wb vb : ℕ) → value r (shapeOf κ k a b c) ≡ nodeValue κ (width a) wb (k .width) (k .x) (k .y) (value r a) vb
   unfolding value
@@ -99,7 +87,7 @@ module _ (r : ℕ → ℕ) (bits : (x : ℕ) → x < 32 → r x < 2 ^ 128) (k : 
   one-operand (bv o) p wb vb g = absurd p
   one-operand (compare o) p wb vb g = absurd p
   one-operand ite p wb vb g = absurd p
-  one-operand extract p wb vb g = (g .1, omega (arith, g .2, good-most a (g .0)))
+  one-operand extract p wb vb g = (g .1, omega (arith, g .2, good-wide a (g .0)))
   one-operand concat p wb vb g = absurd p
   one-operand zext p wb vb g = tt
   one-operand sext p wb vb g = (g .1, g .2, g .3, value-lt r bits a (g .0) (g .1))
@@ -109,8 +97,8 @@ module _ (r : ℕ → ℕ) (bits : (x : ℕ) → x < 32 → r x < 2 ^ 128) (k : 
   two-operands bad p g = absurd p
   two-operands var p g = absurd p
   two-operands const p g = absurd p
-  two-operands (bv o) p g = (g .3, good-most a (g .0), value-lt r bits a (g .0) (g .3), rw (g .2) (value-lt r bits b (g .1) (rw (← g .2) (g .3))))
-  two-operands (compare o) p g = (g .3, good-most a (g .0))
+  two-operands (bv o) p g = (g .3, good-wide a (g .0), value-lt r bits a (g .0) (g .3), rw (g .2) (value-lt r bits b (g .1) (rw (← g .2) (g .3))))
+  two-operands (compare o) p g = (g .3, good-wide a (g .0))
   two-operands ite p g = absurd p
   two-operands extract p g = absurd p
   two-operands concat p g = (g .4, value-lt r bits a (g .0) (g .2), value-lt r bits b (g .1) (g .3))
@@ -133,8 +121,13 @@ two-kind : {k : ℕ} → Pair k → TwoK (kindAt k)
 unfolding kinds kindAt
 two-kind {k} b = ⊎-elim (λ l. within TwoK 3 12 (tt, (tt, (tt, (tt, (tt, (tt, (tt, (tt, (tt, (tt, (tt, (tt, tt)))))))))))) k (b .from) l) (λ e. rw e tt) (pair-kinds b)
 
-abbrev operandTree : List ℕ → ℕ → ℕ → Expr
+-- the tree of an operand, where that has a smaller number
+abbrev pub operandTree : List ℕ → ℕ → ℕ → Expr
 operandTree ws n m = earlier (ltb m n) (unfoldAt ws m)
+
+pub found-value : (ws regs : List ℕ) (n : ℕ) {m : ℕ} → m < n → value (registersOf regs) (operandTree ws n m) ≡ valueAt ws regs m
+unfolding valueAt
+found-value ws regs n {m} l = rw (lt-ltb m n l)
 
 module _ (ws regs : List ℕ) (n : ℕ) (r : Ready ws n) (k : ℕ) (is-k : k ≡ kindNumber ws n) where
   abbrev shaped : ℕ → Expr
@@ -148,10 +141,6 @@ module _ (ws regs : List ℕ) (n : ℕ) (r : Ready ws n) (k : ℕ) (is-k : k ≡
 
   wide-of : {m : ℕ} → m < n → width (operandTree ws n m) ≡ widthAt ws m
   wide-of {m} l = rw (lt-ltb m n l) (sound ws (n + 1) (r .valid) m (omega arith) .wide)
-
-  value-of : {m : ℕ} → m < n → value (registersOf regs) (operandTree ws n m) ≡ valueAt ws regs m
-  unfolding valueAt
-  value-of {m} l = rw (lt-ltb m n l)
 
   pub leaf-var : k ≡ 1 → valueAt ws regs n ≡ registersOf regs (wordAt ws n 2)
   unfolding valueAt value kindAt kinds
@@ -188,13 +177,13 @@ module _ (ws regs : List ℕ) (n : ℕ) (r : Ready ws n) (k : ℕ) (is-k : k ≡
       pub one-is : valueAt ws regs n ≡ appliedAt ws n (valueAt ws regs (opA ws n)) x
       unfolding valueAt
       one-is =
-          rw (← wide-of l, ← value-of l, ← is-k)
+          rw (← wide-of l, ← found-value ws regs n l, ← is-k)
           (ap (value start) tree ∙ one-value start (start-bits regs h) (cellAt ws n) a b c (kindAt k) (one-kind s (to-nineteen ws n r k is-k)) (cond (single k) 0 (widthAt ws (opB ws n))) x)
 
       pub one-ok : OperandsAt ws n (valueAt ws regs (opA ws n)) x
       unfolding valueAt
       one-ok =
-          rw (← wide-of l, ← value-of l, ← is-k)
+          rw (← wide-of l, ← found-value ws regs n l, ← is-k)
           (one-operand start (start-bits regs h) (cellAt ws n) a b c (kindAt k) (one-kind s (to-nineteen ws n r k is-k)) (cond (single k) 0 (widthAt ws (opB ws n))) x good)
 
     module _ (three : 3 ≤ k) (no : k ≡ 15 → ⊥) (e : single k ≡ false) where
@@ -213,13 +202,13 @@ module _ (ws regs : List ℕ) (n : ℕ) (r : Ready ws n) (k : ℕ) (is-k : k ≡
       pub two-is : valueAt ws regs n ≡ appliedAt ws n (valueAt ws regs (opA ws n)) (valueAt ws regs (opB ws n))
       unfolding valueAt
       two-is =
-          rw (second-is, ← wide-of la, ← value-of la, ← value-of lb, ← is-k)
+          rw (second-is, ← wide-of la, ← found-value ws regs n la, ← found-value ws regs n lb, ← is-k)
           (ap (value start) tree ∙ two-value start (start-bits regs h) (cellAt ws n) a b c (kindAt k) (two-kind pair))
 
       pub two-ok : OperandsAt ws n (valueAt ws regs (opA ws n)) (valueAt ws regs (opB ws n))
       unfolding valueAt
       two-ok =
-          rw (second-is, ← wide-of la, ← value-of la, ← value-of lb, ← is-k)
+          rw (second-is, ← wide-of la, ← found-value ws regs n la, ← found-value ws regs n lb, ← is-k)
           (two-operands start (start-bits regs h) (cellAt ws n) a b c (kindAt k) (two-kind pair) good)
 
 -- values that code holds: of the first operand, and of the second where there is one

@@ -5,11 +5,13 @@ use Prim.Native.Nat.{_≤_, _<_}
 use native.Mathlib.Omega.{arith}
 use Rattle.pool.specs.Rules.{poolOk}
 use Rattle.pool_check.proofs.Number.{accepted}
+use Rattle.pool_check.proofs.Passed.{words-for, keeps}
 use Rattle.text_parts.specs.Text.{Ready}
+use Rattle.text_parts.proofs.Operands.{ready-of}
 use Rattle.evaluate.specs.Visits.{visitsAt}
 use Rattle.evaluate.specs.Step.{Visited}
 use Rattle.evaluate.proofs.Steps.{some}
-use Rattle.evaluate.proofs.Answers.{ready, bad, too-many, given}
+use Rattle.evaluate.proofs.Answers.{bad, too-many, given}
 use borrow.Author.Needs.{needs}
 use Rattle.evaluate.proofs.evaluate.Statement.{statement}
 use Rattle.evaluate.proofs.evaluate.Tie as tie
@@ -29,7 +31,7 @@ good c =
 ready-at : (c : tie.Else1) → Ready (entry c .args .t1 .now) (entry c .args .node)
 ready-at c =
     let a = entry c .args in
-    ready (a .t1 .now) (a .start .now) (a .count) (a .node) (a .allowance) (good c .0) (good c .1)
+    ready-of (a .t1 .now) (a .count) (a .node) (keeps (a .t1 .now) (a .count) (good c .0)) (good c .1) (words-for (a .t1 .now) (a .count) (good c .0))
 
 -- the node has been visited
 module _ (c : tie.After-visit) where
