@@ -1,7 +1,7 @@
 -- The bit of one lane over whole registers, from what its calls build. Assumes nothing.
 use Prim.Native.Nat.{ℕ, _+_, _-_, _*_, _/_, _≤_}
 use mathlib.Core.Path.{_≡_, refl, sym}
-use mathlib.Core.Bool.{Bool, true, false, cond, false≢true}
+use mathlib.Core.Bool.{Bool, true, false, false≢true}
 use mathlib.Core.List.{List, [], _∷_}
 use native.Mathlib.Omega.{arith}
 use Rattle.terms.specs.declared.BinOp.{BinOp}
@@ -19,9 +19,10 @@ use Rattle.trees.specs.declared.ShiftKind.the-variants.{LeftImmediate, RightImm
 use Rattle.trees.specs.declared.Combine.{Combine}
 use Rattle.trees.specs.declared.Combine.the-variants.{Nothing, With}
 use Rattle.trees.specs.Simd.{extractLane}
-use Rattle.trees.specs.Arith.{clamp, joined, twice, signedAmount, kindBits, doublingProduct, narrowing}
+use Rattle.trees.specs.Arith.{clamp, joined, twice, signedAmount, kindBits, doublingProduct}
 use Rattle.lower_simd.specs.Cut.{MadeLane}
 use Rattle.lower.specs.Builds.{Builds1, Builds2, BuildsIf, Lowers, read, readIf, unread}
+use Rattle.lower.proofs.Lanes.{lane-of}
 use Rattle.lower_kinds.specs.Sources.{isRegister, usesSecond}
 use Rattle.lower_shift.specs.Lanes.{MadeAmount}
 use Rattle.lower_doubling_long.specs.Elements.{accumulates}
@@ -87,9 +88,6 @@ at-mixed {first = first} {d = d} signed fits e1 e2 e3 =
     }
 
 -- ---- the saturating kinds
-lane-of : {w0 w1 : List ℕ} {k : ℕ} {r : Built} {value : Node} {bits m j : ℕ} → bits ≡ m → MadeLane w0 k w1 r value bits j → MadeLane w0 k w1 r value m j
-lane-of e d = rw (← e) d
-
 pub at-two : {w0 w1 w2 w3 : List ℕ} {k : ℕ} {r1 r2 r3 : Built} {first second : Node} {bits : ℕ} (n : ℕ) {j : ℕ} (kind : SaturatingKind) (signed : Bool)
     → kindBits kind n * j + kindBits kind n ≤ 128
     → bits ≡ kindBits kind n
@@ -139,13 +137,6 @@ at-one {first = first} {second = second} n {j} kind signed fits e q e1 e2 =
           rw (no-second kind q (extractLane ta (kindBits kind n) j) (extractLane tb (kindBits kind n) j) (extractLane ta (kindBits kind n) j) n signed)
           (finish (step s1 (0 ∷ []) (rw q at (e2 .made (s1 .valid) (s1 .env .0) (λ u. s1 .env .0)))) tt);
     }
-
-pub source-least : (kind : SaturatingKind) (n : ℕ) → n ≤ kindBits kind n
-source-least kind n = at-least (narrowing kind) n
-  where
-    at-least : (b : Bool) (n : ℕ) → n ≤ cond b (n * 2) n
-    at-least true n = omega arith
-    at-least false n = omega arith
 
 -- ---- doubling, long
 pub either : {w0 w1 w2 w3 w4 w5 : List ℕ} {k : ℕ} {r1 r2 r3 r4 r5 : Built} {d a b : Node} (op : BinOp) (n : ℕ)

@@ -4,7 +4,8 @@ use mathlib.Core.Bool.{true}
 use mathlib.Core.Path.{_≡_, sym, subst, _∙_}
 use Prim.Native.Nat.{ℕ, _+_, _*_, _≤_}
 use Rattle.lower_kinds.specs.Sources.{usesSecond}
-use Rattle.saturation_at.proofs.At.{at-two, at-one, source-least}
+use Rattle.lower_kinds.proofs.Bits.{source-least}
+use Rattle.saturation_at.proofs.At.{at-two, at-one}
 use borrow.Author.Needs.{needs}
 use Rattle.saturation_at.proofs.saturating_at.Statement.{statement}
 use Rattle.saturation_at.proofs.saturating_at.Tie as tie
