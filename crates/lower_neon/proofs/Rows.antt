@@ -5,7 +5,7 @@ use Prim.Native.Nat.{ℕ, _+_, _-_, _*_, _/_, _≤_}
 use native.Mathlib.Omega.{arith}
 use Rattle.neon.specs.Op.{Op, Arrangement, laneBits, full, bitsIf, view}
 use Rattle.neon.specs.Form.{Form, Same, Long, Element, form, hasForm, least, most, mIn, dIn, isElement, isNarrow, firstFull, secondFull, madeBits}
-use Rattle.neon.proofs.Geometry.{sized, filled, by-half, second-in}
+use Rattle.neon.proofs.Geometry.{sized, filled, by-half, second-in, bits-le}
 use Rattle.trees.specs.declared.Combine.{Combine}
 use Rattle.trees.specs.declared.NeonOp.{NeonOp}
 use Rattle.trees.specs.Neon.{neonOp}
@@ -35,12 +35,8 @@ module _ (v : Arrangement) where
   same : laneBits v * (view v / laneBits v) ≡ view v
   same = filled Same v .fill
 
-  view-le : (f : Bool) → bitsIf f ≤ 128
-  view-le true = omega arith
-  view-le false = omega arith
-
   same-le : laneBits v * (view v / laneBits v) ≤ 128
-  same-le = omega (arith, same, view-le (full v))
+  same-le = omega (arith, same, bits-le (full v))
 
   -- lanes that narrow fill 64 bits, which stand above 64 more in a 2 form
   half : laneBits v * (64 / laneBits v) ≡ 64
