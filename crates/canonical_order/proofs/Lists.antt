@@ -7,7 +7,7 @@ use native.Mathlib.Omega.{arith}
 use lib.Dec.{eqb, ltb}
 use lib.ListN.{length, getD, set, length-append, List·getD-append}
 use lib.Seq.{getD-set-same, getD-set-other}
-use borrow.Author.Tests.{eq-eqb, eqb-true, eqb-false, ltb-true, ltb-false}
+use borrow.Author.Tests.{eq-eqb, ne-eqb, eqb-true, eqb-false, ltb-true, ltb-false}
 use Rattle.terms.specs.Expr.{Expr, Var}
 use Rattle.pool.specs.Node.{kindNumber, none}
 use Rattle.pool_fields.specs.Fields.{opA, opB, opC}
@@ -16,13 +16,6 @@ use Rattle.pool_operands.specs.Operands.{hasA, hasB, hasC}
 use Rattle.canonical.specs.Order.{walk, addAll}
 use Rattle.canonical.proofs.Trees.{at}
 use Rattle.canonical_order.specs.Walk.{pick, classA, classB, classC, nextOpen, listed, pending, unnumbered}
-
-ne-eqb : (a b : ℕ) → (a ≡ b → ⊥) → eqb a b ≡ false
-ne-eqb a b f = go (eqb a b) refl
-  where
-    go : (t : Bool) → eqb a b ≡ t → eqb a b ≡ false
-    go true e = absurd (f (eqb-true a b e))
-    go false e = e
 
 -- ---- listed
 

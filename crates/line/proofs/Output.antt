@@ -10,33 +10,33 @@ use lib.Seq.{take-all, length-take-le}
 use borrow.Author.Tests.{leb-true, leb-false, ne-eqb}
 use Rattle.line_fields.specs.Fields.{inColumns}
 use Rattle.line_pieces.specs.declared.Gathered.{Gathered}
-use Rattle.line_pieces.specs.Pieces.{upTo, ends, one, Gathers}
+use Rattle.line_pieces.specs.Pieces.{toNewline, ends, one, Gathers}
 use Rattle.line.specs.Line.{answer, answerNumber}
 use Rattle.line.specs.Output.{lastAnswer, outputFrom, output, Rooms}
 
 -- ---- an output, line by line
 
 line-closed : (p : ℕ) (l s rest : List ℕ) → ends s ≡ true
-    → outputFrom p l (s ++ rest) ≡ answer p (l ++ upTo s) ++ outputFrom p [] (drop (suc (length (upTo s))) s ++ rest)
-unfolding outputFrom upTo ends
+    → outputFrom p l (s ++ rest) ≡ answer p (l ++ toNewline s) ++ outputFrom p [] (drop (suc (length (toNewline s))) s ++ rest)
+unfolding outputFrom toNewline ends
 line-closed p l [] rest e = absurd (false≢true e)
 line-closed p l (b ∷ s) rest e = go (eqb b 10) refl (λ h. line-closed p (l ++ (b ∷ [])) s rest h)
   where
     go : (t : Bool) → eqb b 10 ≡ t
         → (ends s ≡ true → outputFrom p (l ++ (b ∷ [])) (s ++ rest)
-        ≡ answer p ((l ++ (b ∷ [])) ++ upTo s) ++ outputFrom p [] (drop (suc (length (upTo s))) s ++ rest))
-        → outputFrom p l ((b ∷ s) ++ rest) ≡ answer p (l ++ upTo (b ∷ s)) ++ outputFrom p [] (drop (suc (length (upTo (b ∷ s)))) (b ∷ s) ++ rest)
+        ≡ answer p ((l ++ (b ∷ [])) ++ toNewline s) ++ outputFrom p [] (drop (suc (length (toNewline s))) s ++ rest))
+        → outputFrom p l ((b ∷ s) ++ rest) ≡ answer p (l ++ toNewline (b ∷ s)) ++ outputFrom p [] (drop (suc (length (toNewline (b ∷ s)))) (b ∷ s) ++ rest)
     go true f ih = rw f (rw append-nil refl)
     go false f ih = rw f (ih (rw f at e) ∙ rw append-assoc)
 
-pub line-open : (p : ℕ) (l s rest : List ℕ) → ends s ≡ false → (outputFrom p l (s ++ rest) ≡ outputFrom p (l ++ s) rest) × (upTo s ≡ s)
-unfolding outputFrom upTo ends
+pub line-open : (p : ℕ) (l s rest : List ℕ) → ends s ≡ false → (outputFrom p l (s ++ rest) ≡ outputFrom p (l ++ s) rest) × (toNewline s ≡ s)
+unfolding outputFrom toNewline ends
 line-open p l [] rest e = (rw append-nil, refl)
 line-open p l (b ∷ s) rest e = go (eqb b 10) refl (λ h. line-open p (l ++ (b ∷ [])) s rest h)
   where
     go : (t : Bool) → eqb b 10 ≡ t
-        → (ends s ≡ false → (outputFrom p (l ++ (b ∷ [])) (s ++ rest) ≡ outputFrom p ((l ++ (b ∷ [])) ++ s) rest) × (upTo s ≡ s))
-        → (outputFrom p l ((b ∷ s) ++ rest) ≡ outputFrom p (l ++ (b ∷ s)) rest) × (upTo (b ∷ s) ≡ b ∷ s)
+        → (ends s ≡ false → (outputFrom p (l ++ (b ∷ [])) (s ++ rest) ≡ outputFrom p ((l ++ (b ∷ [])) ++ s) rest) × (toNewline s ≡ s))
+        → (outputFrom p l ((b ∷ s) ++ rest) ≡ outputFrom p (l ++ (b ∷ s)) rest) × (toNewline (b ∷ s) ≡ b ∷ s)
     go true f ih = absurd (false≢true (sym (rw f at e)))
     go false f ih = (rw f (ih (rw f at e) .0 ∙ rw append-assoc), rw f (ap (λ (z : List ℕ). b ∷ z) (ih (rw f at e) .1)))
 
@@ -84,18 +84,18 @@ output-cut p h l (b ∷ s) g = go (eqb b 10) (output-cut p h (take h l ++ (b ∷
 
 module _ (p : ℕ) (line held s : List ℕ) (len from : ℕ) (r : Gathered) (after : List ℕ) (room : 25 ≤ length held)
     (holds : take len held ≡ take (length held) line) (g : Gathers held len s from r after) where
-  bytes-are : take (r .len) after ≡ take (length held) (line ++ upTo s)
-  bytes-are = g .bytes ∙ ap (λ (z : List ℕ). take (length held) (z ++ upTo s)) holds ∙ take-cut (length held) line (upTo s)
+  bytes-are : take (r .len) after ≡ take (length held) (line ++ toNewline s)
+  bytes-are = g .bytes ∙ ap (λ (z : List ℕ). take (length held) (z ++ toNewline s)) holds ∙ take-cut (length held) line (toNewline s)
 
   -- a newline came: the line is answered, and the next one begins
   pub piece-ended : r .ended ≡ true → (rest : List ℕ)
       → outputFrom p line (s ++ rest) ≡ answer p (take (r .len) after) ++ output p (drop (r .taken - from) s ++ rest)
   piece-ended e rest =
       let f : ends s ≡ true = sym (g .ended-is) ∙ e in
-      let k : suc (length (upTo s)) ≡ r .taken - from = omega (arith, g .taken-is, ap one f) in
+      let k : suc (length (toNewline s)) ≡ r .taken - from = omega (arith, g .taken-is, ap one f) in
       line-closed p line s rest f
-      ∙ ap (λ (z : List ℕ). z ++ outputFrom p [] (drop (suc (length (upTo s))) s ++ rest))
-      (sym (answer-cut p (length held) (line ++ upTo s) room) ∙ ap (answer p) (sym bytes-are))
+      ∙ ap (λ (z : List ℕ). z ++ outputFrom p [] (drop (suc (length (toNewline s))) s ++ rest))
+      (sym (answer-cut p (length held) (line ++ toNewline s) room) ∙ ap (answer p) (sym bytes-are))
       ∙ ap (λ (z : ℕ). answer p (take (r .len) after) ++ outputFrom p [] (drop z s ++ rest)) k
 
   -- none came: the bytes are of the line so far

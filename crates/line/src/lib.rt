@@ -3,7 +3,7 @@
 use line_fields::fields_of;
 use line_fields::in_columns;
 use line_output::ANSWER_ROOM;
-use line_output::put_number;
+use line_output::put_refusal;
 use line_output::put_term;
 ghost use Prim.Native.Nat.{_-_, _≤_};
 ghost use lib.ListN.{length};
@@ -31,12 +31,12 @@ pub fn answer_line(pool: &mut [u64], line: &[u8], out: &mut [u8], at: usize) -> 
         return at;
     }
     if !in_columns(line) {
-        return put_number(10, out, at);
+        return put_refusal(10, out, at);
     }
     let numbers = fields_of(line);
     let answer = block::lower_block(pool, &numbers);
     if 0 < answer.number {
-        return put_number(answer.number, out, at);
+        return put_refusal(answer.number, out, at);
     }
     let map = answer.map;
     let node = map.get(numbers[3]);

@@ -20,7 +20,7 @@ ghost use Rattle.line_output.specs.Answer.{answerRoom, roomNumber, writt
 pub const ANSWER_ROOM: usize = 65542;
 
 // Writes a number and a newline.
-pub fn put_number(number: u64, out: &mut [u8], at: usize) -> usize
+pub fn put_refusal(number: u64, out: &mut [u8], at: usize) -> usize
     requires { ⌜ number < 10000 ⌝ }
     requires { ⌜ at + answerRoom ≤ length (now out) ⌝ }
     ensures { λ r. ⌜ Wrote (now (out .entry)) at (columns number ++ (10 ∷ [])) r (now (out .exit)) ⌝ }
@@ -39,7 +39,7 @@ pub fn put_term(pool: &[u64], count: usize, node: Node, out: &mut [u8], at: usiz
 {
     let length = length_in_block(pool, node, 65536);
     if 65536 < length {
-        return put_number(9, out, at);
+        return put_refusal(9, out, at);
     }
     let i = put_columns(0, out, at);
     let from = put(b" ", out, i);

@@ -11,7 +11,7 @@ use borrow.Author.Tests.{le-leb, leb-true, leb-false}
 use Rattle.text_digits.specs.Writing.{Wrote}
 use Rattle.text_digits.proofs.Laws.{wrote-as}
 use Rattle.line_pieces.specs.declared.Gathered.{Gathered}
-use Rattle.line_pieces.specs.Pieces.{upTo, ends, Gathers}
+use Rattle.line_pieces.specs.Pieces.{toNewline, ends, Gathers}
 use Rattle.line_output.specs.Answer.{answerRoom}
 use Rattle.line.specs.Line.{answer, answerIn}
 use Rattle.line.specs.Output.{outputFrom}
@@ -68,7 +68,7 @@ module _ (p : ℕ) (held piece : List ℕ) (len next : ℕ) (r : Gathered) (held
       let s = drop next piece in
       let f : ends s ≡ false = sym (g .ended-is) ∙ e in
       let o = piece-open p (take len held) held s len next r held′ room holds g e in
-      let all : upTo s ≡ s = line-open p (take len held) s [] f .1 in
+      let all : toNewline s ≡ s = line-open p (take len held) s [] f .1 in
       let gone : drop (r .taken) piece ≡ [] =
       drop-of-length-le piece {i = r .taken} (omega (arith, g .taken-is, ap length all, length-drop next piece))
       in

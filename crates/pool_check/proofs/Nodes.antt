@@ -33,13 +33,13 @@ pub by-number : (ws : List ℕ) (n : ℕ) {k : ℕ} {r : Bool} → k ≡ kindNum
 by-number ws n e h = h ∙ rw e
 
 -- both extensions have one rule
-pub extension : (ws : List ℕ) (n k : ℕ) → 18 ≤ k → k < 20 → okAs zext ws n ≡ okAs (kindAt k) ws n
+pub extension : (ws : List ℕ) (n k : ℕ) → 18 ≤ k → k ≤ 19 → okAs zext ws n ≡ okAs (kindAt k) ws n
 unfolding kinds
-extension ws n k l h = within (λ κ. okAs zext ws n ≡ okAs κ ws n) 18 2 (refl, (refl, tt)) k l h
+extension ws n k l h = within (λ κ. okAs zext ws n ≡ okAs κ ws n) 18 2 (refl, (refl, tt)) k l (omega (arith, h))
 
 -- a number of no kind
-pub no-kind : (ws : List ℕ) (n k : ℕ) → 20 ≤ k → false ≡ okAs (kindAt k) ws n
-no-kind ws n k l = rw (is-bad k l)
+pub no-kind : (ws : List ℕ) (n k : ℕ) → 19 < k → false ≡ okAs (kindAt k) ws n
+no-kind ws n k l = rw (is-bad k (omega (arith, l)))
 
 pub one-more : (ws : List ℕ) (n : ℕ) → okPool ws n ≡ true → okNode ws n ≡ true → okPool ws (n + 1) ≡ true
 unfolding okPool

@@ -103,8 +103,8 @@ pub fn of_width(pool: &[u64], count: usize, n: Node, bits: u64) -> bool
     requires { ⌜ 4 * count ≤ length (now pool) ⌝ }
     ensures { λ r. ⌜ r ≡ ofWidth (now (pool .entry)) count (n .0) bits ⌝ }
 {
-    if count <= n.0 {
-        return false;
+    if n.0 < count {
+        return width_of(pool, n) == bits;
     }
-    width_of(pool, n) == bits
+    false
 }

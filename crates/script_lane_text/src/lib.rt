@@ -40,8 +40,8 @@ fn put_equation(p: &[u64], n: Node, k: u64, buf: &mut [u8], at: usize) -> usize
     ensures { λ e. ⌜ Wrote (now (buf .entry)) at (equationLine (now (p .entry)) (n .0)) e (now (buf .exit)) ⌝ }
 {
     let i = put(b"(assert (= ", buf, at);
-    let j = put_node_name(n, buf, i);
-    let l = put(b" ", buf, j);
+    let name = put_node_name(n, buf, i);
+    let l = put(b" ", buf, name);
     let m = put_term(p, n, k, buf, l);
     put(b"))\n", buf, m)
 }

@@ -1,7 +1,7 @@
 -- How long the parts of a script are. Assumes nothing.
 use mathlib.Core.Path.{_≡_, refl, sym, ap, _∙_, subst}
 use mathlib.Core.List.{List, _++_}
-use Prim.Native.Nat.{ℕ, zero, suc, _+_, _-_, _<_}
+use Prim.Native.Nat.{ℕ, _+_, _-_, _<_}
 use native.Mathlib.Numerals.{add-one}
 use native.Mathlib.Omega.{arith}
 use lib.ListN.{length, length-append}
@@ -10,6 +10,7 @@ use Rattle.pool.specs.Node.{kindNumber, widthAt, wordAt}
 use Rattle.text_parts.proofs.Operands.{ready-of}
 use Rattle.text_series.specs.Series.{upTo}
 use Rattle.script_meaning.specs.Sexp.{show, showAll, showMore}
+use Rattle.script_meaning.proofs.Numbers.{binary-length}
 use Rattle.script_meaning.specs.Script.{binary, nameOf, sortBy, apply1, apply2, apply3, index1, index2, termOf, scriptOf}
 use Rattle.script_text.specs.Lines.{lineAt, declarationLine, claimLines}
 use Rattle.script_text.proofs.Chunks.{applied-2, applied-3, indexed-1, indexed-2, short-sort, long-sort}
@@ -37,13 +38,8 @@ size-bool w e = ap length (short-sort w e)
 pub size-vector : (w : ℕ) → (w ≡ 0 → ⊥) → length (show (sortBy w)) ≡ length (decimal w) + 11
 size-vector w f = omega (arith, simp length-append at (ap length (long-sort w f)))
 
-size-binary : (w v : ℕ) → length (binary w v) ≡ w
-unfolding binary
-size-binary zero v = refl
-size-binary (suc w) v = ap suc (size-binary w v)
-
 pub size-constant : (w v : ℕ) → length (bytes "#b" ++ binary w v) ≡ w + 2
-size-constant w v = omega (arith, size-binary w v, length-append (bytes "#b") (binary w v))
+size-constant w v = omega (arith, binary-length w v, length-append (bytes "#b") (binary w v))
 
 -- ---- names and lines
 

@@ -84,8 +84,8 @@ returns-2 c =
 in-columns-requires : tie.Need-in-columns-requires
 in-columns-requires c κs = search needs
 
-put-number-requires : tie.Need-put-number-requires
-put-number-requires c κs =
+put-refusal-requires : tie.Need-put-refusal-requires
+put-refusal-requires c κs =
     let n = c .before .before in
     (omega arith, room (n .before))
 
@@ -99,7 +99,7 @@ returns-3 c =
     let n = uneven .before in
     let a = entry (n .before) .args in
     let bad = sym (n .in-columns .ensures) ∙ not-true _ (uneven .if3 .taken) in
-    let w = other (a .pool .now) (a .line .now) (a .out .now) (a .at) (n .before .if2 .left) bad (told .put-number .ensures) in
+    let w = other (a .pool .now) (a .line .now) (a .out .now) (a .at) (n .before .if2 .left) bad (told .put-refusal .ensures) in
     let same = left-other (a .pool .now) (a .line .now) (a .out .now) (a .at) (n .before .if2 .left) bad in
     (w, (same, inside (places (a .pool .now)) (a .line .now) w))
 
@@ -112,8 +112,8 @@ slice-aggregate-lower-block c = search needs
 lower-block-requires : tie.Need-lower-block-requires
 lower-block-requires c κs = search needs
 
-put-number-requires-2 : tie.Need-put-number-requires-2
-put-number-requires-2 c κs =
+put-refusal-requires-2 : tie.Need-put-refusal-requires-2
+put-refusal-requires-2 c κs =
     let l = unlowered (c .before) in
     let a = asked l .args in
     (omega (arith, one l .number, block-low (places (a .pool .now)) (recordOf (a .line .now))), room (roomy (ordered l)))
@@ -131,7 +131,7 @@ returns-4 c =
     let l = unlowered refusal in
     let q = ordered l in
     let a = asked l .args in
-    let w = refused (a .pool .now) (a .line .now) (a .out .now) (a .at) (roomy q .if2 .left) (in-columns q) (one l) (refusal .if4 .taken) (number .put-number2 .ensures) in
+    let w = refused (a .pool .now) (a .line .now) (a .out .now) (a .at) (roomy q .if2 .left) (in-columns q) (one l) (refusal .if4 .taken) (number .put-refusal2 .ensures) in
     (w, (lowered-one (a .pool .now) (a .line .now) (a .out .now) (a .at) (roomy q .if2 .left) (in-columns q) (one l), inside (places (a .pool .now)) (a .line .now) w))
 
 array-read-get : tie.Need-array-read-get
@@ -174,13 +174,13 @@ answer-line-spec =
     sub-if2
     returns-2
     in-columns-requires
-    put-number-requires
+    put-refusal-requires
     same-length
     returns-3
     fields-of-requires
     slice-aggregate-lower-block
     lower-block-requires
-    put-number-requires-2
+    put-refusal-requires-2
     same-length-2
     same-length-3
     returns-4

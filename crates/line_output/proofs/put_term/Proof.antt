@@ -35,8 +35,8 @@ roomy c = omega (arith, c .before .length-in-block .ensures, c .if1 .left)
 length-in-block-requires : tie.Need-length-in-block-requires
 length-in-block-requires c κs = let s = c .before .before in ((whole s, s .pre .1 .0 .1), omega arith)
 
-put-number-requires : tie.Need-put-number-requires
-put-number-requires c κs = search needs
+put-refusal-requires : tie.Need-put-refusal-requires
+put-refusal-requires c κs = search needs
 
 same-length : tie.Need-same-length
 same-length c = search needs
@@ -47,7 +47,7 @@ returns c =
     let long = told .before .before in
     let f = long .before in
     let a = f .before .before .before .args in
-    term-refused (text (a .pool .now) (a .node .0)) (omega (arith, f .length-in-block .ensures, long .if1 .taken)) (told .put-number .ensures)
+    term-refused (text (a .pool .now) (a .node .0)) (omega (arith, f .length-in-block .ensures, long .if1 .taken)) (told .put-refusal .ensures)
 
 put-columns-requires : tie.Need-put-columns-requires
 put-columns-requires c κs =
@@ -109,7 +109,7 @@ put-term-spec =
     tie.close
     (tie.spec
     length-in-block-requires
-    put-number-requires
+    put-refusal-requires
     same-length
     returns
     put-columns-requires

@@ -91,12 +91,12 @@ returns-4 c =
     let below = c .before in
     let above = below .before in
     let k = extending above in
-    other k (λ e. omega (arith, e, above .if4 .taken)) (c .extend-ok .ensures ∙ extension (ws k) (n k) (kind k) (above .if4 .taken) (omega (arith, below .if5 .taken)))
+    other k (λ e. omega (arith, e, above .if4 .taken)) (c .extend-ok .ensures ∙ extension (ws k) (n k) (kind k) (above .if4 .taken) (below .if5 .taken))
 
 returns-5 : tie.Need-returns-5
 returns-5 c =
     let k = extending (c .before) in
-    other k (λ e. omega (arith, e, c .if5 .left)) (no-kind (ws k) (n k) (kind k) (omega (arith, c .if5 .left)))
+    other k (λ e. omega (arith, e, c .if5 .left)) (no-kind (ws k) (n k) (kind k) (c .if5 .left))
 
 pair-ok-requires : tie.Need-pair-ok-requires
 pair-ok-requires c κs = search needs

@@ -1,10 +1,10 @@
--- `put_number` meets its contract: four columns and a newline.
+-- `put_refusal` meets its contract: four columns and a newline.
 use native.Mathlib.Omega.{arith}
 use Rattle.text_digits.proofs.Laws.{wrote-then, wrote-length}
 use Rattle.line_output.proofs.Texts.{length-columns}
 use borrow.Author.Needs.{needs}
-use Rattle.line_output.proofs.put_number.Statement.{statement}
-use Rattle.line_output.proofs.put_number.Tie as tie
+use Rattle.line_output.proofs.put_refusal.Statement.{statement}
+use Rattle.line_output.proofs.put_refusal.Tie as tie
 
 put-columns-requires : tie.Need-put-columns-requires
 put-columns-requires c κs =
@@ -29,6 +29,6 @@ returns c =
     let end = c .before .before in
     wrote-then (end .before .before .before .before .before .put-columns .ensures) (end .put .ensures)
 
-pub put-number-spec : {M : Type 1} → statement M
-put-number-spec =
+pub put-refusal-spec : {M : Type 1} → statement M
+put-refusal-spec =
     tie.close (tie.spec put-columns-requires slice-aggregate-put put-requires same-length returns)
