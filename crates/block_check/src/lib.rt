@@ -61,7 +61,7 @@ pub fn size_number(words: usize, count: usize) -> u64
     0
 }
 
-// What refuses records, of which so many are refused by this number: that, or the first that is refused.
+// The refusal for the block's size if there is one, else that of the first refused record.
 pub fn refusal_by(number: u64, records: &[u64]) -> Checked
     ensures { λ r. ⌜ Refuses r (refusalBy number (recordsOf (now (records .entry)))) ⌝ }
 {

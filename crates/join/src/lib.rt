@@ -113,8 +113,8 @@ fn move_one(second: &[u64], c: usize, m: Node, out: &mut [u64])
     );
 }
 
-// Copies the first pool's nodes and, of the second's, all but its registers: whatever nodes x and y the Eq is of.
-fn copy_second(first: &[u64], c: usize, second: &[u64], d: usize, out: &mut [u64])
+// Copies both pools' nodes, of the second pool's all but its registers. The contract holds for whatever nodes x and y the Eq is of.
+fn copy_pools(first: &[u64], c: usize, second: &[u64], d: usize, out: &mut [u64])
     requires { ⌜ (Valid (now second) d) × (4 * d ≤ length (now second)) × (32 ≤ d) ⌝ }
     requires { ⌜ (4 * c ≤ length (now first)) × (32 ≤ c) ⌝ }
     requires { ⌜ (4 * joinCount c d ≤ length (now out)) × (joinCount c d ≤ 65535) ⌝ }
@@ -194,7 +194,7 @@ pub fn join(
             count: 0,
         };
     }
-    copy_second(first, c, second, d, out);
+    copy_pools(first, c, second, d, out);
     put_eq(first, c, second, d, Node(x), Node(y), out);
     Joined {
         number,

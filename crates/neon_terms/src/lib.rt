@@ -55,7 +55,7 @@ pub extern "C" fn neon_lower_instruction(
     lowered.number
 }
 
-// Returns the number; the map, the count and the position go to `results`. Where that is too short, nothing is lowered.
+// Returns the number; the map, the count and the position go to `results`.
 #[no_mangle]
 pub extern "C" fn neon_lower_block(
     pool: &mut [u64],

@@ -24,8 +24,8 @@ same-length c = search needs
 returns : tie.Need-returns
 returns c = search needs
 
-copy-second-requires : tie.Need-copy-second-requires
-copy-second-requires c κs =
+copy-pools-requires : tie.Need-copy-pools-requires
+copy-pools-requires c κs =
     let p = passed (c .before) in
     let f = p .first-starts in
     let g = p .second-starts in
@@ -37,7 +37,7 @@ put-eq-requires c κs =
     let p = passed (t .before .before) in
     let f = p .first-starts in
     let g = p .second-starts in
-    ((f .long, g .long), ((f .enough, g .enough, p .x-less, p .y-less), (omega (arith, p .room, t .copy-second .ensures 0 0 .long), omega (arith, p .room))))
+    ((f .long, g .long), ((f .enough, g .enough, p .x-less, p .y-less), (omega (arith, p .room, t .copy-pools .ensures 0 0 .long), omega (arith, p .room))))
 
 -- after both copies
 abbrev tested : tie.After-slice-known3 → tie.Else1
@@ -67,7 +67,7 @@ returns-2 c =
     let p = passed e in
     all-done (a .first .now) (a .c) (a .second .now) (a .d) (a .x) (a .y) (a .out .now) (e .before .join-number .ensures) (omega (arith, e .if1 .left))
     (eq-at (a .first .now) (a .c) (a .second .now) (a .d) (a .x) (a .y) (p .first-starts .enough) (p .second-starts .enough) (a .out .now) _ _
-    (omega (arith, p .room, t .copy-second .ensures 0 0 .long)) (q .put-eq .ensures) (t .copy-second .ensures (a .x) (a .y)))
+    (omega (arith, p .room, t .copy-pools .ensures 0 0 .long)) (q .put-eq .ensures) (t .copy-pools .ensures (a .x) (a .y)))
 
 pub join-spec : {M : Type 1} → statement M
 join-spec =
@@ -76,7 +76,7 @@ join-spec =
     join-number-requires
     same-length
     returns
-    copy-second-requires
+    copy-pools-requires
     put-eq-requires
     add-t19
     sub-t20

@@ -1,4 +1,4 @@
--- `copy_second` meets its contract: before node m the words are those of `joinWord`, whatever the nodes of the Eq are.
+-- `copy_pools` meets its contract: before node m the words are those of `joinWord`, whatever the nodes of the Eq are.
 use Rattle.join.proofs.Copies.{start-at, second-at, from-half}
 use Rattle.join.proofs.Moved.{moved-parts, word-small}
 use Rattle.join.specs.Join.{SecondAt}
@@ -6,8 +6,8 @@ use lib.ListN.{length}
 use Prim.Native.Nat.{ℕ, _+_, _-_, _≤_}
 use mathlib.Core.Path.{_≡_, _∙_}
 use native.Mathlib.Omega.{arith}
-use Rattle.join.proofs.copy_second.Statement.{statement}
-use Rattle.join.proofs.copy_second.Tie as tie
+use Rattle.join.proofs.copy_pools.Statement.{statement}
+use Rattle.join.proofs.copy_pools.Tie as tie
 
 abbrev Inv-loop : tie.InvT-loop
 Inv-loop first c second d out₀ m₀ out m = (m ≤ d) × (32 ≤ m) × ((x y : ℕ) → SecondAt first c second d x y out₀ out (m + c - 32))
@@ -89,8 +89,8 @@ returns c x y =
     let e : l .m + a .c - 32 ≡ a .c + a .d - 32 = omega arith in
     rw e at (from-half (a .first .now) (a .c) (a .second .now) (a .d) x y (a .out .now) _ (l .out) (l .m + a .c - 32) (omega arith) (half .copy-first .ensures) (l .inv .2 x y))
 
-pub copy-second-spec : {M : Type 1} → statement M
-copy-second-spec =
+pub copy-pools-spec : {M : Type 1} → statement M
+copy-pools-spec =
     tie.close
     (tie.spec
     Inv-loop
