@@ -3,6 +3,7 @@ use std::time::Instant;
 
 use crate::answer::{Answer, Verdict};
 use crate::args::{Choice, Entry};
+use crate::elf::on_a_line;
 use crate::explain::{self, Explained};
 use crate::input::{self, Input, Refusal};
 use crate::pair::{Pair, Register, Routine};
@@ -168,7 +169,7 @@ fn verdict(told: &[Told]) -> Option<Verdict> {
 /// All pairs of routines that two files have. There is one or more.
 pub fn entry(entry: &Entry, input: &Input, explain: bool, tell: &mut dyn FnMut(Event)) -> Vec<Compared> {
     let begun = Instant::now();
-    let names = [&entry.old, &entry.new].map(|path| path.to_string_lossy().into_owned());
+    let names = [&entry.old, &entry.new].map(|path| on_a_line(&path.to_string_lossy()));
     let [old, new] = names;
     let refused = |old: String, new: String, refusals: Vec<Refusal>, begun: Instant| Compared {
         old,

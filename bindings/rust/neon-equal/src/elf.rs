@@ -216,7 +216,7 @@ impl<'a> Object<'a> {
         let bytes = self.file.part(names.offset, names.size)?;
         let rest = bytes.get(at as usize..).ok_or_else(|| format!("damaged: no name at 0x{at:x}"))?;
         let end = rest.iter().position(|&byte| byte == 0).ok_or("damaged: a name without an end")?;
-        Ok(String::from_utf8_lossy(&rest[..end]).into_owned())
+        Ok(on_a_line(&String::from_utf8_lossy(&rest[..end])))
     }
 
     /// Where a value is in its section.
@@ -371,6 +371,11 @@ impl<'a> Object<'a> {
         };
         Ok(if name.is_empty() { "no symbol".to_string() } else { name })
     }
+}
+
+/// A name without what would break a line.
+pub fn on_a_line(name: &str) -> String {
+    name.replace(char::is_control, "\u{fffd}")
 }
 
 /// `$x` and `$d`, with a number after a point or without.

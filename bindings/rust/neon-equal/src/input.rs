@@ -99,7 +99,8 @@ fn split(argument: &Path) -> (String, Option<String>) {
 
 fn read(argument: &Path, forced: Option<Format>, input: &Input) -> Result<Source, Refusal> {
     let (name, function) = split(argument);
-    let failed = |error: io::Error| Refusal::new(&name, error.to_string());
+    let shown = elf::on_a_line(&name);
+    let failed = |error: io::Error| Refusal::new(&shown, error.to_string());
     let (front, format, bytes) = if name == "-" {
         let mut input = input.lock().expect("no reader panics");
         take(&mut **input, forced).map_err(failed)?
@@ -109,15 +110,15 @@ fn read(argument: &Path, forced: Option<Format>, input: &Input) -> Result<Source
         take(&mut File::open(path).map_err(failed)?, forced).map_err(failed)?
     };
     if bytes.len() > format.most_bytes() {
-        return Err(Refusal::new(&name, format!("it has more than {} bytes", format.most_bytes())));
+        return Err(Refusal::new(&shown, format!("it has more than {} bytes", format.most_bytes())));
     }
     if front == 0 && forced.is_none() {
-        return Err(Refusal::new(&name, "empty; --words or --records say that an empty routine is meant"));
+        return Err(Refusal::new(&shown, "empty; --words or --records say that an empty routine is meant"));
     }
     if forced.is_some() && Format::of(&bytes[..front]) == Format::Object {
-        return Err(Refusal::new(&name, "an object, neither words nor records"));
+        return Err(Refusal::new(&shown, "an object, neither words nor records"));
     }
-    Ok(Source { name, function, format, bytes })
+    Ok(Source { name: shown, function, format, bytes })
 }
 
 /// How many bytes tell the format, the format, and all bytes or one more than may be.

@@ -25,6 +25,7 @@ mod record;
 mod registers;
 mod saturation;
 mod script;
+mod stack;
 mod value;
 mod version;
 mod words;

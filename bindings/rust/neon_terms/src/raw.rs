@@ -1,13 +1,12 @@
 //! The calls of libneon_terms.a on slices: include/neon_terms.h tells what they promise. Each is safe to call on any slices and numbers: a
-//! slice of Rust is aligned and not null, one that is lent to be written overlaps no other, and a call that needs more stack than every
-//! thread has gets a thread of its own.
+//! slice of Rust is aligned and not null, one that is lent to be written overlaps no other, and a call that needs more stack than its thread
+//! has gets a thread of its own.
 
 use std::sync::OnceLock;
-use std::thread;
 
 use neon_terms_sys as sys;
 
-use crate::version;
+use crate::{stack, version};
 
 pub const RESERVE: usize = 768;
 /// A block has no more records.
@@ -19,8 +18,8 @@ pub const SATURATION_RESULTS: usize = 35;
 /// The number that stands for no node. A pool has no more places than this.
 pub const NO_NODE: usize = 65535;
 
-/// Bytes of stack that a call may take in place: threads of 16 KB have them.
-const IN_PLACE: usize = 8 << 10;
+/// For fewer bytes of stack than these the levels of a term are not counted.
+const FEW: usize = 8 << 10;
 
 /// Bytes of stack for a level of a term, of texts and of values: the header's numbers, the larger.
 const LEVEL: usize = 80;
@@ -29,23 +28,11 @@ const LEVEL: usize = 80;
 const LENGTH_STACK: usize = 600 << 10;
 const CANONICAL_STACK: usize = 1 << 20;
 
-/// Makes a call that takes so many bytes of stack.
-fn with_stack<T: Send>(bytes: usize, call: impl FnOnce() -> T + Send) -> T {
-    if bytes <= IN_PLACE {
-        return call();
-    }
-    thread::scope(|scope| {
-        // as much again for what the system and Rust put there
-        let thread = thread::Builder::new().stack_size(2 * bytes).spawn_scoped(scope, call).expect("a thread can be started");
-        thread.join().expect("a call of the library ends")
-    })
-}
-
 /// Bytes of stack for a call that goes down the term of a node. No term has more levels than nodes up to it; only where these are many are they
 /// counted.
 fn stack_of(pool: &[u64], count: usize, node: usize) -> usize {
     let nodes = count.min(node.saturating_add(1));
-    if LEVEL * nodes <= IN_PLACE { LEVEL * nodes } else { LEVEL * levels(&pool[..pool.len().min(4 * nodes)]) }
+    if LEVEL * nodes <= FEW { LEVEL * nodes } else { LEVEL * levels(&pool[..pool.len().min(4 * nodes)]) }
 }
 
 /// The most levels that the term of a pool's last node has. An operand that a kind does not use is 0, and node 0 is a leaf.
@@ -102,7 +89,7 @@ pub fn lower_block_saturation(pool: &mut [u64], records: &[u64], results: &mut [
 /// Number and length.
 pub fn write_text(pool: &[u64], count: usize, node: usize, buffer: &mut [u8]) -> (u64, usize) {
     linked();
-    with_stack(stack_of(pool, count, node), || {
+    stack::with(stack_of(pool, count, node), || {
         let mut length = 0;
         let number = unsafe { sys::neon_write_text(pool.as_ptr(), pool.len(), count, node, buffer.as_mut_ptr(), buffer.len(), &mut length) };
         (number, length)
@@ -112,7 +99,7 @@ pub fn write_text(pool: &[u64], count: usize, node: usize, buffer: &mut [u8]) ->
 /// Number and length.
 pub fn text_length(pool: &[u64], count: usize, node: usize, ceiling: u32) -> (u64, u64) {
     linked();
-    with_stack(LENGTH_STACK + stack_of(pool, count, node), || {
+    stack::with(LENGTH_STACK + stack_of(pool, count, node), || {
         let mut length = 0;
         let number = unsafe { sys::neon_text_length(pool.as_ptr(), pool.len(), count, node, ceiling, &mut length) };
         (number, length)
@@ -130,7 +117,7 @@ pub fn registers_of(pool: &[u64], count: usize, node: usize) -> (u64, u64) {
 /// Number, value and visits.
 pub fn value(pool: &[u64], count: usize, node: usize, start: &[u64; 64], allowance: u64) -> (u64, [u64; 3], u64) {
     linked();
-    with_stack(stack_of(pool, count, node), || {
+    stack::with(stack_of(pool, count, node), || {
         let (mut value, mut visits) = ([0; 3], 0);
         let number = unsafe { sys::neon_value(pool.as_ptr(), pool.len(), count, node, start, allowance, &mut value, &mut visits) };
         (number, value, visits)
@@ -176,7 +163,7 @@ pub fn join((first, c, a): (&[u64], usize, usize), (second, d, b): (&[u64], usiz
 /// Number and count.
 pub fn canonical(pool: &[u64], count: usize, root: usize, out: &mut [u64]) -> (u64, usize) {
     linked();
-    with_stack(CANONICAL_STACK, || {
+    stack::with(CANONICAL_STACK, || {
         let mut after = 0;
         let number = unsafe { sys::neon_canonical(pool.as_ptr(), pool.len(), count, root, out.as_mut_ptr(), out.len(), &mut after) };
         (number, after)
