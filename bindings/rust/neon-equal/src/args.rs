@@ -93,7 +93,7 @@ fn items(args: impl Iterator<Item = OsString>) -> Vec<Item> {
     let mut args = args;
     let mut items = Vec::new();
     while let Some(arg) = args.next() {
-        let Some(option) = arg.to_str().filter(|text| text.starts_with('-') && *text != "-") else {
+        let Some(option) = arg.to_str().filter(|text| text.starts_with('-') && *text != "-" && !text.starts_with("-:")) else {
             items.push(Item::File(arg));
             continue;
         };
@@ -154,7 +154,7 @@ impl Whole {
             ("--replay", _) => once(name, &mut self.replay, file(name, value)?)?,
             ("--report", _) => once(name, &mut self.report, file(name, value)?)?,
             ("--list", _) => once(name, &mut self.list, file(name, value)?)?,
-            ("-j" | "--jobs", _) => {
+            ("-j", _) => {
                 let jobs = value.and_then(|value| value.to_str()).and_then(number).filter(|n| (1..=1024).contains(n));
                 once("-j", &mut self.jobs, jobs.ok_or_else(|| wrong("-j", "a number from 1 to 1024", value))? as usize)?;
             }

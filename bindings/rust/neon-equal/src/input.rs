@@ -11,6 +11,14 @@ use crate::elf::{self, Object};
 use crate::frame::{self, Body, Refused};
 use crate::pair::{Places, Routine};
 
+/// First bytes of files that stand where objects are expected, and are none. As words they would be many strange instructions.
+const OTHERS: [(&[u8], &str); 4] = [
+    (b"!<arch>\n", "an archive"),
+    (b"!<thin>\n", "an archive"),
+    (b"BC\xc0\xde", "LLVM bitcode"),
+    (b"\xcf\xfa\xed\xfe", "a Mach-O file"),
+];
+
 /// What a file has.
 #[derive(Debug, Clone, Copy, PartialEq, Eq)]
 pub enum Format {
@@ -60,10 +68,20 @@ impl Refusal {
         Self::new("", reason)
     }
 
+    fn head(&self) -> String {
+        if self.place.is_empty() { String::new() } else { format!("{}: ", self.place) }
+    }
+
     /// A line for each reason.
     pub fn lines(&self) -> impl Iterator<Item = String> {
-        let place = if self.place.is_empty() { String::new() } else { format!("{}: ", self.place) };
-        self.reasons.iter().map(move |reason| format!("{place}{reason}"))
+        let head = self.head();
+        self.reasons.iter().map(move |reason| format!("{head}{reason}"))
+    }
+
+    /// All reasons in one line.
+    pub fn line(&self) -> String {
+        let reasons: Vec<String> = self.reasons.iter().map(Refused::to_string).collect();
+        format!("{}{}", self.head(), reasons.join("; "))
     }
 }
 
@@ -114,6 +132,9 @@ fn read(argument: &Path, forced: Option<Format>, input: &Input) -> Result<Source
     }
     if front == 0 && forced.is_none() {
         return Err(Refusal::new(&shown, "empty; --words or --records say that an empty routine is meant"));
+    }
+    if let (None, Some((_, what))) = (forced, OTHERS.iter().find(|(magic, _)| bytes.starts_with(magic))) {
+        return Err(Refusal::new(&shown, format!("{what}, no object")));
     }
     if forced.is_some() && Format::of(&bytes[..front]) == Format::Object {
         return Err(Refusal::new(&shown, "an object, neither words nor records"));
@@ -197,7 +218,9 @@ impl Names {
 fn named(source: &Source, object: Option<&Object>, choice: &Choice) -> Result<Option<String>, Refusal> {
     match (&source.function, &choice.function) {
         (Some(function), Some(other)) if function != other => Err(Refusal::new(&source.name, format!("both {function} and --function {other} are named"))),
-        (Some(function), _) if object.is_none() => Err(Refusal::new(&source.name, format!("no object, so it has no function {function}"))),
+        (Some(function), _) | (_, Some(function)) if object.is_none() => {
+            Err(Refusal::new(&source.name, format!("no object, so it has no function {function}")))
+        }
         (function, other) => Ok(function.clone().or_else(|| other.clone())),
     }
 }
@@ -216,7 +239,6 @@ fn names(old: &Source, old_object: Option<&Object>, new: &Source, new_object: Op
         (Some(old_object), Some(new_object)) => (old_object, new_object),
         (Some(object), None) => return Ok(Names::one(Some(f.map_or_else(|| only(old, object), Ok)?), None)),
         (None, Some(object)) => return Ok(Names::one(None, Some(g.map_or_else(|| only(new, object), Ok)?))),
-        (None, None) if choice.function.is_some() => return Err(Refusal::new(&old.name, "no object, so it has no functions; --function is for objects")),
         (None, None) => return Ok(Names::one(None, None)),
     };
     if f.is_some() || g.is_some() {

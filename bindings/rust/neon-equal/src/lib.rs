@@ -57,7 +57,10 @@ pub fn run(args: impl Iterator<Item = OsString>, input: &mut (dyn Read + Send), 
     let done = match args::parse(args, starts) {
         Ok(Wanted::Help) => write_all(streams, args::HELP).map(|()| 0),
         Ok(Wanted::Version) => write_all(streams, &format!("{}\n", version())).map(|()| 0),
-        Ok(Wanted::Run(run)) => neon_terms::check_version().map_err(|wrong| vec![wrong.to_string()]).and_then(|_| compare_all(&run, &Mutex::new(input), streams)),
+        Ok(Wanted::Run(run)) => match neon_terms::check_version() {
+            Ok(_) => compare_all(&run, &Mutex::new(input), streams),
+            Err(wrong) => Err(vec![wrong.to_string()]),
+        },
         Err(message) => Err(vec![format!("{message}; neon-equal --help tells more")]),
     };
     done.unwrap_or_else(|messages| {

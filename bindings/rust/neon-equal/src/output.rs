@@ -4,6 +4,7 @@ use std::io::{self, Write};
 use crate::answer::{Answer, Verdict};
 use crate::compare::{Compared, Demand, Event, Told};
 use crate::explain::{Explained, Step};
+use crate::input::Refusal;
 use crate::json::Json;
 use crate::show::{Number, Shown};
 
@@ -138,7 +139,7 @@ fn listed(compared: &Compared, number: usize) -> String {
 /// A verdict with its reason, in one line.
 pub fn summary(compared: &Compared) -> String {
     let reasons: Vec<String> = match compared.verdict {
-        Verdict::Refused => compared.refusals.iter().flat_map(|refusal| refusal.lines().collect::<Vec<_>>()).collect(),
+        Verdict::Refused => compared.refusals.iter().map(Refusal::line).collect(),
         verdict => compared.told.iter().filter(|told| told.answer.verdict() == verdict).filter_map(|told| told.lines().into_iter().next()).collect(),
     };
     format!("{}; {}", compared.verdict, reasons.join("; "))
@@ -203,7 +204,7 @@ fn told_object(old: &str, new: &str, told: &Told) -> Json {
 }
 
 fn refusal_objects(compared: &Compared) -> Vec<Json> {
-    let of = |refusal: &crate::input::Refusal| {
+    let of = |refusal: &Refusal| {
         let place = refusal.place.clone();
         refusal.reasons.iter().map(move |reason| {
             let mut fields = vec![("type", Json::text("refusal"))];

@@ -85,7 +85,8 @@ pub fn page(all: &[Compared], version: &str) -> String {
     format!(
         "<!DOCTYPE html>\n<html lang=\"en\">\n<head>\n<meta charset=\"utf-8\">\n<title>neon-equal: {count}</title>\n<style>\n{STYLE}</style>\n</head>\n<body>\n\
          <h1>neon-equal</h1>\n<p>{count}.</p>\n<p>{version}</p>\n\
-         <table>\n<thead>\n<tr><th>No.</th> <th>Old</th> <th>New</th> <th>Answer</th> <th>Rests on</th> <th>Seconds</th></tr>\n</thead>\n<tbody>\n{rows}</tbody>\n</table>\n\
+         <table>\n<thead>\n<tr><th>No.</th> <th>Old</th> <th>New</th> <th>Answer</th> <th>Rests on</th> <th>Seconds</th></tr>\n</thead>\n\
+         <tbody>\n{rows}</tbody>\n</table>\n\
          <p>A click on an answer shows the difference by lanes, what is left, or why a pair was refused.</p>\n</body>\n</html>\n",
         count = Count::of(all),
         version = html(version),
