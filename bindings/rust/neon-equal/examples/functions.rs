@@ -10,7 +10,7 @@ fn main() {
             Ok(object) => {
                 for function in object.functions() {
                     let sum = object.code(function).map(|code| code.iter().fold(0u64, |sum, &byte| sum.wrapping_mul(31).wrapping_add(byte.into())));
-                    let marks: Vec<String> = object.marks(function).unwrap_or_default().iter().map(|(at, mark)| format!("0x{at:x} {mark}")).collect();
+                    let marks: Vec<String> = object.marks(function, [0, function.size]).unwrap_or_default().iter().map(|(at, mark)| format!("0x{at:x} {mark}")).collect();
                     println!("{}\t{}\t{}\t{}", function.name, function.size, sum.map_or_else(|reason| reason, |sum| sum.to_string()), marks.join("; "));
                 }
             }

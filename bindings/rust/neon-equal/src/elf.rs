@@ -22,6 +22,8 @@ const FUNC: u8 = 2;
 const SECTION: u8 = 3;
 /// Section numbers from here on have a meaning of their own.
 const RESERVED: u16 = 0xff00;
+/// Bytes of a name.
+const LONGEST_NAME: usize = 1 << 16;
 
 type Read<T> = Result<T, String>;
 
@@ -152,6 +154,13 @@ struct Relocation {
     symbol: (usize, u64),
 }
 
+impl Relocation {
+    /// Those of instructions change four bytes; others may change eight.
+    fn bytes(&self) -> u64 {
+        if (263..1024).contains(&self.kind) { 4 } else { 8 }
+    }
+}
+
 pub struct Object<'a> {
     file: Bytes<'a>,
     /// Whether values are addresses, as in a program, and not places in sections.
@@ -215,7 +224,7 @@ impl<'a> Object<'a> {
         let names = self.sections.get(section).filter(|names| names.kind == STRTAB).ok_or("damaged: no section of names")?;
         let bytes = self.file.part(names.offset, names.size)?;
         let rest = bytes.get(at as usize..).ok_or_else(|| format!("damaged: no name at 0x{at:x}"))?;
-        let end = rest.iter().position(|&byte| byte == 0).ok_or("damaged: a name without an end")?;
+        let end = rest.iter().take(LONGEST_NAME).position(|&byte| byte == 0).ok_or("damaged: a name without an end")?;
         Ok(on_a_line(&String::from_utf8_lossy(&rest[..end])))
     }
 
@@ -224,11 +233,13 @@ impl<'a> Object<'a> {
         if self.linked { value.checked_sub(self.sections[section].address) } else { Some(value) }
     }
 
+    /// The functions and the mapping symbols. Together their names are not much longer than the file, so that they are read in its length's time.
     fn read_symbols(&mut self) -> Read<()> {
         let of = |kind: u32| self.sections.iter().position(|section| section.kind == kind);
         let table = of(SYMTAB).or_else(|| of(DYNSYM)).ok_or("it has no symbols")?;
         let (offset, size, names) = (self.sections[table].offset, self.sections[table].size, self.sections[table].link as usize);
         self.file.part(offset, size)?;
+        let mut left = 16 * self.file.0.len();
         for k in 0..size / Symbol::SIZE {
             let symbol = Symbol::read(self.file, offset + Symbol::SIZE * k)?;
             let section = usize::from(symbol.section);
@@ -236,6 +247,7 @@ impl<'a> Object<'a> {
                 continue;
             }
             let name = self.name(names, symbol.name)?;
+            left = left.checked_sub(name.len()).ok_or("damaged: more names than bytes")?;
             if section >= self.sections.len() {
                 return Err(format!("damaged: {name} is in section {section}, which is not there"));
             }
@@ -337,26 +349,27 @@ impl<'a> Object<'a> {
         self.file.part(at, function.size)
     }
 
-    /// Where a function has something else than plain code, by offset in the function.
-    pub fn marks(&self, function: &Function) -> Read<Vec<(u64, Mark)>> {
+    /// Where a part of a function, from one offset up to another, has something else than plain code: by offset in the function.
+    pub fn marks(&self, function: &Function, [from, to]: [u64; 2]) -> Read<Vec<(u64, Mark)>> {
         if self.unread.contains(&function.section) {
             return Err("its section has relocations in a form that is not read (CREL)".to_string());
         }
-        let end = function.start.saturating_add(function.size);
-        let next = self.mapping.partition_point(|(section, at, _)| (*section, *at) <= (function.section, function.start));
-        // what was said last before the function holds at its start; of two at one place, data
-        let before = self.mapping[..next].last().filter(|(section, _, data)| *section == function.section && *data);
-        let inside = self.mapping[next..].iter().take_while(|(section, at, _)| *section == function.section && *at < end);
-        let inside = inside.filter(|(.., data)| *data).map(|(_, at, _)| at - function.start);
-        let data = before.map(|_| 0).into_iter().chain(inside);
-        let mut marks: Vec<(u64, Mark)> = data.map(|at| (at, Mark::Data)).collect();
-        let first = self.relocations.partition_point(|r| (r.section, r.at) < (function.section, function.start));
-        for relocation in self.relocations[first..].iter().take_while(|r| r.section == function.section && r.at < end) {
+        let (section, start, end) = (function.section, function.start.saturating_add(from), function.start.saturating_add(to));
+        let next = self.mapping.partition_point(|(other, at, _)| (*other, *at) <= (section, start));
+        // what was said last before the part holds at its start; of two at one place, data
+        let before = self.mapping[..next].last().filter(|(other, _, data)| *other == section && *data).map(|_| start);
+        let inside = self.mapping[next..].iter().take_while(|(other, at, _)| *other == section && *at < end);
+        let inside = inside.filter(|(.., data)| *data).map(|(_, at, _)| *at);
+        let mut marks: Vec<(u64, Mark)> = before.into_iter().chain(inside).map(|at| (at, Mark::Data)).collect();
+        // one of 8 bytes may begin before the part
+        let first = self.relocations.partition_point(|r| (r.section, r.at) < (section, start.saturating_sub(7)));
+        let near = self.relocations[first..].iter().take_while(|r| r.section == section && r.at < end);
+        for relocation in near.filter(|r| r.at.saturating_add(r.bytes()) > start) {
             let about = self.about(relocation)?;
-            marks.push((relocation.at - function.start, Mark::Relocation(relocation.kind, about)));
+            marks.push((relocation.at.max(start), Mark::Relocation(relocation.kind, about)));
         }
         marks.sort_by_key(|(at, _)| *at);
-        Ok(marks)
+        Ok(marks.into_iter().map(|(at, mark)| (at - function.start, mark)).collect())
     }
 
     /// The name of the symbol that a relocation is about, or of its section.

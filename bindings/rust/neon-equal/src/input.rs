@@ -307,8 +307,8 @@ fn of_function(object: &Object, name: &str, choice: &Choice, side: usize) -> Res
     let code = object.code(function).map_err(one)?;
     let [from, to] = part(code.len() as u64, choice, side).map_err(|reason| vec![reason])?;
     let whole = choice.from.or(choice.to).is_none();
-    let marks = object.marks(function).map_err(one)?;
-    let marks: Vec<Refused> = marks.into_iter().filter(|(at, _)| (from..to).contains(at)).map(|(at, mark)| marked(code, at, &mark)).collect();
+    let marks = object.marks(function, [from, to]).map_err(one)?;
+    let marks: Vec<Refused> = marks.into_iter().map(|(at, mark)| marked(code, at, &mark)).collect();
     let part = &code[from as usize..to as usize];
     match frame::body(part, from, whole) {
         Ok(body) if marks.is_empty() => Ok((body, whole)),
