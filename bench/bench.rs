@@ -13,7 +13,7 @@ use std::io::Write;
 use std::process::{Command, Stdio};
 use std::time::Instant;
 
-use native::{bytes, canonical, join, lower_block, lower_block_saturation, lower_instruction, pool_check, read_words, run_in_place, script_length, text_length, value_to, words, write_script, write_text, write_words};
+use native::{bytes, canonical, join, lower_block, lower_block_saturation, lower_instruction, pool_check, read_lines, read_words, run_in_place, script_length, text_length, value_to, words, write_script, write_text, write_words};
 use pools::{Node, Rng, grow, pool_words};
 
 type Record = [u64; 6];
@@ -375,7 +375,7 @@ fn nested(rounds: u64) {
     }
 }
 
-/// Mean time of a record written as a word, and of a word read as a record, in a list of all forms.
+/// Mean time of a record written as a word, of a word read as a record, and of a line read as one, in a list of all forms.
 fn coding(rounds: u64, all: &[Record]) {
     let flat = all.concat();
     let mut text = bytes(4 * all.len());
@@ -384,7 +384,11 @@ fn coding(rounds: u64, all: &[Record]) {
     let mut records = words(&vec![0; flat.len()]);
     let read = best(rounds, || assert_eq!(black_box(read_words(black_box(&raw), &mut records)).0, 0));
     assert!(records.items() == flat, "reading what was written gives the records");
-    println!("write-word {:.1}\nread-word {:.1}", write / all.len() as f64, read / all.len() as f64);
+    let lines: Vec<u8> = all.iter().flat_map(|record| (record.map(|x| format!("{x:4}")).concat() + "\n").into_bytes()).collect();
+    let columns = best(rounds, || assert_eq!(black_box(read_lines(black_box(&lines), &mut records)).0, 0));
+    assert!(records.items() == flat, "reading what was listed gives the records");
+    let [write, read, columns] = [write, read, columns].map(|time| time / all.len() as f64);
+    println!("write-word {write:.1}\nread-word {read:.1}\nread-line {columns:.1}");
 }
 
 /// A byte of a script and a node of its length, of the terms of instructions and of kinds in random order.

@@ -49,8 +49,8 @@ There are {int(ours["forms"]):,} forms; their terms have {int(ours["nodes"]):,} 
 Building is `neon_lower_instruction` on a pool of 35 nodes, the pool check with it; the Rust builds and drops its tree. Text is
 `neon_write_text`, the pool check and the length with it; its length alone is `neon_text_length`, the pool check with it; the Rust writes
 to a string that has room. A record of a block is set beside the Rust's mean of building one tree. The program `forms`
-writes the list of all forms in {float(ours["listing"]):,.0f} µs. In a list of all forms a word is read in {float(ours["read-word"]):.1f} ns, and a record
-written as a word in {float(ours["write-word"]):.1f} ns.""")
+writes the list of all forms in {float(ours["listing"]):,.0f} µs. In a list of all forms a word is read in {float(ours["read-word"]):.1f} ns, a line of
+columns in {float(ours["read-line"]):.1f} ns, and a record written as a word in {float(ours["write-word"]):.1f} ns.""")
 
 visit = float(ours["visit"])
 print(f"""

@@ -34,7 +34,7 @@ extern "C" {
 #endif
 
 /* The numbers. The first in order wins: one instruction 1 to 6; text and script 1, 5, 9; block, with its saturation bit or without, 8, 6, then record by record 2, 3, 4, 7; value 1, 5,
- * 11; words 12, 9; records as words 2, 3, 4, 7 record by record, then 9; join 1, 5, 6; canonical
+ * 11; words 12, 9; lines 10, 8; records as words 2, 3, 4, 7 record by record, then 9; join 1, 5, 6; canonical
  * 1, 5, 6; run 8, then record by record 2, 3, 4, 7. */
 enum neon_number {
     NEON_DONE = 0,
@@ -45,9 +45,9 @@ enum neon_number {
     NEON_SOURCE = 5,            /* a wanted node is not below the count or has another width; an unwanted one is not NEON_NO_NODE; no cut of a lane */
     NEON_NO_ROOM = 6,           /* fewer than 768 free places; block of k: fewer than 32 + 768 * k places, with its bit 33 + 2,048 * k */
     NEON_REGISTER = 7,          /* above 31, m above 15 for an element of 16 bits, or m not 0 with no second source */
-    NEON_LONG_BLOCK = 8,        /* more than 85 records, with a saturation bit more than 31 */
+    NEON_LONG_BLOCK = 8,        /* more than 85 records, with a saturation bit more than 31; more lines than the lent list holds */
     NEON_SHORT_BUFFER = 9,      /* the text or the script is longer than the buffer; a lent list is too short for the records or words */
-    NEON_LINE = 10,             /* of the line program alone */
+    NEON_LINE = 10,             /* a line is not in columns */
     NEON_VISITS = 11,           /* the term's value takes more visits than are allowed */
     NEON_WORD = 12              /* a word that encodes no legal form, a broken last word among them */
 };
@@ -84,6 +84,10 @@ enum neon_operation {
 /* Lanes and their bits: 8B is 8 lanes of 8 bits. */
 enum neon_arrangement { NEON_8B, NEON_16B, NEON_4H, NEON_8H, NEON_2S, NEON_4S, NEON_2D };
 
+/* The version that this header describes: major * 1,000,000 + minor * 1,000 + patch. An archive of the same major number and the same or a
+ * later minor number has all that stands here. */
+#define NEON_TERMS_VERSION 1000000
+
 #define NEON_NO_NODE 65535
 #define NEON_RESERVE 768       /* free places that one instruction needs */
 #define NEON_MOST_RECORDS 85
@@ -99,6 +103,9 @@ enum neon_arrangement { NEON_8B, NEON_16B, NEON_4H, NEON_8H, NEON_2S, NEON_4S, N
 /* Words of a pool that takes a block of k records, and one with its saturation bit. */
 #define NEON_BLOCK_WORDS(k) (4 * (32 + (size_t)NEON_RESERVE * (k)))
 #define NEON_SATURATION_WORDS(k) (4 * (33 + (size_t)NEON_SATURATION_RESERVE * (k)))
+
+/* The version of the archive, to be compared with NEON_TERMS_VERSION. */
+uint64_t neon_version(void);
 
 /* What a form is: 0 where an operation (1 to 67) has no such arrangement (0 to 6). Else bits 0 to 2 tell of the immediate
  * (1: i is 0; 2: 0 to n - 1; 3: 1 to n, n being the lane's bits; 4: the number of an element), and 0x08 of a second source,
@@ -150,6 +157,13 @@ uint64_t neon_text_length(const uint64_t *pool, size_t words, size_t count, size
  * number of records, *position 0. Refused: *count is 0, *position 0 but with NEON_WORD, and no entry changes. A few hundred bytes of
  * stack. */
 uint64_t neon_read_words(const uint8_t *bytes, size_t length, uint64_t *records, size_t entries, size_t *count, size_t *position);
+
+/* Reads a routine in columns into records: a record on each line, operation, arrangement, i, d, n and m, each a decimal number without leading zeros
+ * at the right of four characters. A newline ends a line; after the last it may be missing. Numbers: NEON_LINE with the position of the first line
+ * that is not in columns, counted from 0. Then NEON_LONG_BLOCK if `entries` is below six for each line. Done: the records are at the front of
+ * `records`, later entries stay, *count is the number of records, *position 0; whether the records are legal is not asked. Refused: *count is 0,
+ * *position 0 but with NEON_LINE, and no entry changes. A few hundred bytes of stack. */
+uint64_t neon_read_lines(const uint8_t *bytes, size_t length, uint64_t *records, size_t entries, size_t *count, size_t *position);
 
 /* Writes records as words. `numbers` counts words, six a record; words after the last whole record are not read. Numbers: 2, 3, 4 and 7
  * by record, with the position of the first bad one; then NEON_SHORT_BUFFER where `length` is below four bytes a record. Done: the words

@@ -23,6 +23,7 @@ mod run;
 
 mod blocks_part;
 mod canonical_part;
+mod columns_part;
 mod damage_part;
 mod evaluate;
 mod evaluate_part;
@@ -82,6 +83,7 @@ const PARTS: &[Part] = &[
     part("saturation", 10, 10, saturation_part::main),
     part("saturation-values", 1, 0, saturation_part::values),
     part("words", 1, 0, words_part::main),
+    part("columns", 10, 1_000, columns_part::main),
     part("join", 10, 10, join_part::main),
     part("canonical", 10, 10, canonical_part::main),
     part("scripts", 100, 0, script_part::main),
@@ -100,6 +102,7 @@ const STORED: &[(&str, u64, fn(u64) -> Sample)] = &[
     ("pools", 300, damage_part::stored),
     ("evaluate", 200, evaluate_part::stored),
     ("words", 300, words_part::stored),
+    ("columns", 150, columns_part::stored),
     ("join", 60, join_part::stored),
     ("canonical", 120, canonical_part::stored),
     ("scripts", 200, script_part::stored),

@@ -1,37 +1,6 @@
-//! The calls of the archive that `rt staticlib neon_terms` writes. A lent slice stands between guards.
+//! The calls of the archive that `rt staticlib neon_terms` writes, by the crate neon_terms-sys. A lent slice stands between guards.
 
-unsafe extern "C" {
-    fn neon_form_code(operation: u64, arrangement: u64) -> u64;
-    fn neon_pool_check(pool: *const u64, words: usize, count: usize) -> bool;
-    fn neon_lower_instruction(
-        pool: *mut u64, words: usize, count: usize, operation: u64, arrangement: u64, i: u64, d: usize, n: usize, m: usize,
-        node: *mut usize, after: *mut usize,
-    ) -> u64;
-    fn neon_lower_block(pool: *mut u64, words: usize, records: *const u64, numbers: usize, results: *mut u64) -> u64;
-    fn neon_lower_block_saturation(pool: *mut u64, words: usize, records: *const u64, numbers: usize, results: *mut u64) -> u64;
-    fn neon_write_text(pool: *const u64, words: usize, count: usize, node: usize, buffer: *mut u8, bytes: usize, length: *mut usize) -> u64;
-    fn neon_value(
-        pool: *const u64, words: usize, count: usize, node: usize, start: *const u64, allowance: u64, value: *mut u64, visits: *mut u64,
-    ) -> u64;
-    fn neon_text_length(pool: *const u64, words: usize, count: usize, node: usize, ceiling: u32, length: *mut u64) -> u64;
-    fn neon_registers_of(pool: *const u64, words: usize, count: usize, node: usize, set: *mut u64) -> u64;
-    fn neon_read_words(bytes: *const u8, length: usize, records: *mut u64, entries: usize, count: *mut usize, position: *mut usize) -> u64;
-    fn neon_write_words(records: *const u64, numbers: usize, bytes: *mut u8, length: usize, count: *mut usize, position: *mut usize) -> u64;
-    fn neon_join(
-        first: *const u64, first_words: usize, first_count: usize, a: usize, second: *const u64, second_words: usize, second_count: usize, b: usize,
-        joined: *mut u64, joined_words: usize, node: *mut usize, count: *mut usize,
-    ) -> u64;
-    fn neon_canonical(pool: *const u64, words: usize, count: usize, root: usize, out: *mut u64, out_words: usize, after: *mut usize) -> u64;
-    fn neon_run_block(registers: *mut u64, records: *const u64, numbers: usize, results: *mut u64) -> u64;
-    fn neon_write_script(
-        pool: *const u64, words: usize, count: usize, a: usize, b: usize, buffer: *mut u8, bytes: usize, length: *mut usize,
-    ) -> u64;
-    fn neon_script_length(pool: *const u64, words: usize, count: usize, a: usize, b: usize, length: *mut usize) -> u64;
-    fn neon_write_lane_script(
-        pool: *const u64, words: usize, count: usize, a: usize, b: usize, hi: u64, lo: u64, buffer: *mut u8, bytes: usize, length: *mut usize,
-    ) -> u64;
-    fn neon_lane_script_length(pool: *const u64, words: usize, count: usize, a: usize, b: usize, hi: u64, lo: u64, length: *mut usize) -> u64;
-}
+use neon_terms_sys as sys;
 
 const GUARDS: usize = 8;
 
@@ -85,11 +54,11 @@ pub fn bytes(size: usize) -> Lent<u8> {
 pub const OLD: u8 = 0xa5;
 
 pub fn form_code(operation: u64, arrangement: u64) -> u64 {
-    unsafe { neon_form_code(operation, arrangement) }
+    sys::neon_form_code(operation, arrangement)
 }
 
 pub fn pool_check(pool: &[u64], count: usize) -> bool {
-    unsafe { neon_pool_check(pool.as_ptr(), pool.len(), count) }
+    unsafe { sys::neon_pool_check(pool.as_ptr(), pool.len(), count) }
 }
 
 /// Number, node and count. `case` is operation, arrangement and i; `nodes` d, n and m.
@@ -98,7 +67,7 @@ pub fn lower_instruction(pool: &mut Words, count: usize, case: [u64; 3], nodes: 
     let [operation, arrangement, i] = case;
     let [d, n, m] = nodes;
     let (mut node, mut after) = (77, 77);
-    let number = unsafe { neon_lower_instruction(at, length, count, operation, arrangement, i, d, n, m, &mut node, &mut after) };
+    let number = unsafe { sys::neon_lower_instruction(at, length, count, operation, arrangement, i, d, n, m, &mut node, &mut after) };
     pool.look();
     (number, node, after)
 }
@@ -107,7 +76,7 @@ pub fn lower_block(pool: &mut Words, records: &[u64], results: &mut Words) -> u6
     let (at, length) = pool.lend();
     let (to, entries) = results.lend();
     assert!(entries >= 34, "the results are 34 words");
-    let number = unsafe { neon_lower_block(at, length, records.as_ptr(), records.len(), to) };
+    let number = unsafe { sys::neon_lower_block(at, length, records.as_ptr(), records.len(), to.cast()) };
     pool.look();
     results.look();
     number
@@ -118,7 +87,7 @@ pub fn lower_block_saturation(pool: &mut Words, records: &[u64], results: &mut W
     let (at, length) = pool.lend();
     let (to, entries) = results.lend();
     assert!(entries == 35, "the results are 35 words");
-    let number = unsafe { neon_lower_block_saturation(at, length, records.as_ptr(), records.len(), to) };
+    let number = unsafe { sys::neon_lower_block_saturation(at, length, records.as_ptr(), records.len(), to.cast()) };
     pool.look();
     results.look();
     number
@@ -127,21 +96,21 @@ pub fn lower_block_saturation(pool: &mut Words, records: &[u64], results: &mut W
 pub fn write_text(pool: &[u64], count: usize, node: usize, buffer: &mut Lent<u8>) -> (u64, usize) {
     let (at, size) = buffer.lend();
     let mut length = 77;
-    let number = unsafe { neon_write_text(pool.as_ptr(), pool.len(), count, node, at, size, &mut length) };
+    let number = unsafe { sys::neon_write_text(pool.as_ptr(), pool.len(), count, node, at, size, &mut length) };
     buffer.look();
     (number, length)
 }
 
 pub fn text_length(pool: &[u64], count: usize, node: usize, ceiling: u32) -> (u64, u64) {
     let mut length = 77;
-    let number = unsafe { neon_text_length(pool.as_ptr(), pool.len(), count, node, ceiling, &mut length) };
+    let number = unsafe { sys::neon_text_length(pool.as_ptr(), pool.len(), count, node, ceiling, &mut length) };
     (number, length)
 }
 
 /// Number and set.
 pub fn registers_of(pool: &[u64], count: usize, node: usize) -> (u64, u64) {
     let mut set = 77;
-    let number = unsafe { neon_registers_of(pool.as_ptr(), pool.len(), count, node, &mut set) };
+    let number = unsafe { sys::neon_registers_of(pool.as_ptr(), pool.len(), count, node, &mut set) };
     (number, set)
 }
 
@@ -155,7 +124,7 @@ pub fn value_to(found: &mut Words, pool: &[u64], count: usize, node: usize, star
     let mut visits = 77;
     let (to, entries) = found.lend();
     assert!(entries == 3 && start.len() == 64);
-    let number = unsafe { neon_value(pool.as_ptr(), pool.len(), count, node, start.as_ptr(), allowance, to, &mut visits) };
+    let number = unsafe { sys::neon_value(pool.as_ptr(), pool.len(), count, node, start.as_ptr().cast(), allowance, to.cast(), &mut visits) };
     found.look();
     (number, visits)
 }
@@ -171,7 +140,7 @@ pub fn value(pool: &[u64], count: usize, node: usize, start: &[u128; 32], allowa
 pub fn read_words(bytes: &[u8], records: &mut Words) -> (u64, usize, usize) {
     let (to, entries) = records.lend();
     let (mut count, mut position) = (77, 77);
-    let number = unsafe { neon_read_words(bytes.as_ptr(), bytes.len(), to, entries, &mut count, &mut position) };
+    let number = unsafe { sys::neon_read_words(bytes.as_ptr(), bytes.len(), to, entries, &mut count, &mut position) };
     records.look();
     (number, count, position)
 }
@@ -180,8 +149,17 @@ pub fn read_words(bytes: &[u8], records: &mut Words) -> (u64, usize, usize) {
 pub fn write_words(records: &[u64], bytes: &mut Lent<u8>) -> (u64, usize, usize) {
     let (to, length) = bytes.lend();
     let (mut count, mut position) = (77, 77);
-    let number = unsafe { neon_write_words(records.as_ptr(), records.len(), to, length, &mut count, &mut position) };
+    let number = unsafe { sys::neon_write_words(records.as_ptr(), records.len(), to, length, &mut count, &mut position) };
     bytes.look();
+    (number, count, position)
+}
+
+/// Number, count and position.
+pub fn read_lines(bytes: &[u8], records: &mut Words) -> (u64, usize, usize) {
+    let (to, entries) = records.lend();
+    let (mut count, mut position) = (77, 77);
+    let number = unsafe { sys::neon_read_lines(bytes.as_ptr(), bytes.len(), to, entries, &mut count, &mut position) };
+    records.look();
     (number, count, position)
 }
 
@@ -193,7 +171,7 @@ pub fn join((first, c, a): Chosen, (second, d, b): Chosen, joined: &mut Words) -
     let (at, length) = joined.lend();
     let (mut node, mut count) = (77, 77);
     let number = unsafe {
-        neon_join(first.as_ptr(), first.len(), c, a, second.as_ptr(), second.len(), d, b, at, length, &mut node, &mut count)
+        sys::neon_join(first.as_ptr(), first.len(), c, a, second.as_ptr(), second.len(), d, b, at, length, &mut node, &mut count)
     };
     joined.look();
     (number, node, count)
@@ -203,7 +181,7 @@ pub fn join((first, c, a): Chosen, (second, d, b): Chosen, joined: &mut Words) -
 pub fn canonical((pool, count, root): Chosen, out: &mut Words) -> (u64, usize) {
     let (at, length) = out.lend();
     let mut after = 77;
-    let number = unsafe { neon_canonical(pool.as_ptr(), pool.len(), count, root, at, length, &mut after) };
+    let number = unsafe { sys::neon_canonical(pool.as_ptr(), pool.len(), count, root, at, length, &mut after) };
     out.look();
     (number, after)
 }
@@ -212,7 +190,7 @@ pub fn canonical((pool, count, root): Chosen, out: &mut Words) -> (u64, usize) {
 pub fn run_in_place(registers: &mut Words, records: &[u64], results: &mut Words) -> u64 {
     let ((at, many), (to, entries)) = (registers.lend(), results.lend());
     assert!(many == 64 && entries == 2);
-    let number = unsafe { neon_run_block(at, records.as_ptr(), records.len(), to) };
+    let number = unsafe { sys::neon_run_block(at.cast(), records.as_ptr(), records.len(), to.cast()) };
     registers.look();
     results.look();
     number
@@ -239,8 +217,8 @@ pub fn write_script(pool: &[u64], count: usize, [a, b]: [usize; 2], lane: Option
     let (at, size) = buffer.lend();
     let mut length = 77;
     let number = match lane {
-        None => unsafe { neon_write_script(pool.as_ptr(), pool.len(), count, a, b, at, size, &mut length) },
-        Some([hi, lo]) => unsafe { neon_write_lane_script(pool.as_ptr(), pool.len(), count, a, b, hi, lo, at, size, &mut length) },
+        None => unsafe { sys::neon_write_script(pool.as_ptr(), pool.len(), count, a, b, at, size, &mut length) },
+        Some([hi, lo]) => unsafe { sys::neon_write_lane_script(pool.as_ptr(), pool.len(), count, a, b, hi, lo, at, size, &mut length) },
     };
     buffer.look();
     (number, length)
@@ -249,8 +227,8 @@ pub fn write_script(pool: &[u64], count: usize, [a, b]: [usize; 2], lane: Option
 pub fn script_length(pool: &[u64], count: usize, [a, b]: [usize; 2], lane: Option<[u64; 2]>) -> (u64, usize) {
     let mut length = 77;
     let number = match lane {
-        None => unsafe { neon_script_length(pool.as_ptr(), pool.len(), count, a, b, &mut length) },
-        Some([hi, lo]) => unsafe { neon_lane_script_length(pool.as_ptr(), pool.len(), count, a, b, hi, lo, &mut length) },
+        None => unsafe { sys::neon_script_length(pool.as_ptr(), pool.len(), count, a, b, &mut length) },
+        Some([hi, lo]) => unsafe { sys::neon_lane_script_length(pool.as_ptr(), pool.len(), count, a, b, hi, lo, &mut length) },
     };
     (number, length)
 }

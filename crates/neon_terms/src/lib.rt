@@ -1,10 +1,12 @@
 // The public operations for C and Rust to link, by `rt staticlib neon_terms`; include/neon_terms.h declares them. A slice is a
 // pointer and a length. No call requires anything of its numbers: what it cannot do it refuses by number.
+mod lines;
 mod pools;
 mod run;
 mod saturated;
 mod solvers;
 mod value;
+mod version;
 mod words;
 
 use block_results::answer_words;
