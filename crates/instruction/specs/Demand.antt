@@ -8,7 +8,7 @@ use Rattle.terms.specs.Value.{value}
 use Rattle.neon.specs.Op.{opAt, arrangementAt, laneBits, full, view}
 use Rattle.neon.specs.Form.{form, isNarrow, laneCount}
 use Rattle.neon.specs.Arm.{lane, placeLane, armAt, armResult}
-use Rattle.trees.specs.Neon.{resultTree}
+use Rattle.trees.specs.Trees.{resultTree}
 use Rattle.pool.specs.Unfold.{unfoldAt}
 use Rattle.instruction.specs.declared.Lowering.{Lowering}
 use Rattle.instruction.specs.Lowering.{Answers}

@@ -8,7 +8,7 @@ use trees::BitwiseUnary;
 ghost use mathlib.Core.List.{[]};
 ghost use Prim.Native.Nat.{_+_, _*_, _≤_, _<_};
 ghost use Rattle.pool.specs.Growth.{Room};
-ghost use Rattle.trees.specs.Arith.{bitwiseAt, bitwiseUnaryLanes};
+ghost use Rattle.trees.specs.Trees.{bitwiseAt, bitwiseUnaryLanes};
 ghost use Rattle.lower.specs.Builds.{Lowers, read, unread};
 
 // Lane `index` of the answer.
