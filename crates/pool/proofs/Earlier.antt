@@ -26,7 +26,8 @@ earlier-fails ws count old n l e = go (poolOk ws count) refl
         let v = and-both (leb count (places ws)) (okPool ws count) p .1 in
         let k = cellAt ws n in
         let rule : setAt ws n ≡ 2 ^ k .x =
-        valid-set ws count n v l ∙ ap (λ (κ : Kind). setOver κ (k .x) (setBefore ws n (k .a)) (setBefore ws n (k .b)) (setBefore ws n (k .c))) (is-var (kindNumber ws n) e) in
+        valid-set ws count n v l
+        ∙ ap (λ (κ : Kind). setOver κ (k .x) (setBefore ws n (k .a)) (setBefore ws n (k .b)) (setBefore ws n (k .c))) (is-var (kindNumber ws n) e) in
         let none : setAt ws n ≡ 0 = div-eq-of-lt (old n l) in
         absurd (omega (arith, rule, none, pow-pos (k .x)))
     go false p = p

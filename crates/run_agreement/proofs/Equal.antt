@@ -9,7 +9,7 @@ use lib.ListN.{length}
 use borrow.Author.Tests.{le-leb, leb-true}
 use Rattle.terms.specs.Value.{bit}
 use Rattle.neon.specs.declared.Instruction.{Instruction}
-use Rattle.neon.specs.Refusal.{Refusal, reserve, mostRecords, sizeNumber, blockRefusal}
+use Rattle.neon.specs.Refusal.{Refusal, reserve, mostRecords, countNumber, sizeNumber, blockRefusal}
 use Rattle.pool.specs.Node.{places}
 use Rattle.block_check.proofs.Refusals.{block-legal, legal-by, by-records}
 use Rattle.wide.specs.Registers.{registersOf}
@@ -65,5 +65,5 @@ runner-is-flagged old cs pool a h z start number position new saturated p q =
 
 pub runner-is-bit : RunnerIsBit
 runner-is-bit start cs number position new saturated p q z =
-    let legal = legal-by _ cs (sym (p .number-is) ∙ z) .1 in
+    let legal = legal-by (countNumber (length cs) 0) cs (sym (p .number-is) ∙ z) .1 in
     ap bit (q .ran z) ∙ sym (block-bit-is (registersOf start) cs legal .val)

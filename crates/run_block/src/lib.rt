@@ -8,6 +8,7 @@ use family::second_by;
 use family::skip_by;
 use family::source_by;
 use neon::Instruction;
+use neon::Lane;
 ghost use mathlib.Core.Path.{_≡_};
 ghost use Prim.Native.Nat.{_<_};
 ghost use Rattle.neon.specs.Op.{opAt, arrangementAt};
@@ -91,7 +92,7 @@ fn result_of(operation: u64, arrangement: u64, i: u64, d: Register, a: Register,
         k,
         skip_by(y, k),
         y.element,
-        i,
+        Lane(i),
         old,
         first,
         second,

@@ -11,14 +11,15 @@ use Rattle.neon.specs.Op.{Op, opAt, Arrangement, arrangementAt, laneBits, full}
 use Rattle.neon.specs.Form.{form, laneCount, firstFull, secondFull, byElement}
 use Rattle.neon.proofs.Geometry.{sized}
 use Rattle.trees.specs.declared.NeonOp.{NeonOp}
-use Rattle.trees.specs.declared.NeonOp.the-variants.{Shift, ShiftInsert, MixedSignAdd, DoublingLong, Saturating, BitwiseUnary, AbsoluteDifference, HighNarrow}
+use Rattle.trees.specs.declared.NeonOp.the-variants.{Shift, ShiftInsert, MixedSignAdd, DoublingLong, Saturating, BitwiseUnary}
+use Rattle.trees.specs.declared.NeonOp.the-variants.{AbsoluteDifference, HighNarrow}
 use Rattle.trees.specs.Simd.{Cutter, concatLanes}
 use Rattle.trees.specs.Lower.{extend}
-use Rattle.trees.specs.Arith.{BinOp, Add, Sub, Mul, And, Or, Xor, Shl, CmpOp, Eq, Ult, Slt, SaturateTo, Signed, Unsigned, SignedToUnsigned, Saturate, Never, Into}
-use Rattle.trees.specs.Arith.{ShiftKind, LeftImmediate, RightImmediate, Register, SaturatingKind, AddSub, Halving, Narrow, ShiftNarrow, DoublingMultiplyHigh, Unary}
-use Rattle.trees.specs.Arith.{PopulationCount, LeadingZeros, LeadingSignBits, ReverseBits, Combine, Nothing, With, clamped, plusIf, negated, joined, twice}
-use Rattle.trees.specs.Arith.{exactLane, exactBits, kindTo, roundingBits, shiftBound, saturatingShiftLeft, registerShiftMax, leftBy, absoluteDifferenceLane}
-use Rattle.trees.specs.Arith.{accumulated, narrowing, kindBits}
+use Rattle.trees.specs.Arith.{BinOp, Add, Sub, Mul, And, Or, Xor, Shl, CmpOp, Eq, Ult, Slt, SaturateTo, Signed, Unsigned, SignedToUnsigned}
+use Rattle.trees.specs.Arith.{Saturate, Never, Into, ShiftKind, LeftImmediate, RightImmediate, Register, SaturatingKind, AddSub, Halving, Narrow}
+use Rattle.trees.specs.Arith.{ShiftNarrow, DoublingMultiplyHigh, Unary, PopulationCount, LeadingZeros, LeadingSignBits, ReverseBits, Combine, Nothing}
+use Rattle.trees.specs.Arith.{With, clamped, plusIf, negated, joined, twice, exactLane, exactBits, kindTo, roundingBits, shiftBound, saturatingShiftLeft}
+use Rattle.trees.specs.Arith.{registerShiftMax, leftBy, absoluteDifferenceLane, accumulated, narrowing, kindBits}
 use Rattle.trees.specs.Neon.{neonOp}
 use Rattle.trees.specs.Block.{widenTree}
 use Rattle.trees.specs.Simd as Simd
@@ -99,7 +100,8 @@ module _ {R : Expr → Expr → Type 0} {c c′ : Cutter} (k : Alike R c c′) w
   like-saturating kind n s p q = like-narrowed (exactBits kind n) n (kindTo kind) (like-exact kind n s p q)
 
   -- ---- shifts
-  like-right : {a a′ b b′ : Expr} (n : ℕ) (s t : Bool) (most : ℕ) → R a a′ → R b b′ → R (Arith.shiftRight c a b n s t most) (Arith.shiftRight c′ a′ b′ n s t most)
+  like-right : {a a′ b b′ : Expr} (n : ℕ) (s t : Bool) (most : ℕ) → R a a′ → R b b′
+      → R (Arith.shiftRight c a b n s t most) (Arith.shiftRight c′ a′ b′ n s t most)
   unfolding Arith.shiftRight
   like-right n s false most p q = bv _ p q
   like-right n s true most p q =
@@ -132,13 +134,15 @@ module _ {R : Expr → Expr → Type 0} {c c′ : Cutter} (k : Alike R c c′) w
       go true = sext n (bits 7 0 (omega arith) p)
       go false = p
 
-  like-shifted : {a a′ b b′ : Expr} (kind : ShiftKind) (s : Bool) (n : ℕ) → R a a′ → R b b′ → R (Arith.shiftedBy c kind s a b n) (Arith.shiftedBy c′ kind s a′ b′ n)
+  like-shifted : {a a′ b b′ : Expr} (kind : ShiftKind) (s : Bool) (n : ℕ) → R a a′ → R b b′
+      → R (Arith.shiftedBy c kind s a b n) (Arith.shiftedBy c′ kind s a′ b′ n)
   like-shifted (LeftImmediate i to) s n p q = like-left-immediate to i n s p
   like-shifted (RightImmediate i t) s n p q = like-right n s t i p (const i n)
   like-shifted (Register t to) s n p q =
       ite (compare Slt q (const 0 n)) (like-right n s t registerShiftMax p (bv Sub (const 0 n) q)) (like-left to n s p q)
 
-  like-shift : {a a′ b b′ : Expr} (kind : ShiftKind) (s : Bool) (n : ℕ) → R a a′ → R b b′ → R (Arith.shiftLane c kind s a b n) (Arith.shiftLane c′ kind s a′ b′ n)
+  like-shift : {a a′ b b′ : Expr} (kind : ShiftKind) (s : Bool) (n : ℕ) → R a a′ → R b b′
+      → R (Arith.shiftLane c kind s a b n) (Arith.shiftLane c′ kind s a′ b′ n)
   unfolding Arith.shiftLane
   like-shift kind s n p q = like-shifted kind s n p (like-amount n q)
 
@@ -153,7 +157,8 @@ module _ {R : Expr → Expr → Type 0} {c c′ : Cutter} (k : Alike R c c′) w
   like-count n zero p = const 0 n
   like-count n (suc j) p = bv Add (like-count n j p) (zext n (bits j j (omega arith) p))
 
-  like-bitwise : {a a′ : Expr} (kind : Arith.BitwiseUnary) (n : ℕ) → 2 ≤ n → R a a′ → R (Arith.bitwiseUnaryLane c kind a n) (Arith.bitwiseUnaryLane c′ kind a′ n)
+  like-bitwise : {a a′ : Expr} (kind : Arith.BitwiseUnary) (n : ℕ) → 2 ≤ n → R a a′
+      → R (Arith.bitwiseUnaryLane c kind a n) (Arith.bitwiseUnaryLane c′ kind a′ n)
   unfolding Arith.bitwiseUnaryLane
   like-bitwise PopulationCount n h p = like-count n n p
   like-bitwise LeadingZeros n h p = like-leading n n p
@@ -246,7 +251,8 @@ module _ {R : Expr → Expr → Type 0} {c c′ : Cutter} (k : Alike R c c′) w
       let v = arrangementAt (e .arrangement) in
       let l = form o .lanes in
       like-widen (full v)
-      (like-result o v (e .i) (like-read (full v) (p (e .d))) (like-read (firstFull l (full v)) (p (e .n))) (like-read (secondFull l (byElement o) (full v)) (p (e .m))))
+      (like-result o v (e .i) (like-read (full v) (p (e .d))) (like-read (firstFull l (full v)) (p (e .n)))
+      (like-read (secondFull l (byElement o) (full v)) (p (e .m))))
 
   -- the terms of the registers after a list of records
   pub like-run : (es : List Instruction) {t t′ : ℕ → Expr} → ((r : ℕ) → R (t r) (t′ r)) → (r : ℕ) → R (Block.treeRun c es t r) (Block.treeRun c′ es t′ r)

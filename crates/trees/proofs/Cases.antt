@@ -14,9 +14,9 @@ use Rattle.trees.specs.Cases.{gives, SetP, NoFault}
 
 all-cases : SetP × NoFault
 unfolding gives armLane wrap S clampZ cS cU ones equalRun lanes value width msb bvneg bvnot bvadd bvsub bvmul bvshl bvlshr bvashr bvslt bvsext concatLanes
-    saturatingShiftLeft shiftInsertLane Simd.extractLane Arith.clamp Arith.saturatingLane Arith.shiftRight Arith.shiftLane Arith.leadingZeros Arith.bitwiseUnaryLane
-    Arith.mixedSignAddLane Arith.doublingProduct Arith.doublingLongLane Arith.shiftLanes Arith.shiftInsertLanes Arith.mixedSignAddLanes Arith.doublingLongLanes
-    Arith.saturatingLanes Arith.bitwiseUnaryLanes Width.highNarrowLane Width.highNarrowLanes
+    saturatingShiftLeft shiftInsertLane Simd.extractLane Arith.clamp Arith.saturatingLane Arith.shiftRight Arith.shiftLane Arith.leadingZeros
+    Arith.bitwiseUnaryLane Arith.mixedSignAddLane Arith.doublingProduct Arith.doublingLongLane Arith.shiftLanes Arith.shiftInsertLanes
+    Arith.mixedSignAddLanes Arith.doublingLongLanes Arith.saturatingLanes Arith.bitwiseUnaryLanes Width.highNarrowLane Width.highNarrowLanes
 all-cases = (refl, refl)
 
 pub set-P : SetP

@@ -10,8 +10,9 @@ use Rattle.trees.specs.Neon as Neon
 use Rattle.trees.specs.Joined.{allJoined, formJoined, all, NestedJoined}
 
 pub nested-joined : NestedJoined
-unfolding all formJoined allJoined opAt operations arrangementAt arrangements concatLanes saturatingShiftLeft absoluteDifferenceLane shiftInsertLane Simd.extractLane
-    Arith.clamp Arith.saturatingLane Arith.shiftRight Arith.shiftLane Arith.leadingZeros Arith.populationCount Arith.bitwiseUnaryLane Arith.mixedSignAddLane
-    Arith.doublingProduct Arith.doublingLongLane Arith.shiftLanes Arith.shiftInsertLanes Arith.mixedSignAddLanes Arith.doublingLongLanes Arith.saturatingLanes
-    Arith.bitwiseUnaryLanes Arith.absoluteDifferenceLanes Width.highNarrowLane Width.highNarrowLanes Neon.resultTree
+unfolding all formJoined allJoined opAt operations arrangementAt arrangements concatLanes saturatingShiftLeft absoluteDifferenceLane shiftInsertLane
+    Simd.extractLane Arith.clamp Arith.saturatingLane Arith.shiftRight Arith.shiftLane Arith.leadingZeros Arith.populationCount Arith.bitwiseUnaryLane
+    Arith.mixedSignAddLane Arith.doublingProduct Arith.doublingLongLane Arith.shiftLanes Arith.shiftInsertLanes Arith.mixedSignAddLanes
+    Arith.doublingLongLanes Arith.saturatingLanes Arith.bitwiseUnaryLanes Arith.absoluteDifferenceLanes Width.highNarrowLane Width.highNarrowLanes
+    Neon.resultTree
 nested-joined = refl

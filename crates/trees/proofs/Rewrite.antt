@@ -25,7 +25,8 @@ unfolding joinCuts
 joins-once (Extract x top low) hi lo = go (eqb low 0 && leb hi top) refl
   where
     go : (t : Bool) → (eqb low 0 && leb hi top) ≡ t
-        → unfold joinCuts in (joinCuts (cond t (Extract x hi lo) (Extract (Extract x top low) hi lo)) ≡ extractCollapsing (extractCollapsing (joinCuts x) top low) hi lo)
+        → unfold joinCuts in (joinCuts (cond t (Extract x hi lo) (Extract (Extract x top low) hi lo))
+        ≡ extractCollapsing (extractCollapsing (joinCuts x) top low) hi lo)
     go true e =
         let both = and-both (eqb low 0) (leb hi top) e in
         let zero-low : low ≡ 0 = eqb-true low 0 (both .0) in
@@ -92,5 +93,6 @@ pub rust-run-rewritten : RustRunRewritten
 rust-run-rewritten cs r = like-run rust-joins cs var-joins r
 
 -- the tree of this port, joined again
-pub result-joins : (o : Op) (v : Arrangement) (i : ℕ) (d a b : Expr) → joinCuts (resultTree o v i d a b) ≡ resultTree o v i (joinCuts d) (joinCuts a) (joinCuts b)
+pub result-joins : (o : Op) (v : Arrangement) (i : ℕ) (d a b : Expr)
+    → joinCuts (resultTree o v i d a b) ≡ resultTree o v i (joinCuts d) (joinCuts a) (joinCuts b)
 result-joins o v i d a b = like-result (joins joining joins-all joins-all) o v i refl refl refl

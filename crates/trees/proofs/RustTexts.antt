@@ -11,7 +11,7 @@ use Rattle.trees.specs.Block as Block
 use Rattle.trees.specs.RustTexts.{wholeIs, laneIs, RustTexts}
 
 pub rust-texts : RustTexts
-unfolding wholeIs laneIs display decimal hexadecimal digitsTo opAt operations arrangementAt arrangements concatLanes Simd.extractLane Arith.shiftRight Arith.shiftLane
-    Arith.shiftLanes Arith.leadingZeros Arith.populationCount Arith.bitwiseUnaryLane Arith.bitwiseUnaryLanes Width.highNarrowLane Width.highNarrowLanes Neon.resultTree
-    Block.recordTree Block.treeStep Block.treeRun
+unfolding wholeIs laneIs display decimal hexadecimal digitsTo opAt operations arrangementAt arrangements concatLanes Simd.extractLane Arith.shiftRight
+    Arith.shiftLane Arith.shiftLanes Arith.leadingZeros Arith.populationCount Arith.bitwiseUnaryLane Arith.bitwiseUnaryLanes Width.highNarrowLane
+    Width.highNarrowLanes Neon.resultTree Block.recordTree Block.treeStep Block.treeRun
 rust-texts = refl

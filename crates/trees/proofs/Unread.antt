@@ -14,7 +14,8 @@ true≢false : true ≡ false → ⊥
 true≢false e = false≢true (sym e)
 
 pub unread-second : (o : Op) (v : Arrangement) (i : ℕ) (d a b b′ : Expr) → hasSecond o ≡ false → resultTree o v i d a b ≡ resultTree o v i d a b′
-unfolding Neon.resultTree Arith.shiftLanes Arith.shiftLane Arith.shiftInsertLanes Arith.mixedSignAddLanes Arith.saturatingLanes Arith.saturatingLane Arith.bitwiseUnaryLanes
+unfolding Neon.resultTree Arith.shiftLanes Arith.shiftLane Arith.shiftInsertLanes Arith.mixedSignAddLanes Arith.saturatingLanes
+    Arith.saturatingLane Arith.bitwiseUnaryLanes
 unread-second Op.SHL v i d a b b′ h = refl
 unread-second Op.SQSHLI v i d a b b′ h = refl
 unread-second Op.UQSHLI v i d a b b′ h = refl

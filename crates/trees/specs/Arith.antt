@@ -286,7 +286,8 @@ bitwiseUnaryLanes cut kind first n k = concatLanes (k - 1) (bitwiseAt cut kind n
 
 -- `absolute_difference_lanes`
 abbrev pub differenceAt : Cutter → (signed accumulate : Bool) (n : ℕ) (d a b : Expr) → ℕ → Expr
-differenceAt cut signed accumulate n d a b j = accumulated accumulate (extractLane cut d n j) (absoluteDifferenceLane signed (extractLane cut a n j) (extractLane cut b n j))
+differenceAt cut signed accumulate n d a b j =
+    accumulated accumulate (extractLane cut d n j) (absoluteDifferenceLane signed (extractLane cut a n j) (extractLane cut b n j))
 
 unfoldable pub absoluteDifferenceLanes : Cutter → (signed accumulate : Bool) (first second d : Expr) (n k : ℕ) → Expr
 absoluteDifferenceLanes cut signed accumulate first second d n k = concatLanes (k - 1) (differenceAt cut signed accumulate n d first second)

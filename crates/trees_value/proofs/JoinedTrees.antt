@@ -13,8 +13,8 @@ use Rattle.terms.specs.Expr.{Expr, Var, Const, Extract, Concat, Bv, Compare, It
 use Rattle.terms.specs.Rules.{Good}
 use Rattle.neon.specs.declared.Instruction.{Instruction}
 use Rattle.neon.specs.Op.{Op, opAt, Arrangement, arrangementAt, laneBits, full, bitsIf, view}
-use Rattle.neon.specs.Form.{Lanes, Same, Narrow, Long, form, least, most, byElement, sourceBits, laneCount, firstLane, secondLane, firstFull, secondFull, firstBits, secondBits}
-use Rattle.neon.specs.Form.{hasSecond, readsD}
+use Rattle.neon.specs.Form.{Lanes, Same, Narrow, Long, form, hasSecond, readsD, least, most, byElement, sourceBits, laneCount, firstLane, secondLane}
+use Rattle.neon.specs.Form.{firstFull, secondFull, firstBits, secondBits}
 use Rattle.neon.specs.Refusal.{Legal, AllLegal}
 use Rattle.neon.proofs.Geometry.{sized, source-some, filled, made-view, inside, first-in, second-in}
 use Rattle.neon.proofs.Legal.{accepted, m-le}
@@ -76,7 +76,8 @@ module _ (o : Op) (v : Arrangement) (i : ℕ) (d a b : Expr) (l : least o ≤ i)
       let g : j < laneCount o v = omega (arith, filled (form o .lanes) v .some) in
       let in-d : laneBits v * j + laneBits v ≤ view v = le-trans (inside v j (form o .lanes) g) (made-view (form o .lanes) (full v)) in
       three (laneTree (neonOp o i (full v)) (laneBits v)) (lane-same d (view v) (laneBits v) j sd some-n in-d)
-      (lane-same a (firstBits o v) (sourceBits (form o .lanes) (laneBits v)) (firstLane (form o .lanes) (laneCount o v) j) sa some-m (first-in v j (form o .lanes) g))
+      (lane-same a (firstBits o v) (sourceBits (form o .lanes) (laneBits v)) (firstLane (form o .lanes) (laneCount o v) j) sa some-m
+      (first-in v j (form o .lanes) g))
       (lane-same b (secondBits o v) (sourceBits (form o .lanes) (laneBits v)) (secondLane (form o .lanes) (byElement o) (laneCount o v) i j) sb some-m
       (second-in v j (form o .lanes) (form o .immediate) i h g))
 

@@ -17,7 +17,8 @@ use Rattle.trees_value.proofs.Whole.{result-is}
 use Rattle.trees_value.proofs.Block.{block-is}
 
 -- a cut of a cut from bit 0, as the cut of what that is cut from
-once-value : (v top low hi lo : ℕ) → low ≡ 0 → lo ≤ hi → hi ≤ top → v / 2 ^ lo % 2 ^ suc (hi - lo) ≡ v / 2 ^ low % 2 ^ suc (top - low) / 2 ^ lo % 2 ^ suc (hi - lo)
+once-value : (v top low hi lo : ℕ) → low ≡ 0 → lo ≤ hi → hi ≤ top
+    → v / 2 ^ lo % 2 ^ suc (hi - lo) ≡ v / 2 ^ low % 2 ^ suc (top - low) / 2 ^ lo % 2 ^ suc (hi - lo)
 once-value v top low hi lo z h l =
     ap₂ (λ (a s : ℕ). v / 2 ^ a % 2 ^ s) {x = lo} {y = lo + low} (omega arith) (omega arith) ∙ joined-cut v top low hi lo h (omega arith)
 
@@ -47,7 +48,10 @@ module _ (start : ℕ → ℕ) where
       go : (t : Bool) → (eqb low 0 && leb hi top) ≡ t → CutOf (Extract x top low) hi lo (cond t (Extract x hi lo) (Extract (Extract x top low) hi lo))
       go true e =
           let both = and-both (eqb low 0) (leb hi top) e in
-          record { wide = unfold width in refl; val = unfold value in once-value (value start x) top low hi lo (eqb-true low 0 (both .0)) h (leb-true hi top (both .1)) }
+          record {
+            wide = unfold width in refl;
+            val = unfold value in once-value (value start x) top low hi lo (eqb-true low 0 (both .0)) h (leb-true hi top (both .1));
+          }
       go false e = plain-cut (Extract x top low) hi lo
   once-cut (Var r) hi lo h = plain-cut (Var r) hi lo
   once-cut (Const v w) hi lo h = plain-cut (Const v w) hi lo

@@ -46,7 +46,8 @@ keeps v false new d = refl
 
 pub as-lanes : (o : Op) (v : Arrangement) (i : ℕ) (d a b : Expr)
     → resultTree o v i d a b ≡ placeTree (form o .lanes) (full v) (concatLanes (laneCount o v - 1) (treeAt o v i d a b)) d
-unfolding Neon.resultTree Arith.shiftLanes shiftInsertLane Arith.shiftInsertLanes Arith.mixedSignAddLanes Arith.doublingLongLanes Arith.saturatingLanes Arith.bitwiseUnaryLanes Arith.absoluteDifferenceLanes Width.highNarrowLanes
+unfolding Neon.resultTree Arith.shiftLanes shiftInsertLane Arith.shiftInsertLanes Arith.mixedSignAddLanes Arith.doublingLongLanes
+    Arith.saturatingLanes Arith.bitwiseUnaryLanes Arith.absoluteDifferenceLanes Width.highNarrowLanes
 as-lanes Op.SHL v i d a b = refl
 as-lanes Op.SQSHLI v i d a b = refl
 as-lanes Op.UQSHLI v i d a b = refl
