@@ -1,5 +1,5 @@
 -- The order of a walk, on an example: of ite(v1 == v0, (v1 + v0), v2[63:0] to 128 bits) the left operand of each term comes before the right one.
-use mathlib.Core.List.{List, [], _∷_}
+use mathlib.Core.List.{[], _∷_}
 use mathlib.Core.Path.{_≡_}
 use Rattle.terms.specs.declared.BinOp.the-variants.{Add}
 use Rattle.terms.specs.declared.CmpOp.the-variants.{Eq}

@@ -1,12 +1,10 @@
 -- A pool from before the sets of registers, with a Var, fails the check: the set of a Var is not empty. Assumes nothing.
 use mathlib.Core.Bool.{Bool, true, false}
-use mathlib.Core.List.{List}
-use mathlib.Core.Path.{_≡_, refl, sym, ap, _∙_}
-use Prim.Native.Nat.{ℕ, _*_, _/_, _^_, _<_}
+use mathlib.Core.Path.{_≡_, refl, ap, _∙_}
+use Prim.Native.Nat.{ℕ, _^_}
 use native.Mathlib.Nat.{div-eq-of-lt}
 use native.Mathlib.Omega.{arith}
 use lib.Dec.{leb}
-use lib.ListN.{getD}
 use lib.Pow.{pow-pos}
 use Rattle.facts.proofs.Tests.{and-both}
 use Rattle.pool.specs.Node.{Kind, var, kinds, kindAt, cellAt, kindNumber, setAt, places}

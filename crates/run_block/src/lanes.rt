@@ -50,7 +50,8 @@ pub fn run_lanes(
     b: Register,
 ) -> Ran
     requires { ⌜ (0 < n) × (0 < m) × (m ≡ sourceOf op n) × RowIn op n × Within n m k skip element (index .0) ⌝ }
-    ensures { λ r. ⌜ RanLanes n k (laneBy op n m skip element (index .0) (number d) (number a) (number b)) (beyondBy op n m skip element (index .0) (number d) (number a) (number b)) r ⌝ }
+    ensures { λ r. ⌜ RanLanes n k (laneBy op n m skip element (index .0) (number d) (number a) (number b))
+        (beyondBy op n m skip element (index .0) (number d) (number a) (number b)) r ⌝ }
 {
     let mut acc = Wide {
         low: 0,

@@ -6,7 +6,7 @@ use Prim.Native.Nat.{ℕ, _+_, _-_, _≤_, _<_}
 use native.Mathlib.Omega.{arith}
 use lib.Dec.{ltb}
 use borrow.Author.Tests.{lt-ltb, eq-eqb, ltb-true, ltb-false}
-use Rattle.terms.specs.Expr.{Expr, Var, width}
+use Rattle.terms.specs.Expr.{Var, width}
 use Rattle.neon.specs.declared.Instruction.{Instruction}
 use Rattle.pool.specs.Node.{widthAt}
 use Rattle.pool.specs.Rules.{Valid, ofWidth}

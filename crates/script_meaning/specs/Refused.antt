@@ -1,5 +1,5 @@
 -- Scripts that SMT-LIB 2.6 refuses, and so does the reader: each has one fault. Beside them scripts with none, which it reads. All are computed.
-use mathlib.Core.Bool.{Bool, true, false, _&&_, not}
+use mathlib.Core.Bool.{Bool, true, _&&_, not}
 use mathlib.Core.List.{List, [], _∷_, _++_}
 use mathlib.Core.Path.{_≡_}
 use Prim.Native.Nat.{ℕ}

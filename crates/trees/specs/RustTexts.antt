@@ -14,12 +14,13 @@ use Rattle.trees.specs.Neon.{neonOp}
 use Rattle.trees.specs.Neon as Neon
 use Rattle.trees.specs.Rust.{rustRun}
 
--- register d after the record of an operation and an arrangement, with i 0, d 0, n 1 and m 2
-abbrev pub firstRecord : (operation arrangement m : ℕ) → Instruction
-firstRecord operation arrangement m = record { operation = operation; arrangement = arrangement; i = 0; d = 0; n = 1; m = m }
+-- the record of an operation and an arrangement with i 0, d 0 and n 1
+abbrev pub oneRecord : (operation arrangement m : ℕ) → Instruction
+oneRecord operation arrangement m = record { operation = operation; arrangement = arrangement; i = 0; d = 0; n = 1; m = m }
 
+-- v0 after that record
 unfoldable pub wholeIs : (operation arrangement m : ℕ) → List ℕ → Bool
-wholeIs operation arrangement m text = same (display (rustRun (firstRecord operation arrangement m ∷ []) Var 0)) text
+wholeIs operation arrangement m text = same (display (rustRun (oneRecord operation arrangement m ∷ []) Var 0)) text
 
 -- lane 0, of 8 bits, of an operation on v1
 unfoldable pub laneIs : Op → List ℕ → Bool

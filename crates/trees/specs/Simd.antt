@@ -5,7 +5,8 @@ use Prim.Native.Nat.{ℕ, zero, suc, _+_, _-_, _*_}
 use lib.Dec.{leb, eqb}
 use Rattle.terms.specs.Expr.{Expr, Var, Const, Bv, Compare, Ite, Extract, Concat, ZeroExtend, SignExtend}
 
--- how a lane is cut out of a vector, and how bits are cut out of a lane, a result or a low half out of a register; bits hi to lo
+-- how a lane is cut out of a vector (`lane`), and how other bits are cut (`bits`): of a lane, of a wider result, of a register's low half. A cut has
+-- the bits hi to lo.
 pub record Cutter : Type 0 where
   pub lane : Expr → (hi lo : ℕ) → Expr
   pub bits : Expr → (hi lo : ℕ) → Expr

@@ -12,7 +12,7 @@ use lib.IntN.{ℤ, pos, negsuc, negℤ, _+ℤ_, _-ℤ_, _*ℤ_}
 use lib.Signed.{ltZ, shrZ}
 use Rattle.terms.specs.Value.{msb, bvneg, bvnot, bvadd, bvsub, bvmul, bvshl, bvlshr, bvashr, bvslt, bvsext}
 use Rattle.neon.specs.Arm.{wrap, ones}
-use Rattle.trees_value.specs.Fits.{up, dn, FitsS, FitsU, Fits}
+use Rattle.trees_value.specs.Fits.{up, dn, FitsS, FitsU}
 use Rattle.trees_value.proofs.Z.{times, neg-up, neg-dn}
 use Rattle.trees_value.proofs.Wrap.{half, over, under, wrap-eq, wrap-lt, wrap-is, wrap-add, wrap-mul}
 

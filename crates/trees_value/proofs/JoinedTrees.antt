@@ -18,7 +18,7 @@ use Rattle.neon.specs.Form.{firstFull, secondFull, firstBits, secondBits}
 use Rattle.neon.specs.Refusal.{Legal, AllLegal}
 use Rattle.neon.proofs.Geometry.{sized, source-some, filled, made-view, inside, first-in, second-in}
 use Rattle.neon.proofs.Legal.{accepted, m-le}
-use Rattle.trees.specs.Simd.{extractCollapsing, concatLanes}
+use Rattle.trees.specs.Simd.{concatLanes}
 use Rattle.trees.specs.Neon.{neonOp}
 use Rattle.trees.specs.Block.{widenTree}
 use Rattle.trees.specs.Trees.{extractLane, resultTree, readTree, recordTree, treeStep, treeRun}

@@ -14,8 +14,8 @@ use Rattle.run_block.proofs.lanes.run_lanes.Tie as tie
 abbrev Inv-loop : tie.InvT-loop
 Inv-loop op n m k skip element index d a b acc₀ saturated₀ j₀ acc saturated j =
     (j ≤ k)
-    × Kept n j (laneBy op n m skip element (index .0) (number d) (number a) (number b)) (beyondBy op n m skip element (index .0) (number d) (number a) (number b)) acc
-    saturated
+    × Kept n j (laneBy op n m skip element (index .0) (number d) (number a) (number b))
+    (beyondBy op n m skip element (index .0) (number d) (number a) (number b)) acc saturated
 
 abbrev μ-loop : tie.MeasureT-loop
 μ-loop op n m k skip element index d a b acc₀ saturated₀ j₀ acc saturated j = k - j
