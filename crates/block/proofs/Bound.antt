@@ -7,7 +7,7 @@ use lib.ListN.{length}
 use Rattle.terms.specs.Expr.{Expr, Var}
 use Rattle.neon.specs.declared.Instruction.{Instruction}
 use Rattle.neon.specs.Refusal.{reserve}
-use Rattle.trees.specs.Block.{treeStep}
+use Rattle.trees.specs.Trees.{treeStep}
 use Rattle.pool.specs.Node.{places}
 use Rattle.block_map.specs.declared.RegisterMap.{RegisterMap}
 use Rattle.block_map.specs.Map.{firstMap, written}

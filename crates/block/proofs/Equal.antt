@@ -7,10 +7,12 @@ use Rattle.terms.specs.Value.{value}
 use Rattle.pool.specs.Node.{places}
 use Rattle.neon.specs.declared.Instruction.{Instruction}
 use Rattle.neon.specs.Refusal.{Legal, AllLegal}
+use Rattle.trees.specs.Joined.{allJoined}
 use Rattle.trees_value.proofs.Block.{block-is}
 use Rattle.trees_value.proofs.Range.{block-lt}
+use Rattle.trees_value.proofs.JoinedTrees.{joined-run}
 use Rattle.block_check.proofs.Refusals.{block-legal}
-use Rattle.block.specs.Demand.{RegistersHold, EqualWhenTermsAre, RefusedWhole, RegistersFit}
+use Rattle.block.specs.Demand.{RegistersHold, EqualWhenTermsAre, RefusedWhole, RegistersFit, RegistersJoined}
 
 pub registers-hold : RegistersHold
 registers-hold old cs new a h z start r l =
@@ -36,3 +38,8 @@ pub registers-fit : RegistersFit
 registers-fit old cs new a h z start bits r l =
     let legal = block-legal (places old) cs (sym (h .number) ∙ z) .2 in
     subst (λ (k : ℕ). k < 2 ^ 128) (block-is start cs legal r) (block-lt start bits cs legal r l)
+
+pub registers-joined : RegistersJoined
+registers-joined old cs new a h z r l =
+    let legal = block-legal (places old) cs (sym (h .number) ∙ z) .2 in
+    ap allJoined (h .accepted z .terms r l .tree) ∙ joined-run cs legal r l

@@ -12,7 +12,8 @@ use Rattle.facts.proofs.Numbers.{before-or-from}
 use Rattle.terms.specs.Expr.{Expr, Var}
 use Rattle.neon.specs.declared.Instruction.{Instruction}
 use Rattle.neon.specs.Refusal.{reserve, AllLegal, blockRefusal}
-use Rattle.trees.specs.Block.{treeStep, treeRun}
+use Rattle.trees.specs.Trees.{treeStep, treeRun}
+use Rattle.trees.specs.Block as Block
 use Rattle.pool.specs.declared.Built.{Built}
 use Rattle.pool.specs.Node.{Cell, kindAt, kinds, none, places}
 use Rattle.pool.specs.Rules.{Valid, okPool}
@@ -33,7 +34,7 @@ use Rattle.block.specs.Block.{VarAt, Lowered, Accepted, Started, Runs}
 
 -- the terms after one more
 pub tree-more : (cs : List Instruction) (c : Instruction) (t : ℕ → Expr) → treeRun (cs ++ c ∷ []) t ≡ treeStep c (treeRun cs t)
-unfolding treeRun
+unfolding Block.treeRun
 tree-more [] c t = refl
 tree-more (x ∷ cs) c t = tree-more cs c (treeStep x t)
 
@@ -73,13 +74,13 @@ lowered-kept {a} m t (c ∷ cs) m′ g h =
 lowered-next : {ws : List ℕ} (m : RegisterMap) (t : ℕ → Expr) (cs : List Instruction) (m′ : RegisterMap) (c : Instruction) {answer k : ℕ} → Lowered ws m t cs m′
     → Added ws m′ (treeRun cs t) c answer k
     → Lowered ws m t (cs ++ c ∷ []) (written m′ (c .d) answer k)
-unfolding treeRun
+unfolding Block.treeRun
 lowered-next {ws} m t [] m′ c {answer} {k} h n =
     (answer, k, subst (λ (x : RegisterMap). Added ws x t c answer k) h n, ap (λ (x : RegisterMap). written x (c .d) answer k) h)
 lowered-next m t (x ∷ cs) m′ c h n = (h .0, h .1, h .2, lowered-next (written m (x .d) (h .0) (h .1)) (treeStep x t) cs m′ c (h .3) n)
 
 pub runs-none : {ws : List ℕ} {m : RegisterMap} → MapOk m → Runs ws m ws m []
-unfolding treeRun
+unfolding Block.treeRun
 runs-none {ws} {m} ok =
     record {
       long = refl;

@@ -7,7 +7,7 @@ use lib.ListN.{length, getD}
 use Rattle.terms.specs.Expr.{Expr, Var}
 use Rattle.neon.specs.declared.Instruction.{Instruction}
 use Rattle.neon.specs.Refusal.{reserve, blockRefusal}
-use Rattle.trees.specs.Block.{treeStep, treeRun}
+use Rattle.trees.specs.Trees.{treeStep, treeRun}
 use Rattle.pool.specs.Node.{var, Cell, cellAt, kindNumber, places}
 use Rattle.pool.specs.Rules.{Valid, poolOk}
 use Rattle.pool.specs.Growth.{Grown}

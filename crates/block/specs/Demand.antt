@@ -1,4 +1,5 @@
 -- Demand 3 of document 01, of what the lowering of a block answers: the Arm run is fed a start and the records, and nothing of the pool.
+use mathlib.Core.Bool.{true}
 use mathlib.Core.List.{List, List·Memᴰ}
 use mathlib.Core.Logic.{_↔_}
 use mathlib.Core.Path.{_≡_}
@@ -7,6 +8,7 @@ use Rattle.terms.specs.Value.{value}
 use Rattle.neon.specs.declared.Instruction.{Instruction}
 use Rattle.neon.specs.Run.{armRun}
 use Rattle.neon.specs.Refusal.{Legal}
+use Rattle.trees.specs.Joined.{allJoined}
 use Rattle.pool.specs.Unfold.{unfoldAt}
 use Rattle.block_map.specs.Map.{nodeOf, noMap}
 use Rattle.block.specs.declared.BlockAnswer.{BlockAnswer}
@@ -44,3 +46,9 @@ RegistersFit =
     → (start : ℕ → ℕ) → ((x : ℕ) → x < 32 → start x < 2 ^ 128)
     → (r : ℕ) → r < 32
     → armRun cs start r < 2 ^ 128
+
+-- S-8 of document 02: no cut of a cut is left in the term of any register after an accepted block
+abbrev pub RegistersJoined : Type 0
+RegistersJoined =
+    (old : List ℕ) (cs : List Instruction) (new : List ℕ) (a : BlockAnswer) → Answered old cs new a → a .number ≡ 0 → (r : ℕ) → r < 32
+    → allJoined (unfoldAt new (nodeOf (a .map) r)) ≡ true

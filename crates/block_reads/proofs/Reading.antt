@@ -7,7 +7,8 @@ use native.Mathlib.Omega.{arith}
 use native.Mathlib.Nat.{not-le-of-lt, lt-trans}
 use Rattle.neon.specs.Op.{bitsIf}
 use Rattle.terms.specs.Expr.{Expr}
-use Rattle.trees.specs.Block.{readTree, widenTree}
+use Rattle.trees.specs.Block.{widenTree}
+use Rattle.trees.specs.Trees.{readTree}
 use Rattle.pool.specs.declared.Node.{Node}
 use Rattle.pool.specs.declared.Built.{Built}
 use Rattle.pool_nodes.specs.Builders.{MadeZeroExtend}

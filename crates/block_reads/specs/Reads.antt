@@ -6,7 +6,7 @@ use Prim.Native.Nat.{ℕ, _+_, _≤_, _<_}
 use lib.ListN.{length}
 use Rattle.terms.specs.Expr.{Expr}
 use Rattle.neon.specs.Op.{bitsIf}
-use Rattle.trees.specs.Block.{readTree}
+use Rattle.trees.specs.Trees.{readTree}
 use Rattle.pool.specs.declared.Node.{Node}
 use Rattle.pool.specs.declared.Built.{Built}
 use Rattle.pool.specs.Node.{widthAt}

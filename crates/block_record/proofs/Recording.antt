@@ -15,8 +15,9 @@ use Rattle.neon.specs.Op.{Op, opAt, Arrangement, arrangementAt, full, view}
 use Rattle.neon.specs.Form.{form, hasSecond, readsD, byElement, firstFull, secondFull, firstBits, secondBits}
 use Rattle.neon.specs.Refusal.{mostNodes, recordNodes, Legal}
 use Rattle.neon.proofs.Legal.{accepted, m-le}
-use Rattle.trees.specs.Neon.{resultTree}
-use Rattle.trees.specs.Block.{readTree, widenTree, recordTree, treeStep}
+use Rattle.trees.specs.Block.{widenTree}
+use Rattle.trees.specs.Trees.{resultTree, readTree, recordTree}
+use Rattle.trees.specs.Block as Block
 use Rattle.pool.specs.declared.Node.{Node}
 use Rattle.pool.specs.declared.Built.{Built}
 use Rattle.pool.specs.Rules.{Valid}
@@ -83,7 +84,7 @@ module _ (m : RegisterMap) (ok : MapOk m) (c : Instruction) (hd : c .d < 32) (hn
   of-d x l k h = rw (eo, ev) (inr (inr (omega (arith, l, r1 .next, r2 .next), omega (arith, k, r1 .next, r2 .next, r3 .next), h)))
 
   made : (t : ℕ → Expr) → Valid w0 (m .count) → MapIs w0 m t → StepMade w0 m w5 (written m (c .d) (b5 .node .0) (b5 .count)) c t
-  unfolding treeStep recordTree
+  unfolding Block.treeStep Block.recordTree
   made t val h =
       let m1 = r1 .made val (node-at q1 (h (c .n) hn)) in
       let m2 = r2 .made (m1 .valid) (is-kept (m1 .grown) (node-at q2 (h (c .m) hm))) in

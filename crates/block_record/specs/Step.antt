@@ -10,7 +10,7 @@ use Rattle.neon.specs.declared.Instruction.{Instruction}
 use Rattle.neon.specs.Op.{opAt, arrangementAt, full}
 use Rattle.neon.specs.Form.{form, hasSecond, readsD, byElement, firstFull, secondFull}
 use Rattle.neon.specs.Refusal.{reserve, recordNodes}
-use Rattle.trees.specs.Block.{recordTree, treeStep}
+use Rattle.trees.specs.Trees.{recordTree, treeStep}
 use Rattle.pool.specs.Rules.{Valid}
 use Rattle.pool.specs.Growth.{Reach, Grown, NodeIs}
 use Rattle.block_map.specs.declared.RegisterMap.{RegisterMap}

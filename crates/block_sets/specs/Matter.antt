@@ -6,7 +6,7 @@ use Rattle.terms.specs.Expr.{Var}
 use Rattle.terms.specs.Registers.{registers, InSet, Agree}
 use Rattle.neon.specs.declared.Instruction.{Instruction}
 use Rattle.neon.specs.Run.{armRun}
-use Rattle.trees.specs.Block.{treeRun}
+use Rattle.trees.specs.Trees.{treeRun}
 use Rattle.pool.specs.Node.{setAt}
 use Rattle.block_map.specs.Map.{nodeOf}
 use Rattle.block.specs.declared.BlockAnswer.{BlockAnswer}

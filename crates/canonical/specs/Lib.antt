@@ -1,3 +1,4 @@
 pub mod Same
 pub mod Order
 pub mod Words
+pub mod Example

@@ -1,4 +1,5 @@
 // The value of a pool's node at a start, with a number of visits that may be made.
+use pool::Bit;
 use pool::Node;
 use pool::words::Kind;
 use pool::words::kind_of;
@@ -107,7 +108,7 @@ fn apply(k: u64, a: Wide, b: Wide, wa: u64, wb: u64, w: u64, x: u64, y: u64) -> 
         Kind::EQ => bit(wide::equal(a, b)),
         Kind::ULT => bit(wide::less(a, b)),
         Kind::SLT => bit(bv_slt(a, b, wa)),
-        Kind::EXTRACT => bv_extract(a, x, y),
+        Kind::EXTRACT => bv_extract(a, Bit(x), Bit(y)),
         Kind::CONCAT => bv_concat(a, b, wb),
         Kind::ZERO_EXTEND => a,
         _ => bv_sext(a, wa, w),

@@ -10,7 +10,7 @@ use Rattle.facts.proofs.Tests.{and-both}
 use Rattle.neon.specs.Op.{Op, Arrangement, opAt, arrangementAt, view}
 use Rattle.neon.specs.Form.{hasSecond, readsD, firstBits, secondBits}
 use Rattle.neon.specs.Refusal.{reserve, mostNodes, formNumber}
-use Rattle.trees.specs.Neon.{resultTree}
+use Rattle.trees.specs.Trees.{resultTree}
 use Rattle.pool.specs.declared.Node.{Node}
 use Rattle.pool.specs.declared.Built.{Built}
 use Rattle.pool.specs.Node.{widthAt, places, placesIn}

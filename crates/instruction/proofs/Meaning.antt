@@ -9,7 +9,8 @@ use Rattle.terms.specs.Value.{value}
 use Rattle.neon.specs.Op.{Op, opAt, Arrangement, arrangementAt, laneBits, full, bitsIf, view}
 use Rattle.neon.specs.Form.{form, laneCount}
 use Rattle.neon.specs.Arm.{lane, placeLane}
-use Rattle.neon.proofs.Legal.{Formed, formed}
+use Rattle.neon.specs.Refusal.{Formed}
+use Rattle.neon.proofs.Legal.{formed}
 use Rattle.pool.specs.Unfold.{unfoldAt}
 use Rattle.pool_check.proofs.Passed.{keeps}
 use Rattle.pool_check.proofs.Sound.{sound}

@@ -6,9 +6,10 @@ use mathlib.Core.Path.{_≡_}
 use Prim.Native.Nat.{ℕ, _%_, _^_, _<_}
 use Rattle.terms.specs.Value.{value}
 use Rattle.neon.specs.Op.{opAt, arrangementAt, laneBits, full, view}
-use Rattle.neon.specs.Form.{form, isNarrow, laneCount}
+use Rattle.neon.specs.Form.{form, isNarrow, laneCount, hasSecond, readsD}
 use Rattle.neon.specs.Arm.{lane, placeLane, armAt, armResult}
-use Rattle.trees.specs.Neon.{resultTree}
+use Rattle.trees.specs.Trees.{resultTree}
+use Rattle.trees.specs.Joined.{allJoined, uncut}
 use Rattle.pool.specs.Unfold.{unfoldAt}
 use Rattle.instruction.specs.declared.Lowering.{Lowering}
 use Rattle.instruction.specs.Lowering.{Answers}
@@ -59,3 +60,14 @@ MeansArm =
     × LanesAre old count new r operation arrangement i d n m start
     × LowerKept old count new r operation arrangement i d n m start
     × ValueFits old count new r operation arrangement i d n m start)
+
+-- S-8 of document 02: no cut of a cut is left in the answer's tree, if the sources that are wanted have none below their own outermost cuts
+abbrev pub JoinsCuts : Type 0
+JoinsCuts =
+    (old : List ℕ) (count : ℕ) (new : List ℕ) (r : Lowering) (operation arrangement i d n m : ℕ)
+    → Answers old count new r operation arrangement i d n m
+    → r .number ≡ 0
+    → (readsD (opAt operation) (arrangementAt arrangement) ≡ true → allJoined (uncut (unfoldAt old d)) ≡ true)
+    → allJoined (uncut (unfoldAt old n)) ≡ true
+    → (hasSecond (opAt operation) ≡ true → allJoined (uncut (unfoldAt old m)) ≡ true)
+    → allJoined (unfoldAt new (r .node)) ≡ true

@@ -5,7 +5,7 @@ use mathlib.Core.Path.{_≡_}
 use Prim.Native.Nat.{ℕ, _+_, _≤_, _<_}
 use Rattle.neon.specs.Op.{Op, opAt, Arrangement, arrangementAt, view}
 use Rattle.neon.specs.Refusal.{reserve}
-use Rattle.trees.specs.Neon.{resultTree}
+use Rattle.trees.specs.Trees.{resultTree}
 use Rattle.pool.specs.Node.{none}
 use Rattle.pool.specs.Rules.{poolOk}
 use Rattle.pool.specs.Unfold.{unfoldAt}

@@ -9,7 +9,7 @@ use Rattle.terms.specs.Expr.{Var}
 use Rattle.terms.specs.Display.{display}
 use Rattle.neon.specs.declared.Instruction.{Instruction}
 use Rattle.neon.specs.Refusal.{blockRefusal}
-use Rattle.trees.specs.Block.{treeRun}
+use Rattle.trees.specs.Trees.{treeRun}
 use Rattle.block.specs.declared.BlockAnswer.{BlockAnswer}
 use Rattle.block.specs.Block.{Answered}
 use Rattle.line_fields.specs.Fields.{inColumns, recordOf}

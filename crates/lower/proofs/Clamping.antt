@@ -18,7 +18,9 @@ use Rattle.trees.specs.declared.SaturateTo.{SaturateTo}
 use Rattle.trees.specs.declared.SaturateTo.the-variants.{Signed, Unsigned, SignedToUnsigned}
 use Rattle.trees.specs.Simd.{extractCollapsing}
 use Rattle.trees.specs.Lower.{unsignedMax}
-use Rattle.trees.specs.Arith.{clampBetween, clampBelow, clamp, plusIf}
+use Rattle.trees.specs.Arith.{clampBetween, clampBelow, plusIf}
+use Rattle.trees.specs.Trees.{clamp}
+use Rattle.trees.specs.Arith as Arith
 use Rattle.lower.specs.Builds.{Builds1, MadeExtend}
 
 pub between : {w0 w1 w2 w3 w4 w5 w6 w7 : List ℕ} {k : ℕ} {r1 r2 r3 r4 r5 r6 r7 : Built} {value : Node} {ll lh hl hh wide narrow : ℕ}
@@ -78,7 +80,7 @@ module _ {w0 w1 : List ℕ} {k : ℕ} {r : Built} {value : Node} {wide narrow : 
   pub clamp-signed : {p low high : ℕ} → to ≡ Signed → p ≡ 2 ^ (narrow - 1) → low ≡ 2 ^ wide - 2 ^ (narrow - 1) → words (p - 1) 0 ≡ high
       → Builds1 w0 k w1 r 7 value wide narrow (λ v. extractCollapsing (clampBetween v (Const low wide) (Const high wide)) (narrow - 1) 0) (value .0 ∷ [])
       → Builds1 w0 k w1 r 7 value wide narrow (λ v. clamp v wide narrow to) (value .0 ∷ [])
-  unfolding clamp
+  unfolding Arith.clamp
   clamp-signed {p} {low} {high} q e f g d =
       let h : high ≡ 2 ^ (narrow - 1) - 1 = omega arith in
       rw (q, ← f, ← h) d
@@ -86,13 +88,13 @@ module _ {w0 w1 : List ℕ} {k : ℕ} {r : Built} {value : Node} {wide narrow : 
   pub clamp-unsigned : {h : ℕ} → to ≡ Unsigned → h ≡ unsignedMax narrow
       → Builds1 w0 k w1 r 4 value wide narrow (λ v. extractCollapsing (clampBelow v (Const h wide)) (narrow - 1) 0) (value .0 ∷ [])
       → Builds1 w0 k w1 r 7 value wide narrow (λ v. clamp v wide narrow to) (value .0 ∷ [])
-  unfolding clamp
+  unfolding Arith.clamp
   clamp-unsigned q e d = rw (q, ← e) (record { sized = omega (arith, d .sized); made = d .made })
 
   pub clamp-to-unsigned : {h high : ℕ} → to ≡ SignedToUnsigned → h ≡ unsignedMax narrow → words h 0 ≡ high
       → Builds1 w0 k w1 r 7 value wide narrow (λ v. extractCollapsing (clampBetween v (Const 0 wide) (Const high wide)) (narrow - 1) 0) (value .0 ∷ [])
       → Builds1 w0 k w1 r 7 value wide narrow (λ v. clamp v wide narrow to) (value .0 ∷ [])
-  unfolding clamp
+  unfolding Arith.clamp
   clamp-to-unsigned {h} {high} q e f d =
       let h′ : high ≡ unsignedMax narrow = omega arith in
       rw (q, ← h′) d

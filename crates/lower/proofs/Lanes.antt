@@ -14,7 +14,7 @@ use Rattle.lower_simd.specs.Cut.{MadeCut, MadeLane}
 use Rattle.pool.proofs.Laws.{is-kept, reach-kept, reach-trans, grown-trans}
 use Rattle.pool.proofs.Steps.{start, step, finish, forget, stay, given, spare}
 use Rattle.trees.specs.Simd.{concatLanes}
-use Rattle.trees.specs.Arith.{keepLower}
+use Rattle.trees.specs.Trees.{keepLower}
 use Rattle.lower.specs.Builds.{Source, SourceIs, readIf, unread, withLower, BuildsCut, Lowers}
 
 -- a source stays what it is while the pool grows

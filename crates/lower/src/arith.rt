@@ -13,8 +13,9 @@ ghost use Prim.Native.Nat.{_*_, _-_, _≤_, _<_, _^_};
 ghost use Rattle.terms.specs.Expr.{Const};
 ghost use Rattle.pool.specs.Node.{wide as wideWords};
 ghost use Rattle.pool.specs.Growth.{Room};
-ghost use Rattle.trees.specs.Arith.{clampBetween, clampBelow, clamp as clampTree, plusIf, keepLower};
+ghost use Rattle.trees.specs.Arith.{clampBetween, clampBelow, plusIf};
 ghost use Rattle.trees.specs.Simd.{extractCollapsing};
+ghost use Rattle.trees.specs.Trees.{clamp as clampTree, keepLower};
 ghost use Rattle.lower.specs.Builds.{Builds1, BuildsCut, Below, readIf, withLower};
 
 // `low` where `value` is signed less than it, else `high` where `value` is signed more than it, else `value`; of these the low

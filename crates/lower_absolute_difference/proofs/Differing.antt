@@ -11,7 +11,8 @@ use Rattle.pool.specs.declared.Node.{Node}
 use Rattle.pool.specs.declared.Built.{Built}
 use Rattle.pool_nodes.specs.Builders.{MadeBv, MadeCompare, MadeIte}
 use Rattle.pool.proofs.Steps.{start, step, finish, given, spare}
-use Rattle.trees.specs.Arith.{absoluteDifferenceLane, differenceAt}
+use Rattle.trees.specs.Arith.{absoluteDifferenceLane}
+use Rattle.trees.specs.Trees.{differenceAt}
 use Rattle.lower_simd.specs.Cut.{MadeLane}
 use Rattle.lower.specs.Builds.{Builds2, Lowers, read, readIf}
 use Rattle.lower.proofs.Lanes.{lane-fits}

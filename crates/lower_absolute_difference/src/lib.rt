@@ -7,7 +7,8 @@ use terms::BinOp;
 ghost use mathlib.Core.List.{[], _∷_};
 ghost use Prim.Native.Nat.{_*_, _≤_, _<_};
 ghost use Rattle.pool.specs.Growth.{Room};
-ghost use Rattle.trees.specs.Arith.{differenceAt, absoluteDifferenceLane, absoluteDifferenceLanes};
+ghost use Rattle.trees.specs.Arith.{absoluteDifferenceLane};
+ghost use Rattle.trees.specs.Trees.{differenceAt, absoluteDifferenceLanes};
 ghost use Rattle.lower.specs.Builds.{Builds2, Lowers, read, readIf, Below};
 
 // The lesser lane taken from the greater. A lane's bits hold the difference, read unsigned, so no more are needed.

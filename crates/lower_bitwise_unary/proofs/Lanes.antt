@@ -9,8 +9,9 @@ use Rattle.pool.specs.declared.Built.{Built}
 use Rattle.terms.specs.Expr.{Extract}
 use Rattle.pool.proofs.Steps.{forget}
 use Rattle.trees.specs.declared.BitwiseUnary.{BitwiseUnary}
-use Rattle.trees.specs.Arith.{bitwiseAt, bitwiseUnaryLane}
-use Rattle.trees.specs.Simd.{extractCollapsing, extractLane}
+use Rattle.trees.specs.Simd.{extractCollapsing}
+use Rattle.trees.specs.Trees.{bitwiseAt, bitwiseUnaryLane}
+use Rattle.trees.specs.Simd as Simd
 use Rattle.lower_simd.specs.Cut.{CutFrom}
 use Rattle.lower_bitwise_unary_lane.specs.Layers.{laneFrom, BuildsLane}
 use Rattle.lower.specs.Builds.{Lowers, read, unread}
@@ -20,7 +21,7 @@ pub bitwise-at : {w0 w1 : List ℕ} {k : ℕ} {r : Built} {first from : Node} {n
     → CutFrom w0 (first .0) (n * j + n - 1) (from .0) by
     → BuildsLane w0 k w1 r (5 * n + 1) from (n * j + by) n n (λ v. bitwiseUnaryLane op v n) (from .0 ∷ [])
     → Lowers w0 k w1 r (5 * n + 1) n unread (read first (n * lanes)) unread (λ d a b. bitwiseAt op n a j) []
-unfolding extractLane
+unfolding Simd.extractLane
 bitwise-at {first = first} {n = n} {lanes = lanes} {j = j} {by = by} op some h c e =
     let fits : n * j + n ≤ n * lanes = lane-fits n j lanes h (omega arith) in
     record {

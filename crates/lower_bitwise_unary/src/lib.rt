@@ -8,7 +8,7 @@ use trees::BitwiseUnary;
 ghost use mathlib.Core.List.{[]};
 ghost use Prim.Native.Nat.{_+_, _*_, _≤_, _<_};
 ghost use Rattle.pool.specs.Growth.{Room};
-ghost use Rattle.trees.specs.Arith.{bitwiseAt, bitwiseUnaryLanes};
+ghost use Rattle.trees.specs.Trees.{bitwiseAt, bitwiseUnaryLanes};
 ghost use Rattle.lower.specs.Builds.{Lowers, read, unread};
 
 // Lane `index` of the answer.
@@ -30,7 +30,7 @@ fn bitwise_at(
     // the bits are cut from below every Extract, so the lane itself gets no node
     let lo = lane_bits * index.0;
     let from = lower_simd::cut_from(pool, first, Bit(lo + lane_bits - 1));
-    bitwise_unary_lane(pool, count, kind, from.node, Bit(lo + from.by), lane_bits)
+    bitwise_unary_lane(pool, count, kind, from.node, Bit(lo + from.by.0), lane_bits)
 }
 
 // CNT, CLZ, CLS and RBIT, lane by lane.

@@ -16,7 +16,8 @@ use Rattle.pool.proofs.Steps.{start, step, finish, given}
 use Rattle.trees.specs.declared.BitwiseUnary.{BitwiseUnary}
 use Rattle.trees.specs.declared.BitwiseUnary.the-variants.{PopulationCount, LeadingZeros, LeadingSignBits, ReverseBits}
 use Rattle.trees.specs.Simd.{extractCollapsing, concatLanes}
-use Rattle.trees.specs.Arith.{leadingZeros, populationCount, bitwiseUnaryLane}
+use Rattle.trees.specs.Trees.{leadingZeros, populationCount, bitwiseUnaryLane}
+use Rattle.trees.specs.Arith as Arith
 use Rattle.lower.specs.Builds.{Lowers, read, unread}
 use Rattle.lower.proofs.Lanes.{LanesTo}
 use Rattle.lower_bitwise_unary_lane.specs.Layers.{Plain, laneFrom, reversedFrom, BuildsLane}
@@ -24,7 +25,7 @@ use Rattle.lower_bitwise_unary_lane.proofs.Layering.{bit-of}
 
 -- the zeros of a term are those of the lane that is all of it
 zeros-whole : {v : Expr} → Plain v → (n k : ℕ) → k ≤ n → leadingZeros (laneFrom v 0 n) n k ≡ leadingZeros v n k
-unfolding leadingZeros
+unfolding Arith.leadingZeros
 zeros-whole p n zero h = refl
 zeros-whole {v} p n (suc k) h =
     ap₂ (λ (b t : Expr). Ite (Compare Eq b (Const 1 1)) (Const (n - 1 - k) n) t)
@@ -41,7 +42,7 @@ pub sign-bits : {w0 w1 w2 w3 w4 w5 : List ℕ} {k : ℕ} {r1 r2 r3 r4 r5 : Built
     → BuildsLane w3 (r3 .count) w4 r4 (5 * (n - 1) + 1) (r3 .node) 0 (n - 1) (n - 1) (λ v. leadingZeros v (n - 1) (n - 1)) ((r3 .node) .0 ∷ [])
     → MadeZeroExtend w4 (r4 .count) w5 r5 (r4 .node) n
     → BuildsLane w0 k w5 r5 (5 * n + 1) value base n n (λ v. bitwiseUnaryLane LeadingSignBits v n) (value .0 ∷ [])
-unfolding bitwiseUnaryLane
+unfolding Arith.bitwiseUnaryLane
 sign-bits {value = value} {base = base} {n = n} l m e1 e2 e3 e4 e5 =
     let some : 1 ≤ n - 1 = omega arith in
     record {
@@ -72,7 +73,7 @@ reversed-are p base n (suc m) h = ap₂ Concat (bit-of p base n (n - 1 - suc m) 
 pub reversed-all : {w0 w1 : List ℕ} {k : ℕ} {r : Built} {value : Node} {base n i : ℕ} → 1 ≤ n → i ≡ n
     → ((wa : ℕ) → base + n ≤ wa → LanesTo w0 k w1 r 2 1 unread (read value wa) unread (reversedFrom base n) (value .0 ∷ []) i)
     → BuildsLane w0 k w1 r (2 * n) value base n n (λ v. bitwiseUnaryLane ReverseBits v n) (value .0 ∷ [])
-unfolding bitwiseUnaryLane
+unfolding Arith.bitwiseUnaryLane
 reversed-all {w0} {w1} {k} {r} {value} {base} {n} {i} some e d =
     let all : (wa : ℕ) → base + n ≤ wa → LanesTo w0 k w1 r 2 1 unread (read value wa) unread (reversedFrom base n) (value .0 ∷ []) n = λ wa l.
     subst (λ (j : ℕ). LanesTo w0 k w1 r 2 1 unread (read value wa) unread (reversedFrom base n) (value .0 ∷ []) j) e (d wa l) in
@@ -90,13 +91,13 @@ module _ {w0 w1 : List ℕ} {k : ℕ} {r : Built} {value : Node} {base n : ℕ} 
   pub lane-count : op ≡ PopulationCount
       → BuildsLane w0 k w1 r (3 * n + 1) value base n n (λ v. populationCount v n n) (value .0 ∷ [])
       → BuildsLane w0 k w1 r (5 * n + 1) value base n n (λ v. bitwiseUnaryLane op v n) (value .0 ∷ [])
-  unfolding bitwiseUnaryLane
+  unfolding Arith.bitwiseUnaryLane
   lane-count q d = rw q (record { sized = omega (arith, d .sized); made = d .made })
 
   pub lane-zeros : op ≡ LeadingZeros
       → BuildsLane w0 k w1 r (5 * n + 1) value base n n (λ v. leadingZeros v n n) (value .0 ∷ [])
       → BuildsLane w0 k w1 r (5 * n + 1) value base n n (λ v. bitwiseUnaryLane op v n) (value .0 ∷ [])
-  unfolding bitwiseUnaryLane
+  unfolding Arith.bitwiseUnaryLane
   lane-zeros q d = rw q d
 
   pub lane-signs : op ≡ LeadingSignBits

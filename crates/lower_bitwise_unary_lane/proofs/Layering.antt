@@ -14,8 +14,9 @@ use Rattle.pool.specs.declared.Node.{Node}
 use Rattle.pool.specs.declared.Built.{Built}
 use Rattle.pool_nodes.specs.Builders.{MadeConst, MadeBv, MadeCompare, MadeIte, MadeExtract, MadeZeroExtend}
 use Rattle.pool.proofs.Steps.{start, step, finish, forget, given}
-use Rattle.trees.specs.Arith.{leadingZeros, populationCount, zerosAt, countAt}
 use Rattle.trees.specs.Simd.{extractCollapsing}
+use Rattle.trees.specs.Trees.{leadingZeros, populationCount, zerosAt, countAt}
+use Rattle.trees.specs.Arith as Arith
 use Rattle.lower_bitwise_unary_lane.specs.Layers.{Plain, laneFrom, BuildsLane, BuildsLane2}
 
 -- a number of at most n fits n bits
@@ -89,19 +90,19 @@ abbrev pub countTo : ℕ → Expr → ℕ → Expr
 countTo n v i = populationCount v n i
 
 pub zeros-none : (n : ℕ) (v : Expr) → zerosTo n v 0 ≡ Const n n
-unfolding leadingZeros
+unfolding Arith.leadingZeros
 zeros-none n v = refl
 
 pub zeros-more : (n i : ℕ) (v : Expr) → zerosTo n v (suc i) ≡ zerosAt n v i (zerosTo n v i)
-unfolding leadingZeros
+unfolding Arith.leadingZeros
 zeros-more n i v = refl
 
 pub count-none : (n : ℕ) (v : Expr) → countTo n v 0 ≡ Const 0 n
-unfolding populationCount
+unfolding Arith.populationCount
 count-none n v = refl
 
 pub count-more : (n i : ℕ) (v : Expr) → countTo n v (suc i) ≡ countAt n v i (countTo n v i)
-unfolding populationCount
+unfolding Arith.populationCount
 count-more n i v = refl
 
 -- a bit of the lane is a bit of what the lane is of

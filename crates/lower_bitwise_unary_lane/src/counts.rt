@@ -8,7 +8,7 @@ ghost use mathlib.Core.List.{[], _∷_};
 ghost use Prim.Native.Nat.{_+_, _*_, _≤_, _<_};
 ghost use Rattle.pool.specs.Growth.{Room};
 ghost use Rattle.trees.specs.declared.BitwiseUnary.the-variants.{LeadingSignBits, ReverseBits};
-ghost use Rattle.trees.specs.Arith.{leadingZeros, populationCount, bitwiseUnaryLane, zerosAt, countAt};
+ghost use Rattle.trees.specs.Trees.{leadingZeros, populationCount, bitwiseUnaryLane, zerosAt, countAt};
 ghost use Rattle.lower_bitwise_unary_lane.specs.Layers.{BuildsLane, BuildsLane2};
 
 // The test of one bit of the lane that begins at `base`; `rest` has the tests of the bits below it.

@@ -6,7 +6,7 @@ use trees::BitwiseUnary;
 ghost use mathlib.Core.List.{[], _∷_};
 ghost use Prim.Native.Nat.{_+_, _*_, _≤_, _<_};
 ghost use Rattle.pool.specs.Growth.{Room};
-ghost use Rattle.trees.specs.Arith.{bitwiseUnaryLane};
+ghost use Rattle.trees.specs.Trees.{bitwiseUnaryLane};
 ghost use Rattle.lower_bitwise_unary_lane.specs.Layers.{BuildsLane};
 
 pub mod counts;

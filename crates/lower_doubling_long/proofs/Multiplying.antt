@@ -13,7 +13,9 @@ use Rattle.trees.specs.declared.SaturateTo.the-variants.{Signed}
 use Rattle.trees.specs.declared.Combine.{Combine}
 use Rattle.trees.specs.declared.Combine.the-variants.{Nothing, With}
 use Rattle.trees.specs.Simd.{concatLanes}
-use Rattle.trees.specs.Arith.{clamp, joined, twice, doublingProduct, sourceLane, doublingLongLane, doublingLongLanes}
+use Rattle.trees.specs.Arith.{joined, twice, sourceLane}
+use Rattle.trees.specs.Trees.{clamp, doublingProduct, doublingLongLanes}
+use Rattle.trees.specs.Arith as Arith
 use Rattle.lower_simd.specs.Cut.{MadeLane}
 use Rattle.lower.specs.Builds.{Builds1, Builds2, Lowers, read, readIf, unread}
 use Rattle.lower.proofs.Lanes.{lane-fits, source-kept}
@@ -27,7 +29,7 @@ pub product-made : {w0 w1 w2 : List ℕ} {k : ℕ} {r1 r2 : Built} {a b : Node} 
     → Builds2 w0 k w1 r1 5 a (n / 2) b (n / 2) (n + 1) (λ a b. twice a b (n + 1)) (a .0 ∷ b .0 ∷ [])
     → Builds1 w1 (r1 .count) w2 r2 7 (r1 .node) (n + 1) n (λ v. clamp v (n + 1) n Signed) ((r1 .node) .0 ∷ [])
     → Builds2 w0 k w2 r2 12 a (n / 2) b (n / 2) n (λ a b. doublingProduct a b n) (a .0 ∷ b .0 ∷ [])
-unfolding doublingProduct
+unfolding Arith.doublingProduct
 product-made n e1 e2 = then2 e1 e2
 
 pub combined-with : {w0 w1 w2 w3 : List ℕ} {k : ℕ} {r1 r2 r3 : Built} {product d : Node} {op : BinOp} {combine : Combine} {n lanes j : ℕ}
@@ -91,7 +93,7 @@ doubled-one : {w0 w1 w2 w3 w4 : List ℕ} {k : ℕ} {r1 r2 r3 r4 : Built} {first
     → Lowers w3 (r3 .count) w4 r4 11 n (readIf (accumulates combine) d (n * lanes)) (read (r3 .node) n) unread (λ d p b. combinedAt combine n d p j) ((r3 .node) .0 ∷ [])
     → Lowers w0 k w4 r4 25 n (readIf (accumulates combine) d (n * lanes)) (read first (factorBits upper n lanes)) (elementSource (One value) (n / 2) (factorBits upper n lanes))
     (λ d a b. doubledAt combine (One value) upper n lanes d a b j) (elementNodes (One value))
-unfolding doublingLongLane
+unfolding Arith.doublingLongLane
 doubled-one {first = first} {value = value} {n = n} {lanes = lanes} {j = j} {lane = lane} combine upper h e e1 e2 e3 e4 =
     let fits : n / 2 * lane + n / 2 ≤ factorBits upper n lanes = factor-fits upper n lanes h e in
     rw (← e)
@@ -114,7 +116,7 @@ doubled-per-lane : {w0 w1 w2 w3 w4 : List ℕ} {k : ℕ} {r1 r2 r3 r4 : Built} {
     → Lowers w3 (r3 .count) w4 r4 11 n (readIf (accumulates combine) d (n * lanes)) (read (r3 .node) n) unread (λ d p b. combinedAt combine n d p j) ((r3 .node) .0 ∷ [])
     → Lowers w0 k w4 r4 25 n (readIf (accumulates combine) d (n * lanes)) (read first (factorBits upper n lanes)) (elementSource (PerLane vector) (n / 2) (factorBits upper n lanes))
     (λ d a b. doubledAt combine (PerLane vector) upper n lanes d a b j) (elementNodes (PerLane vector))
-unfolding doublingLongLane
+unfolding Arith.doublingLongLane
 doubled-per-lane {first = first} {vector = vector} {n = n} {lanes = lanes} {j = j} {lane = lane} combine upper h e e1 e2 e3 e4 =
     let fits : n / 2 * lane + n / 2 ≤ factorBits upper n lanes = factor-fits upper n lanes h e in
     rw (← e)
@@ -148,7 +150,7 @@ pub by-element : {w0 w1 w2 : List ℕ} {k : ℕ} {r1 r2 : Built} {first second d
     (elementSource (One (r1 .node)) (n / 2) (factorBits upper n lanes)) (λ d a b. concatLanes (lanes - 1) (doubledAt combine (One (r1 .node)) upper n lanes d a b)) (elementNodes (One (r1 .node)))
     → Lowers w0 k w2 r2 (26 * lanes + 1) (n * lanes) (readIf (accumulates combine) d (n * lanes)) (read first (factorBits upper n lanes))
     (read second (secondFactorBits byElement upper n lanes)) (λ d a b. doublingLongLanes combine upper byElement i a b d n lanes) []
-unfolding doublingLongLane doublingLongLanes
+unfolding Arith.doublingLongLane Arith.doublingLongLanes
 by-element {second = second} n lanes i combine upper byElement h q e1 e2 =
     rw q
     (record {
@@ -164,5 +166,5 @@ pub by-lane : {w0 w1 : List ℕ} {k : ℕ} {r : Built} {first second d : Node} (
     (elementSource (PerLane second) (n / 2) (factorBits upper n lanes)) (λ d a b. concatLanes (lanes - 1) (doubledAt combine (PerLane second) upper n lanes d a b)) (elementNodes (PerLane second))
     → Lowers w0 k w1 r (26 * lanes + 1) (n * lanes) (readIf (accumulates combine) d (n * lanes)) (read first (factorBits upper n lanes))
     (read second (secondFactorBits byElement upper n lanes)) (λ d a b. doublingLongLanes combine upper byElement i a b d n lanes) []
-unfolding doublingLongLane doublingLongLanes
+unfolding Arith.doublingLongLane Arith.doublingLongLanes
 by-lane n lanes i combine upper byElement q e = rw q (record { sized = omega (arith, e .sized); made = λ v x y z. e .made v x y z })

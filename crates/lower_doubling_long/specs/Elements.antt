@@ -9,7 +9,7 @@ use Rattle.pool.specs.Growth.{NodeIs}
 use Rattle.pool_nodes.specs.Builders.{Takes, Makes}
 use Rattle.trees.specs.declared.Combine.{Combine}
 use Rattle.trees.specs.declared.Combine.the-variants.{Nothing, With}
-use Rattle.trees.specs.Simd.{extractLane}
+use Rattle.trees.specs.Trees.{extractLane}
 use Rattle.lower.specs.Builds.{Source, withLower}
 use Rattle.lower_doubling_long.specs.declared.Element.{Element}
 use Rattle.lower_doubling_long.specs.declared.Element.the-variants.{One, PerLane}

@@ -3,8 +3,8 @@ use mathlib.Core.Bool.{Bool}
 use Prim.Native.Nat.{ℕ, _/_}
 use Rattle.terms.specs.Expr.{Expr}
 use Rattle.trees.specs.declared.Combine.{Combine}
-use Rattle.trees.specs.Simd.{extractLane}
-use Rattle.trees.specs.Arith.{combined, sourceLane, doublingAt}
+use Rattle.trees.specs.Arith.{sourceLane}
+use Rattle.trees.specs.Trees.{extractLane, combined, doublingAt}
 use Rattle.lower_doubling_long.specs.declared.Element.{Element}
 use Rattle.lower_doubling_long.specs.Elements.{elementTree}
 

@@ -12,7 +12,8 @@ use Rattle.pool_nodes.specs.Builders.{MadeBv, MadeExtract}
 use Rattle.pool.proofs.Steps.{start, step, finish, given, spare}
 use Rattle.trees.specs.Simd.{extractCollapsing}
 use Rattle.trees.specs.Arith.{plusIf}
-use Rattle.trees.specs.Width.{highAt, highNarrowLane}
+use Rattle.trees.specs.Trees.{highAt, highNarrowLane}
+use Rattle.trees.specs.Width as Width
 use Rattle.lower_simd.specs.Cut.{MadeLane}
 use Rattle.lower.specs.Builds.{Builds1, Builds2, Lowers, read, unread}
 use Rattle.lower.proofs.Lanes.{lane-fits}
@@ -33,7 +34,7 @@ pub high-lane : {w0 w1 w2 w3 : List ℕ} {k : ℕ} {r1 r2 r3 : Built} {a b : Nod
     → Builds1 w1 (r1 .count) w2 r2 2 (r1 .node) (n * 2) (n * 2) (λ v. plusIf rounding v (Const p (n * 2))) ((r1 .node) .0 ∷ [])
     → MadeExtract w2 (r2 .count) w3 r3 (r2 .node) (n * 2 - 1) n
     → Builds2 w0 k w3 r3 4 a (n * 2) b (n * 2) n (λ a b. highNarrowLane subtract rounding a b n) (a .0 ∷ b .0 ∷ [])
-unfolding highNarrowLane
+unfolding Width.highNarrowLane
 high-lane {a = a} {b = b} {op = op} {p = p} {n = n} subtract rounding l m f g e1 e2 e3 =
     rw (← f, ← g)
     (record {

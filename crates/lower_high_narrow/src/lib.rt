@@ -9,7 +9,7 @@ ghost use mathlib.Core.List.{[], _∷_};
 ghost use Prim.Native.Nat.{_+_, _-_, _*_, _≤_, _<_};
 ghost use Rattle.pool.specs.Growth.{Room};
 ghost use Rattle.trees.specs.Simd.{concatLanes};
-ghost use Rattle.trees.specs.Width.{highAt, highNarrowLane, highNarrowLanes};
+ghost use Rattle.trees.specs.Trees.{highAt, highNarrowLane, highNarrowLanes};
 ghost use Rattle.lower.specs.Builds.{Builds2, Lowers, read, readIf, unread, withLower, Below};
 
 // The upper half of a sum or a difference. Rounding adds half of the place above the bits that are dropped.

@@ -10,7 +10,9 @@ use Rattle.pool.specs.declared.Built.{Built}
 use Rattle.pool.proofs.Steps.{start, step, finish, spare}
 use Rattle.trees.specs.declared.SaturateTo.{SaturateTo}
 use Rattle.trees.specs.declared.SaturateTo.the-variants.{Signed, SignedToUnsigned}
-use Rattle.trees.specs.Arith.{clamp, joined, mixedSignAddLane, mixedAt}
+use Rattle.trees.specs.Arith.{joined}
+use Rattle.trees.specs.Trees.{clamp, mixedAt}
+use Rattle.trees.specs.Arith as Arith
 use Rattle.lower_simd.specs.Cut.{MadeLane}
 use Rattle.lower.specs.Builds.{Builds1, Builds2, Lowers, read, unread}
 use Rattle.lower.proofs.Lanes.{lane-fits}
@@ -25,7 +27,7 @@ pub mixed-lane : {w0 w1 w2 w3 w4 : List ℕ} {k : ℕ} {r1 r2 r3 r4 : Built} {fi
     → Builds2 w2 (r2 .count) w3 r3 3 (r1 .node) n (r2 .node) n (n + 2) (λ d a. joined Add d signed a (not signed) (n + 2)) ((r1 .node) .0 ∷ (r2 .node) .0 ∷ [])
     → Builds1 w3 (r3 .count) w4 r4 7 (r3 .node) (n + 2) n (λ v. clamp v (n + 2) n to) ((r3 .node) .0 ∷ [])
     → Lowers w0 k w4 r4 12 n (read d (n * lanes)) (read first (n * lanes)) unread (λ d a b. mixedAt signed n d a j) []
-unfolding mixedSignAddLane
+unfolding Arith.mixedSignAddLane
 mixed-lane {first = first} {d = d} {n = n} {lanes = lanes} {j = j} signed l h b f e1 e2 e3 e4 =
     let fits : n * j + n ≤ n * lanes = lane-fits n j lanes h (omega arith) in
     rw (← f)

@@ -7,7 +7,7 @@ use terms::BinOp;
 ghost use mathlib.Core.List.{[]};
 ghost use Prim.Native.Nat.{_*_, _≤_, _<_};
 ghost use Rattle.pool.specs.Growth.{Room};
-ghost use Rattle.trees.specs.Arith.{mixedAt, mixedSignAddLanes};
+ghost use Rattle.trees.specs.Trees.{mixedAt, mixedSignAddLanes};
 ghost use Rattle.lower.specs.Builds.{Lowers, read, unread};
 
 // Lane `index` of the sum, at two bits more than a lane: a signed and an unsigned number of n bits reach 3 * 2^(n - 1) - 2 together, which is

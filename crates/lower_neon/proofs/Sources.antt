@@ -11,7 +11,9 @@ use Rattle.neon.specs.Form.{form, hasSecond, readsD, firstBits, secondBits}
 use Rattle.neon.proofs.Geometry.{sized, filled, made-max}
 use Rattle.trees.specs.declared.NeonOp.{NeonOp}
 use Rattle.trees.specs.declared.NeonShape.{NeonShape}
-use Rattle.trees.specs.Neon.{shapeOf, neonValue, resultTree}
+use Rattle.trees.specs.Neon.{shapeOf}
+use Rattle.trees.specs.Trees.{neonValue, resultTree}
+use Rattle.trees.specs.Neon as Neon
 use Rattle.pool.specs.declared.Node.{Node}
 use Rattle.pool.specs.declared.Built.{Built}
 use Rattle.pool.specs.Growth.{NodeIs}
@@ -100,7 +102,7 @@ module _ {old new : List ℕ} {c : ℕ} {r : Built} where
       (λ d a b. neonValue s d a b) []
       → Lowers old c new r mostNodes (view v) (readIf (readsD o v) d (view v)) (read first (firstBits o v)) (readIf (hasSecond o) second (secondBits o v))
       (resultTree o v i) []
-  unfolding resultTree
+  unfolding Neon.resultTree
   form-lowers {d} {first} {second} o v i e f h =
       renamed (f .wide) (f .old) (f .old-wide) (f .first-wide) (f .second) (f .second-wide)
       (subst (λ (s : NeonShape).

@@ -17,7 +17,7 @@ ghost use Prim.Native.Nat.{_*_, _≤_, _<_};
 ghost use Rattle.neon.specs.Op.{opAt, arrangementAt, view};
 ghost use Rattle.neon.specs.Form.{hasSecond, readsD, firstBits, secondBits};
 ghost use Rattle.neon.specs.Refusal.{mostNodes, formNumber};
-ghost use Rattle.trees.specs.Neon.{neonValue, resultTree};
+ghost use Rattle.trees.specs.Trees.{neonValue, resultTree};
 ghost use Rattle.pool.specs.Growth.{Room};
 ghost use Rattle.lower.specs.Builds.{Lowers, Below, read, readIf, withLower};
 ghost use Rattle.lower_neon.specs.Family.{readsSecond, readsOld, keepsLower, oldWidth, firstWidth, secondWidth, FamilyIn};

@@ -13,8 +13,10 @@ use Rattle.pool_nodes.specs.Builders.{Takes}
 use Rattle.pool.proofs.Steps.{start, step, finish, spare}
 use Rattle.trees.specs.declared.SaturatingKind.{SaturatingKind}
 use Rattle.trees.specs.declared.SaturatingKind.the-variants.{AddSub, Halving, Narrow, ShiftNarrow, DoublingMultiplyHigh, Unary}
-use Rattle.trees.specs.Simd.{extractLane, concatLanes}
-use Rattle.trees.specs.Arith.{saturatingAt, keepLower, saturatingLane, saturatingLanes, kindBits}
+use Rattle.trees.specs.Simd.{concatLanes}
+use Rattle.trees.specs.Arith.{kindBits}
+use Rattle.trees.specs.Trees.{extractLane, saturatingAt, keepLower, saturatingLane, saturatingLanes}
+use Rattle.trees.specs.Arith as Arith
 use Rattle.lower_simd.specs.Cut.{MadeLane}
 use Rattle.lower.specs.Builds.{BuildsIf, BuildsCut, Lowers, read, readIf, unread, withLower}
 use Rattle.lower.proofs.Lanes.{lane-fits, lane-of, kept-below}
@@ -52,7 +54,7 @@ at-two {first = first} {second = second} {n = n} {lanes = lanes} {j = j} kind si
 
 -- the kinds of one source do not look at a second
 no-second : (kind : SaturatingKind) → usesSecond kind ≡ false → (a b c : Expr) (n : ℕ) (signed : Bool) → saturatingLane kind a b n signed ≡ saturatingLane kind a c n signed
-unfolding saturatingLane
+unfolding Arith.saturatingLane
 no-second (AddSub op to) q a b c n signed = absurd (false≢true (sym q))
 no-second (Halving rounding) q a b c n signed = absurd (false≢true (sym q))
 no-second (Narrow to) q a b c n signed = refl
@@ -114,7 +116,7 @@ module _ {w0 : List ℕ} {k : ℕ} {w1 : List ℕ} {r1 : Built} {first second d 
       → BuildsCut w1 (r1 .count) w2 r2 2 (r1 .node) (n * lanes) true d (n * lanes * 2) (withLower true (n * lanes)) (λ v x. keepLower true v x n lanes)
       → Lowers w0 k w2 r2 (19 * lanes + 2) (withLower upper (n * lanes)) (readIf upper d (n * lanes * 2)) (read first (kindBits kind n * lanes))
       (readIf (usesSecond kind) second (kindBits kind n * lanes)) (λ d a b. saturatingLanes kind signed upper a b d n lanes) []
-  unfolding saturatingLanes
+  unfolding Arith.saturatingLanes
   with-lower q e1 e2 = rw q (kept-below true n lanes e1 e2)
 
   pub alone : upper ≡ false
@@ -122,5 +124,5 @@ module _ {w0 : List ℕ} {k : ℕ} {w1 : List ℕ} {r1 : Built} {first second d 
       (λ d a b. concatLanes (lanes - 1) (saturatingAt kind signed n a b)) []
       → Lowers w0 k w1 r1 (19 * lanes + 2) (withLower upper (n * lanes)) (readIf upper d (n * lanes * 2)) (read first (kindBits kind n * lanes))
       (readIf (usesSecond kind) second (kindBits kind n * lanes)) (λ d a b. saturatingLanes kind signed upper a b d n lanes) []
-  unfolding saturatingLanes
+  unfolding Arith.saturatingLanes
   alone q e = rw q (record { sized = omega (arith, e .sized); made = λ {td} v x y z. e .made {td = td} v (λ u. absurd (false≢true u)) y z })

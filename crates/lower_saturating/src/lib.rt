@@ -11,7 +11,8 @@ ghost use mathlib.Core.List.{[]};
 ghost use Prim.Native.Nat.{_+_, _-_, _*_, _≤_, _<_};
 ghost use Rattle.pool.specs.Growth.{Room};
 ghost use Rattle.trees.specs.Simd.{concatLanes};
-ghost use Rattle.trees.specs.Arith.{saturatingAt, saturatingLanes, kindBits};
+ghost use Rattle.trees.specs.Arith.{kindBits};
+ghost use Rattle.trees.specs.Trees.{saturatingAt, saturatingLanes};
 ghost use Rattle.lower.specs.Builds.{Lowers, read, readIf, unread, Below, withLower};
 ghost use Rattle.lower_kinds.specs.Sources.{usesSecond, KindIn};
 

@@ -14,7 +14,9 @@ use Rattle.trees.specs.declared.Saturate.{Saturate}
 use Rattle.trees.specs.declared.Saturate.the-variants.{Never, Into}
 use Rattle.trees.specs.declared.SaturatingKind.{SaturatingKind}
 use Rattle.trees.specs.declared.SaturatingKind.the-variants.{AddSub, Halving, Narrow, ShiftNarrow, DoublingMultiplyHigh, Unary}
-use Rattle.trees.specs.Arith.{clamp, exactLane, exactBits, kindTo, saturatingLane, kindBits}
+use Rattle.trees.specs.Arith.{exactLane, exactBits, kindTo, kindBits}
+use Rattle.trees.specs.Trees.{clamp, saturatingLane}
+use Rattle.trees.specs.Arith as Arith
 use Rattle.lower.specs.Builds.{Builds1, BuildsIf}
 use Rattle.lower_kinds.specs.Sources.{usesSecond}
 use Rattle.lower_exact.proofs.Exactly.{then-if, same-tree}
@@ -43,7 +45,7 @@ narrowed-into q e = rw q e
 -- a lane is its exact value, narrowed; the value that is cut without a clamp is a shift, which is no Extract
 lane-of : (kind : SaturatingKind) (n : ℕ) (signed : Bool) (a b : Expr)
     → saturatingLane kind a b n signed ≡ narrowedPlain (exactLane kind a b n signed) (exactBits kind n) n (kindTo kind)
-unfolding saturatingLane
+unfolding Arith.saturatingLane
 lane-of (AddSub op to) n signed a b = refl
 lane-of (Halving rounding) n signed a b = refl
 lane-of (Narrow to) n signed a b = refl

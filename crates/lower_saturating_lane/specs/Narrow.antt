@@ -3,7 +3,7 @@ use Prim.Native.Nat.{ℕ, _-_}
 use Rattle.terms.specs.Expr.{Expr, Extract}
 use Rattle.trees.specs.declared.Saturate.{Saturate}
 use Rattle.trees.specs.declared.Saturate.the-variants.{Never, Into}
-use Rattle.trees.specs.Arith.{clamp}
+use Rattle.trees.specs.Trees.{clamp}
 
 abbrev pub narrowedPlain : (value : Expr) (wide n : ℕ) → Saturate → Expr
 narrowedPlain value wide n Never = Extract value (n - 1) 0

@@ -12,8 +12,10 @@ use Rattle.pool.specs.declared.Built.{Built}
 use Rattle.pool.proofs.Steps.{start, step, finish, spare}
 use Rattle.trees.specs.declared.ShiftKind.{ShiftKind}
 use Rattle.trees.specs.declared.ShiftKind.the-variants.{LeftImmediate, RightImmediate, Register}
-use Rattle.trees.specs.Simd.{extractCollapsing, extractLane}
-use Rattle.trees.specs.Arith.{shiftAt, signedAmount, shiftedBy, shiftLane}
+use Rattle.trees.specs.Simd.{extractCollapsing}
+use Rattle.trees.specs.Trees.{extractLane, shiftAt, signedAmount, shiftedBy}
+use Rattle.trees.specs.Simd as Simd
+use Rattle.trees.specs.Arith as Arith
 use Rattle.pool_nodes.specs.Builders.{MadeSignExtend}
 use Rattle.lower_simd.specs.Cut.{MadeCut, MadeLane}
 use Rattle.trees.proofs.Cuts.{cut-cut}
@@ -26,7 +28,7 @@ pub amount-byte : {w0 w1 w2 : List ℕ} {k : ℕ} {r1 r2 : Built} {second : Node
     → MadeCut w0 k w1 r1 second (7 + n * j) (n * j)
     → MadeSignExtend w1 (r1 .count) w2 r2 (r1 .node) n
     → MadeAmount w0 k w2 r2 second n j
-unfolding extractLane
+unfolding Simd.extractLane
 amount-byte {n = n} {j = j} h m cut wide =
     record {
       sized = omega (arith, cut .sized, wide .sized);
@@ -48,7 +50,7 @@ pub at-register : {w0 w1 w2 w3 : List ℕ} {k : ℕ} {r1 r2 r3 : Built} {first s
     → MadeAmount w1 (r1 .count) w2 r2 second n j
     → BuildsIf w2 (r2 .count) w3 r3 21 (r1 .node) n (isRegister kind) (r2 .node) n n (λ v a. shiftedBy kind signed v a n)
     → Lowers w0 k w3 r3 24 n unread (read first (n * lanes)) (readIf (isRegister kind) second (n * lanes)) (λ d a b. shiftAt kind signed n a b j) []
-unfolding shiftLane
+unfolding Arith.shiftLane
 at-register {first = first} {second = second} {n = n} {lanes = lanes} {j = j} kind signed h b q e1 e2 e3 =
     let fits : n * j + n ≤ n * lanes = lane-fits n j lanes h (omega arith) in
     record {
@@ -73,7 +75,7 @@ pub at-immediate : {w0 w1 w2 : List ℕ} {k : ℕ} {r1 r2 : Built} {first second
     → MadeLane w0 k w1 r1 first n j
     → BuildsIf w1 (r1 .count) w2 r2 21 (r1 .node) n (isRegister kind) (r1 .node) n n (λ v a. shiftedBy kind signed v a n)
     → Lowers w0 k w2 r2 24 n unread (read first (n * lanes)) (readIf (isRegister kind) second (n * lanes)) (λ d a b. shiftAt kind signed n a b j) []
-unfolding shiftLane
+unfolding Arith.shiftLane
 at-immediate {first = first} {second = second} {n = n} {lanes = lanes} {j = j} kind signed h b q e1 e2 =
     let fits : n * j + n ≤ n * lanes = lane-fits n j lanes h (omega arith) in
     record {

@@ -2,8 +2,7 @@
 use mathlib.Core.List.{List, []}
 use Prim.Native.Nat.{ℕ, _+_, _*_, _≤_}
 use Rattle.terms.specs.Expr.{Expr}
-use Rattle.trees.specs.Simd.{extractLane}
-use Rattle.trees.specs.Arith.{signedAmount}
+use Rattle.trees.specs.Trees.{extractLane, signedAmount}
 use Rattle.pool.specs.declared.Node.{Node}
 use Rattle.pool.specs.declared.Built.{Built}
 use Rattle.pool.specs.Rules.{Valid}

@@ -9,7 +9,7 @@ use trees::ShiftKind;
 ghost use mathlib.Core.List.{[]};
 ghost use Prim.Native.Nat.{_+_, _*_, _≤_, _<_};
 ghost use Rattle.pool.specs.Growth.{Room};
-ghost use Rattle.trees.specs.Arith.{shiftAt, shiftLanes};
+ghost use Rattle.trees.specs.Trees.{shiftAt, shiftLanes};
 ghost use Rattle.lower.specs.Builds.{Lowers, read, readIf, unread, Below};
 ghost use Rattle.lower_kinds.specs.Sources.{isRegister, AmountIn};
 ghost use Rattle.lower_shift.specs.Lanes.{MadeAmount};

@@ -13,7 +13,9 @@ use Rattle.pool.specs.declared.Built.{Built}
 use Rattle.pool_nodes.specs.Builders.{MadeConst, MadeBv}
 use Rattle.pool.proofs.Steps.{start, step, finish, given, spare}
 use Rattle.trees.specs.Simd.{concatLanes}
-use Rattle.trees.specs.Arith.{insertAt, keptBits, shiftInsertLane, shiftInsertLanes}
+use Rattle.trees.specs.Arith.{keptBits, shiftInsertLane}
+use Rattle.trees.specs.Trees.{insertAt, shiftInsertLanes}
+use Rattle.trees.specs.Arith as Arith
 use Rattle.lower_simd.specs.Cut.{MadeLane}
 use Rattle.lower.specs.Builds.{Lowers, read, unread}
 use Rattle.lower.proofs.Lanes.{source-kept, lane-fits}
@@ -71,7 +73,7 @@ pub inserted-all : {w0 w1 w2 : List ℕ} {k : ℕ} {r1 r2 : Built} {first d : No
     → Lowers w1 (r1 .count) w2 r2 (7 * lanes) (n * lanes) (read d (n * lanes)) (read first (n * lanes)) (read (r1 .node) n)
     (λ d a s. concatLanes (lanes - 1) (insertAt left kept n d a s)) ((r1 .node) .0 ∷ [])
     → Lowers w0 k w2 r2 (7 * lanes + 1) (n * lanes) (read d (n * lanes)) (read first (n * lanes)) unread (λ d a b. shiftInsertLanes left shift a d n lanes) []
-unfolding shiftInsertLane shiftInsertLanes
+unfolding shiftInsertLane Arith.shiftInsertLanes
 inserted-all {n = n} {shift = shift} left lanes l m h e e1 e2 =
     rw (← e)
     (record {

@@ -11,7 +11,8 @@ ghost use Prim.Native.Nat.{_+_, _*_, _-_, _≤_, _<_, _^_};
 ghost use Rattle.pool.specs.Growth.{Room};
 ghost use Rattle.trees.specs.Simd.{concatLanes};
 ghost use Rattle.trees.specs.Lower.{unsignedMax};
-ghost use Rattle.trees.specs.Arith.{insertAt, keptBits, shiftInsertLanes};
+ghost use Rattle.trees.specs.Arith.{keptBits};
+ghost use Rattle.trees.specs.Trees.{insertAt, shiftInsertLanes};
 ghost use Rattle.lower.specs.Builds.{Lowers, read, unread};
 
 // A mask of the low bits, none for SLI by 0 and for SRI by the whole lane. The test is the Rust's, whose unsigned_max gives nothing

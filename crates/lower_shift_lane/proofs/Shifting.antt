@@ -17,7 +17,9 @@ use Rattle.pool.proofs.Steps.{start, step, finish, given}
 use Rattle.trees.specs.declared.Saturate.{Saturate}
 use Rattle.trees.specs.declared.ShiftKind.{ShiftKind}
 use Rattle.trees.specs.declared.ShiftKind.the-variants.{LeftImmediate, RightImmediate, Register}
-use Rattle.trees.specs.Arith.{roundingBits, shiftRight, leftImmediate, leftBy, registerShiftMax, shiftedBy}
+use Rattle.trees.specs.Arith.{roundingBits, leftBy, registerShiftMax}
+use Rattle.trees.specs.Trees.{shiftRight, leftImmediate, shiftedBy}
+use Rattle.trees.specs.Arith as Arith
 use Rattle.lower.specs.Builds.{Builds1, Builds2, BuildsIf, MadeExtend}
 use Rattle.lower_kinds.specs.Sources.{isRegister}
 
@@ -62,7 +64,7 @@ pub rounded-shift : {w0 w1 w2 w3 w4 w5 w6 w7 w8 : List ℕ} {k : ℕ} {r1 r2 r3 
     → MadeBv w6 (r6 .count) w7 r7 op (r6 .node) (r1 .node)
     → MadeExtract w7 (r7 .count) w8 r8 (r7 .node) (n - 1) 0
     → Builds2 w0 k w8 r8 8 value n amount n n (λ v a. shiftRight v a n signed true most) (value .0 ∷ amount .0 ∷ [])
-unfolding shiftRight
+unfolding Arith.shiftRight
 rounded-shift {value = value} {amount = amount} {n = n} {wide = wide} most l e f a b e1 e2 e3 e4 e5 e6 e7 e8 =
     let w : 1 ≤ wide = omega arith in
     let one-fits : 1 < 2 ^ wide = small 1 1 wide (omega arith) w in
@@ -93,7 +95,7 @@ pub right-plain : {w0 w1 : List ℕ} {k : ℕ} {r1 : Built} {value amount : Node
     → op ≡ cond signed AShr LShr
     → MadeBv w0 k w1 r1 op value amount
     → Builds2 w0 k w1 r1 8 value n amount n n (λ v a. shiftRight v a n signed rounding most) (value .0 ∷ amount .0 ∷ [])
-unfolding shiftRight
+unfolding Arith.shiftRight
 right-plain signed rounding most l m q f e1 = rw (q, ← f) (one-op (omega arith) l m e1)
 
 -- ---- by a register

@@ -18,7 +18,8 @@ use Rattle.trees.specs.declared.SaturateTo.the-variants.{Signed, Unsigned, Sign
 use Rattle.trees.specs.declared.Saturate.{Saturate}
 use Rattle.trees.specs.declared.Saturate.the-variants.{Never, Into}
 use Rattle.trees.specs.Lower.{unsignedMax}
-use Rattle.trees.specs.Arith.{shiftBound, saturatingShiftLeft, leftImmediate, leftBy}
+use Rattle.trees.specs.Arith.{shiftBound, saturatingShiftLeft, leftBy}
+use Rattle.trees.specs.Trees.{leftImmediate}
 use Rattle.lower.specs.Builds.{Builds1, Builds2}
 use Rattle.lower_shift_lane.proofs.Shifting.{one-op, by-constant}
 

@@ -14,7 +14,8 @@ ghost use Prim.Native.Nat.{_≤_, _<_};
 ghost use Rattle.pool.specs.Growth.{Room};
 ghost use Rattle.trees.specs.declared.Saturate.{Saturate};
 ghost use Rattle.trees.specs.declared.SaturateTo.{SaturateTo};
-ghost use Rattle.trees.specs.Arith.{shiftBound, saturatingShiftLeft, leftImmediate, leftBy};
+ghost use Rattle.trees.specs.Arith.{shiftBound, saturatingShiftLeft, leftBy};
+ghost use Rattle.trees.specs.Trees.{leftImmediate};
 ghost use Rattle.lower.specs.Builds.{Builds1, Builds2};
 
 // The end of the range that a saturating left shift clamps to: the one on the side of its sign.

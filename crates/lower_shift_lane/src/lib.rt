@@ -8,7 +8,7 @@ use trees::ShiftKind;
 ghost use mathlib.Core.List.{[], _∷_};
 ghost use Prim.Native.Nat.{_≤_, _<_};
 ghost use Rattle.pool.specs.Growth.{Room};
-ghost use Rattle.trees.specs.Arith.{shiftedBy};
+ghost use Rattle.trees.specs.Trees.{shiftedBy};
 ghost use Rattle.lower.specs.Builds.{Builds2, BuildsIf};
 ghost use Rattle.lower_kinds.specs.Sources.{isRegister, AmountIn};
 

@@ -9,7 +9,8 @@ ghost use mathlib.Core.Bool.{true};
 ghost use mathlib.Core.List.{[], _∷_};
 ghost use Prim.Native.Nat.{_+_, _≤_, _<_};
 ghost use Rattle.pool.specs.Growth.{Room};
-ghost use Rattle.trees.specs.Arith.{roundingBits, shiftRight};
+ghost use Rattle.trees.specs.Arith.{roundingBits};
+ghost use Rattle.trees.specs.Trees.{shiftRight};
 ghost use Rattle.lower.specs.Builds.{Builds2};
 
 // The width of a rounding shift's sum: one bit above the lane and the largest amount, so that the half that is added stands below the sign.

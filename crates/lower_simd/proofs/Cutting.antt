@@ -21,7 +21,8 @@ use Rattle.pool.proofs.Laws.{unfold-step}
 use Rattle.pool.proofs.Facts.{kind-code, valid-node, ExtractRule, extract-rule}
 use Rattle.pool.proofs.Steps.{forget}
 use Rattle.pool_rules.proofs.Kept.{Ok, most-bad, most-var, most-const, most-bv, most-compare, most-ite, most-extract, most-concat, most-zext}
-use Rattle.trees.specs.Simd.{extractCollapsing as cut, extractLane}
+use Rattle.trees.specs.Simd.{extractCollapsing as cut}
+use Rattle.trees.specs.Simd as Simd
 use Rattle.lower_simd.specs.Cut.{risesAt, Source, CutFrom, MadeCut, MadeLane}
 
 -- ---- no width of a valid pool is above 129
@@ -169,5 +170,5 @@ cut-built {hi = hi} {lo = lo} {by = by} c d =
 
 pub lane-built : {old : List ℕ} {k : ℕ} {new : List ℕ} {r : Built} {value : Node} {bits index : ℕ} → 1 ≤ bits → MadeCut old k new r value (bits * index + bits - 1) (bits * index)
     → MadeLane old k new r value bits index
-unfolding extractLane
+unfolding Simd.extractLane
 lane-built b d = record { sized = d .sized; made = λ v l x. d .made v (omega arith) (omega arith) x }

@@ -12,7 +12,8 @@ use Rattle.pool_fields.specs.Fields.{opA}
 use Rattle.pool.specs.Rules.{Valid}
 use Rattle.pool.specs.Growth.{NodeIs}
 use Rattle.pool_nodes.specs.Builders.{Takes, Makes}
-use Rattle.trees.specs.Simd.{extractCollapsing, extractLane}
+use Rattle.trees.specs.Simd.{extractCollapsing}
+use Rattle.trees.specs.Trees.{extractLane}
 
 -- a cut of node v up to bit hi rises where v is an Extract
 abbrev pub risesAt : List ℕ → ℕ → ℕ → Bool

@@ -17,32 +17,35 @@ ghost use Rattle.lower_simd.specs.Cut.{risesAt, CutFrom, MadeCut, MadeLa
 // The node that a cut is taken from, and by how much its bits rise.
 pub struct Cut {
     pub node: Node,
-    pub by: u64,
+    pub by: Bit,
 }
 
 // Whether a cut of `value` up to the bit hi rises: `value` is an Extract itself. In a valid pool the operand is below it and the bits stay
 // below 129; of a damaged one the tests see to that.
-fn rises(pool: &[u64], value: Node, hi: u64) -> bool
-    requires { ⌜ (4 * value .0 + 3 < length (now pool)) × (hi ≤ 128) ⌝ }
-    ensures { λ r. ⌜ r ≡ risesAt (now (pool .entry)) (value .0) hi ⌝ }
+fn rises(pool: &[u64], value: Node, hi: Bit) -> bool
+    requires { ⌜ (4 * value .0 + 3 < length (now pool)) × (hi .0 ≤ 128) ⌝ }
+    ensures { λ r. ⌜ r ≡ risesAt (now (pool .entry)) (value .0) (hi .0) ⌝ }
 {
     (kind_of(pool, value) == Kind::EXTRACT)
         & (first(pool, value).0 < value.0)
-        & (cut_lo(pool, value).0 <= 128 - hi)
+        & (cut_lo(pool, value).0 <= 128 - hi.0)
 }
 
 // From where a cut of `value` up to the bit hi is taken: past every Extract.
 pub fn cut_from(pool: &[u64], value: Node, hi: Bit) -> Cut
     requires { ⌜ (4 * value .0 + 3 < length (now pool)) × (hi .0 ≤ 128) ⌝ }
-    ensures { λ r. ⌜ CutFrom (now (pool .entry)) (value .0) (hi .0) (r .node .0) (r .by) ⌝ }
+    ensures { λ r. ⌜ CutFrom (now (pool .entry)) (value .0) (hi .0) (r .node .0) (r .by .0) ⌝ }
 {
     let mut at = value.0;
     let mut by = 0;
-    while rises(pool, Node(at), hi.0 + by) {
+    while rises(pool, Node(at), Bit(hi.0 + by)) {
         by += cut_lo(pool, Node(at)).0;
         at = first(pool, Node(at)).0;
     }
-    Cut { node: Node(at), by }
+    Cut {
+        node: Node(at),
+        by: Bit(by),
+    }
 }
 
 // The bits hi to lo of `value`: of a lane, inside a lane or of a low half.
@@ -56,8 +59,8 @@ pub fn extract_collapsing(pool: &mut [u64], count: usize, value: Node, hi: Bit, 
         pool,
         count,
         from.node,
-        Bit(hi.0 + from.by),
-        Bit(lo.0 + from.by),
+        Bit(hi.0 + from.by.0),
+        Bit(lo.0 + from.by.0),
     )
 }
 

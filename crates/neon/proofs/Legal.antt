@@ -10,16 +10,7 @@ use Rattle.facts.proofs.Tests.{and-both, passed}
 use Rattle.neon.specs.declared.Instruction.{Instruction}
 use Rattle.neon.specs.Op.{Op, isOperation, opAt, Arrangement, isArrangement, arrangementAt, laneBits}
 use Rattle.neon.specs.Form.{hasForm, least, most, hasSecond}
-use Rattle.neon.specs.Refusal.{formNumber, shortElement, mostM, registersOk, recordNumber, Legal}
-
--- the operation, the form and the immediate are of the table
-pub record Formed (operation arrangement i : ℕ) : Type 0 where
-  pub from-one : 1 ≤ operation
-  pub to-last : operation ≤ 67
-  pub arranged : arrangement ≤ 6
-  pub row : hasForm (opAt operation) (arrangementAt arrangement) ≡ true
-  pub low : least (opAt operation) ≤ i
-  pub high : i ≤ most (opAt operation) (laneBits (arrangementAt arrangement))
+use Rattle.neon.specs.Refusal.{formNumber, Formed, shortElement, mostM, registersOk, recordNumber, Legal}
 
 pub formed : (operation arrangement i rest : ℕ) → formNumber operation arrangement i rest ≡ 0 → Formed operation arrangement i × (rest ≡ 0)
 formed operation arrangement i rest e =

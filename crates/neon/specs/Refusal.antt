@@ -33,6 +33,15 @@ formNumber operation arrangement i rest =
     unless (isOperation operation) 2
     (unless (isArrangement arrangement && hasForm o v) 3 (unless (leb (least o) i && leb i (most o (laneBits v))) 4 rest))
 
+-- the operation, the form and the immediate are of the table: none of these is given
+pub record Formed (operation arrangement i : ℕ) : Type 0 where
+  pub from-one : 1 ≤ operation
+  pub to-last : operation ≤ 67
+  pub arranged : arrangement ≤ 6
+  pub row : hasForm (opAt operation) (arrangementAt arrangement) ≡ true
+  pub low : least (opAt operation) ≤ i
+  pub high : i ≤ most (opAt operation) (laneBits (arrangementAt arrangement))
+
 -- The encodings by an element have five bits M, Rm for the register and two, H, L, for the index. An element of 32 bits is one of four,
 -- and H:L is its index. One of 16 bits is one of eight: its index is H:L:M, so the register's top bit belongs to the index, and Rm alone
 -- names v0 to v15. The element has half the bits of a lane of the result.

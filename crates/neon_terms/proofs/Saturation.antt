@@ -9,7 +9,7 @@ use Rattle.wide.specs.Registers.{registersOf}
 use Rattle.block_results.proofs.Putting.{flagged-node, flagged-bit}
 use Rattle.saturation_block.proofs.Equal as flagged
 use Rattle.run_agreement.proofs.Equal.{runner-is-flagged}
-use Rattle.neon_terms.specs.Demand.{BitHolds, FlaggedRegistersHold, FlaggedRefusedWhole, RunnerAgrees}
+use Rattle.neon_terms.specs.Demand.{BitHolds, FlaggedRegistersHold, FlaggedEqualWhenTermsAre, FlaggedRefusedWhole, RunnerAgrees}
 
 pub bit-holds : BitHolds
 bit-holds old cs new results number (a, answered, same, words) z start =
@@ -20,6 +20,12 @@ pub flagged-registers-hold : FlaggedRegistersHold
 flagged-registers-hold old cs new results number (a, answered, same, words) z start r l =
     flagged.registers-hold old cs new a answered (sym same ∙ z) start r l
     ∙ ap (λ (n : ℕ). value start (unfoldAt new n)) (sym (ap (λ (ws : List ℕ). getD ws r 0) words ∙ flagged-node (a .map) (a .position) (a .bit .0) r l))
+
+pub flagged-equal-when-terms-are : FlaggedEqualWhenTermsAre
+flagged-equal-when-terms-are old cs new results number h z old′ cs′ new′ results′ number′ h′ z′ start r r′ l l′ =
+    let p = flagged-registers-hold old cs new results number h z start r l in
+    let q = flagged-registers-hold old′ cs′ new′ results′ number′ h′ z′ start r′ l′ in
+    (λ e. sym p ∙ e ∙ q, λ e. p ∙ e ∙ sym q)
 
 pub flagged-refused-whole : FlaggedRefusedWhole
 flagged-refused-whole old cs new results number (a, answered, same, words) c m f =

@@ -9,17 +9,18 @@ use lib.ListN.{length}
 use borrow.Author.Tests.{le-leb, leb-true}
 use Rattle.terms.specs.Value.{bit}
 use Rattle.neon.specs.declared.Instruction.{Instruction}
-use Rattle.neon.specs.Refusal.{Refusal, reserve, mostRecords, sizeNumber, blockRefusal}
+use Rattle.neon.specs.Refusal.{Refusal, reserve, mostRecords, countNumber, sizeNumber, blockRefusal}
 use Rattle.pool.specs.Node.{places}
 use Rattle.block_check.proofs.Refusals.{block-legal, legal-by, by-records}
 use Rattle.wide.specs.Registers.{registersOf}
 use Rattle.block.proofs.Equal.{registers-hold}
 use Rattle.evaluate_blocks.proofs.Equal.{evaluated-is-run}
 use Rattle.run_block.specs.Run.{runRefusal}
+use Rattle.saturation.proofs.Block.{block-bit-is}
 use Rattle.saturation_block.specs.Size.{flagSize, flagRefusal}
 use Rattle.saturation_block.proofs.Done.{flag-legal}
 use Rattle.saturation_block.proofs.Equal as flagged
-use Rattle.run_agreement.specs.Demand.{SameRefusal, RunnerIsArm, RunnerIsTerms, RunnerIsEvaluator, RunnerIsFlagged}
+use Rattle.run_agreement.specs.Demand.{SameRefusal, RunnerIsArm, RunnerIsTerms, RunnerIsEvaluator, RunnerIsFlagged, RunnerIsBit}
 
 pub same-refusal : SameRefusal
 unfolding blockRefusal sizeNumber
@@ -61,3 +62,8 @@ runner-is-flagged old cs pool a h z start number position new saturated p q =
       λ r l. p .ran done r l ∙ flagged.registers-hold old cs pool a h z (registersOf start) r l,
       ap bit (q .ran done) ∙ sym (flagged.bit-holds old cs pool a h z (registersOf start)),
     )
+
+pub runner-is-bit : RunnerIsBit
+runner-is-bit start cs number position new saturated p q z =
+    let legal = legal-by (countNumber (length cs) 0) cs (sym (p .number-is) ∙ z) .1 in
+    ap bit (q .ran z) ∙ sym (block-bit-is (registersOf start) cs legal .val)

@@ -5,7 +5,7 @@ use mathlib.Core.List.{List}
 use mathlib.Core.Path.{_≡_}
 use Prim.Native.Nat.{ℕ, _+_, _*_, _≤_, _<_}
 use lib.ListN.{length}
-use Rattle.terms.specs.Value.{bit}
+use Rattle.terms.specs.Value.{value, bit}
 use Rattle.neon.specs.declared.Instruction.{Instruction}
 use Rattle.neon.specs.Refusal.{reserve, mostRecords, blockRefusal}
 use Rattle.neon.specs.Run.{armRun}
@@ -18,6 +18,7 @@ use Rattle.evaluate.specs.declared.Evaluated.{Evaluated}
 use Rattle.evaluate.specs.Visits.{visitsAt}
 use Rattle.evaluate.specs.Answer.{found}
 use Rattle.evaluate.specs.Answer as evaluate
+use Rattle.saturation.specs.Bits.{blockBit}
 use Rattle.run_block.specs.Run.{runRefusal, RunAnswered, FlagAnswered}
 use Rattle.saturation_block.specs.declared.SaturationAnswer.{SaturationAnswer}
 use Rattle.saturation_block.specs.Block as flagged
@@ -59,3 +60,11 @@ RunnerIsFlagged =
     → (number ≡ 0)
     × ((r : ℕ) → r < 32 → registersOf new r ≡ flagged-demand.termValue (registersOf start) pool a r)
     × (bit saturated ≡ flagged-demand.bitValue (registersOf start) pool a)
+
+-- at every length that the runner accepts, its bit is the value of the block's saturation term
+abbrev pub RunnerIsBit : Type 0
+RunnerIsBit =
+    (start : List ℕ) (cs : List Instruction) (number position : ℕ) (new : List ℕ) (saturated : Bool) → RunAnswered start cs number position new
+    → FlagAnswered start cs number saturated
+    → number ≡ 0
+    → bit saturated ≡ value (registersOf start) (blockBit cs)

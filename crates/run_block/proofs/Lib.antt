@@ -1,5 +1,4 @@
--- A record and a block on the registers; the rows of the families; the flag.
+-- A record and a block on the registers; the rows of the families.
 pub mod Running
 pub mod Rows
 pub mod Runs
-pub mod Flag

@@ -8,12 +8,12 @@ use family::second_by;
 use family::skip_by;
 use family::source_by;
 use neon::Instruction;
+use neon::Lane;
 ghost use mathlib.Core.Path.{_≡_};
 ghost use Prim.Native.Nat.{_<_};
 ghost use Rattle.neon.specs.Op.{opAt, arrangementAt};
 ghost use Rattle.neon.specs.Run.{readBits};
-ghost use Rattle.neon.proofs.Legal.{Formed};
-ghost use Rattle.neon.specs.Refusal.{Legal, AllLegal};
+ghost use Rattle.neon.specs.Refusal.{Formed, Legal, AllLegal};
 ghost use Rattle.block_check.specs.Records.{recordsOf};
 ghost use Rattle.run_block.specs.Run.{Short, Placed, ResultOf, SteppedBy, RanBy, RunAnswered, FlagAnswered};
 ghost use Rattle.run_block.specs.Lanes.{number, Written};
@@ -92,7 +92,7 @@ fn result_of(operation: u64, arrangement: u64, i: u64, d: Register, a: Register,
         k,
         skip_by(y, k),
         y.element,
-        i,
+        Lane(i),
         old,
         first,
         second,

@@ -16,9 +16,10 @@ use Rattle.wide.proofs.Words.{num-lt}
 use Rattle.wide.proofs.Digits.{low-cut}
 use Rattle.saturation.specs.Saturates.{outside}
 use Rattle.saturation.specs.Family.{rightZ, turnZ, joinZ}
-use Rattle.trees_value.proofs.Z.{up, dn, less, neg-up, neg-dn, ext, ge-is}
+use Rattle.trees_value.specs.Fits.{up, dn, FitsS}
+use Rattle.trees_value.proofs.Z.{less, neg-up, neg-dn, ext, ge-is}
 use Rattle.trees_value.proofs.Wrap.{half, wrap-is}
-use Rattle.trees_value.proofs.Bv.{FitsS, wrap-pos, add-is, sub-is, mul-is, shl-is, ashr-is, slt-is, cut-is}
+use Rattle.trees_value.proofs.Bv.{wrap-pos, add-is, sub-is, mul-is, shl-is, ashr-is, slt-is, cut-is}
 use Rattle.trees_value.proofs.Clamp.{S-fits, floor-fits}
 use Rattle.trees_value.proofs.Sat.{sumS, lessS, doubled-fits}
 use Rattle.trees_value.proofs.Register.{wider, scaled-fits, rounded-fits}

@@ -10,7 +10,7 @@ use Rattle.trees.specs.declared.Saturate.{Saturate}
 use Rattle.neon.specs.Arm.{wrap, byte, scale, clampZ}
 use Rattle.saturation.specs.Saturates.{outside}
 use Rattle.saturation.specs.Family.{limited, beyondLimit, clampTo, beyondTo, joinZ, rightZ, turnZ, unaryZ}
-use Rattle.trees_value.proofs.Bv.{FitsS}
+use Rattle.trees_value.specs.Fits.{FitsS}
 use Rattle.wide.specs.declared.Wide.{Wide}
 use Rattle.wide.specs.Number.{num}
 

@@ -15,7 +15,7 @@ use Rattle.neon.specs.Refusal.{Legal, AllLegal}
 use Rattle.neon.proofs.Legal.{accepted}
 use Rattle.neon.proofs.Geometry.{sized, source-some, filled}
 use Rattle.trees.specs.Neon.{neonOp}
-use Rattle.trees.specs.Block.{treeStep}
+use Rattle.trees.specs.Trees.{treeStep}
 use Rattle.trees_value.proofs.Is.{Has}
 use Rattle.trees_value.proofs.Lanes.{lane-lt}
 use Rattle.trees_value.proofs.Lane.{sources}

@@ -14,7 +14,7 @@ use Rattle.trees.specs.declared.SaturateTo.the-variants.{Signed, Unsigned, Sign
 use Rattle.trees.specs.declared.SaturatingKind.the-variants.{AddSub, Narrow}
 use Rattle.trees_value.proofs.Z.{neg-up, neg-dn, ge-is}
 use Rattle.trees_value.proofs.Wrap.{half}
-use Rattle.trees_value.proofs.Bv.{FitsS, FitsU}
+use Rattle.trees_value.specs.Fits.{FitsS, FitsU}
 use Rattle.trees_value.proofs.Is.{Is, is-eq, is-const, is-negative, is-ite, says-slt, says-ult}
 use Rattle.trees_value.proofs.Sat.{sumU, lessU, applyZ, apply-fits, is-joined}
 use Rattle.saturation.specs.Saturates.{outside, beyondS, beyondU}

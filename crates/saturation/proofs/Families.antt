@@ -18,10 +18,10 @@ use Rattle.trees.specs.declared.Saturate.the-variants.{Into}
 use Rattle.trees.specs.declared.ShiftKind.the-variants.{LeftImmediate, Register}
 use Rattle.trees.specs.declared.SaturatingKind.the-variants.{ShiftNarrow, DoublingMultiplyHigh, Unary}
 use Rattle.trees.specs.declared.Combine.the-variants.{With}
-use Rattle.trees.specs.Arith.{signedAmount}
 use Rattle.trees.specs.Neon.{neonOp}
+use Rattle.trees.specs.Trees.{signedAmount}
 use Rattle.trees_value.proofs.Z.{ge-is}
-use Rattle.trees_value.proofs.Bv.{FitsS, FitsU, Fits}
+use Rattle.trees_value.specs.Fits.{FitsS, FitsU, Fits}
 use Rattle.trees_value.proofs.Is.{Is, Has, has-number, is-number, by-const, by-is, is-eq, is-const, is-then, is-else, says-slt}
 use Rattle.trees_value.proofs.Clamp.{floor-fits, clamp-fits, S-fits, is-reading}
 use Rattle.trees_value.proofs.Register.{turned, exact-fits, is-scaled, wider, byte-fits, is-amount, rounded-fits}

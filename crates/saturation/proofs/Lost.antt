@@ -15,7 +15,7 @@ use Rattle.neon.specs.Arm.{wrap}
 use Rattle.trees.specs.Arith.{shiftBy}
 use Rattle.trees_value.proofs.Z.{neg-up, neg-dn, ge-is, lt-no}
 use Rattle.trees_value.proofs.Wrap.{wrap-lt}
-use Rattle.trees_value.proofs.Bv.{Fits}
+use Rattle.trees_value.specs.Fits.{Fits}
 use Rattle.trees_value.proofs.Is.{Is, By, is-eq, is-const, is-shl, is-shift, is-then, is-else, says-eq}
 use Rattle.trees_value.proofs.Clamp.{reading, reading-fits, reading-wrap, reading-is, same, floor-fits}
 use Rattle.trees_value.proofs.Shift.{restored-is, floor-exact}

@@ -9,9 +9,8 @@ use Rattle.trees.specs.declared.NeonOp.the-variants.{Shift, ShiftInsert, MixedS
 use Rattle.trees.specs.Lower.{unsignedMax}
 use Rattle.neon.specs.Op.{Op, Arrangement, opAt, arrangementAt, laneBits, full}
 use Rattle.neon.specs.Form.{form, firstFull, secondFull, byElement, sourceBits, laneCount, firstLane, secondLane}
-use Rattle.trees.specs.Simd.{extractLane, concatLanes}
+use Rattle.trees.specs.Simd.{concatLanes}
 use Rattle.trees.specs.Neon.{neonOp}
-use Rattle.trees.specs.Block.{readTree, treeStep}
 use Rattle.terms.specs.declared.BinOp.the-variants.{Add, Or, Shl}
 use Rattle.terms.specs.declared.CmpOp.the-variants.{Eq, Ult, Slt}
 use Rattle.trees.specs.declared.SaturateTo.{SaturateTo}
@@ -23,7 +22,8 @@ use Rattle.trees.specs.declared.ShiftKind.the-variants.{LeftImmediate, RightImm
 use Rattle.trees.specs.declared.SaturatingKind.{SaturatingKind}
 use Rattle.trees.specs.declared.Combine.{Combine}
 use Rattle.trees.specs.declared.Combine.the-variants.{Nothing, With}
-use Rattle.trees.specs.Arith.{signedMax, shiftBy, joined, twice, scaled, exactLane, exactBits, kindTo, signedAmount, doublingProduct}
+use Rattle.trees.specs.Arith.{signedMax, shiftBy, joined, twice, scaled, exactLane, exactBits, kindTo}
+use Rattle.trees.specs.Trees.{extractLane, readTree, treeStep, signedAmount, doublingProduct}
 
 abbrev pub no : Expr
 no = Const 0 1

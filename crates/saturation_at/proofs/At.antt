@@ -18,8 +18,9 @@ use Rattle.trees.specs.declared.ShiftKind.{ShiftKind}
 use Rattle.trees.specs.declared.ShiftKind.the-variants.{LeftImmediate, RightImmediate, Register}
 use Rattle.trees.specs.declared.Combine.{Combine}
 use Rattle.trees.specs.declared.Combine.the-variants.{Nothing, With}
-use Rattle.trees.specs.Simd.{extractLane}
-use Rattle.trees.specs.Arith.{clamp, joined, twice, signedAmount, kindBits, doublingProduct}
+use Rattle.trees.specs.Arith.{joined, twice, kindBits}
+use Rattle.trees.specs.Trees.{extractLane, clamp, signedAmount}
+use Rattle.trees.specs.Arith as Arith
 use Rattle.lower_simd.specs.Cut.{MadeLane}
 use Rattle.lower.specs.Builds.{Builds1, Builds2, BuildsIf, Lowers, read, readIf, unread}
 use Rattle.lower.proofs.Lanes.{lane-of}
@@ -146,7 +147,7 @@ pub either : {w0 w1 w2 w3 w4 w5 : List ℕ} {k : ℕ} {r1 r2 r3 r4 r5 : Built} {
     → Builds2 w3 (r3 .count) w4 r4 12 d n (r3 .node) n 1 (λ d p. clipped (joined op d true p true (n + 1)) (n + 1) n Signed) (d .0 ∷ (r3 .node) .0 ∷ [])
     → MadeBv w4 (r4 .count) w5 r5 Or (r2 .node) (r4 .node)
     → Lowers w0 k w5 r5 34 1 (read d n) (read a (n / 2)) (read b (n / 2)) (λ d a b. doublingLongBit (With op) d a b n) (a .0 ∷ b .0 ∷ d .0 ∷ [])
-unfolding doublingLongBit doublingProduct
+unfolding doublingLongBit Arith.doublingProduct
 either {d = d} {a = a} {b = b} op n e1 e2 e3 e4 e5 =
     record {
       sized = omega (arith, e1 .sized, e2 .sized, e3 .sized, e4 .sized, e5 .sized);

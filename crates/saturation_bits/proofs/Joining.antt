@@ -15,8 +15,9 @@ use Rattle.trees.specs.declared.NeonShape.{NeonShape}
 use Rattle.trees.specs.declared.Saturate.{Saturate}
 use Rattle.trees.specs.declared.Saturate.the-variants.{Never}
 use Rattle.trees.specs.declared.SaturatingKind.{SaturatingKind}
-use Rattle.trees.specs.Simd.{extractLane, concatLanes}
+use Rattle.trees.specs.Simd.{concatLanes}
 use Rattle.trees.specs.Arith.{kindTo, sourceLane}
+use Rattle.trees.specs.Trees.{extractLane}
 use Rattle.lower.specs.Builds.{Source, Lowers, read, readIf, unread}
 use Rattle.lower_doubling_long.specs.Elements.{accumulates}
 use Rattle.trees.specs.declared.Combine.{Combine}

@@ -8,16 +8,17 @@ use Rattle.terms.specs.declared.CmpOp.the-variants.{Eq}
 use Rattle.neon.specs.Op.{Op, Arrangement, laneBits, full, bitsIf}
 use Rattle.neon.specs.Form.{form, firstFull, secondFull, byElement, sourceBits, most, laneCount, firstLane, secondLane}
 use Rattle.neon.proofs.Geometry.{sized, source-some, filled, inside, made-view, first-in, second-in}
-use Rattle.trees.specs.Simd.{extractCollapsing, extractLane, concatLanes}
+use Rattle.trees.specs.Simd.{extractCollapsing, concatLanes}
 use Rattle.trees.specs.Neon.{neonOp, shapeOf}
-use Rattle.trees.specs.Block.{readTree}
+use Rattle.trees.specs.Trees.{extractLane, readTree}
+use Rattle.trees.specs.Simd as Simd
 use Rattle.trees.proofs.Cuts.{cut-cut}
 use Rattle.saturation.specs.Bits.{yes, laneBit, saturable, bitAt, instructionBit, saturationTree}
 use Rattle.saturation_bits.specs.Lanes.{familyBit, laneAt}
 
 -- a lane of a low half is one of the register
 read-lane : (f : Bool) (t : Expr) (m x : ℕ) → 1 ≤ m → m * x + m ≤ bitsIf f → extractLane (readTree f t) m x ≡ extractLane t m x
-unfolding extractLane
+unfolding Simd.extractLane
 read-lane true t m x l h = refl
 read-lane false t m x l h =
     cut-cut t 63 0 (m * x + m - 1) (m * x) (omega arith)

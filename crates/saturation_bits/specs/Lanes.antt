@@ -6,8 +6,8 @@ use Rattle.terms.specs.Expr.{Expr}
 use Rattle.trees.specs.declared.NeonOp.{NeonOp}
 use Rattle.trees.specs.declared.NeonOp.the-variants.{Shift, ShiftInsert, MixedSignAdd, DoublingLong, Saturating, BitwiseUnary, AbsoluteDifference, HighNarrow}
 use Rattle.trees.specs.declared.NeonShape.{NeonShape}
-use Rattle.trees.specs.Simd.{extractLane}
 use Rattle.trees.specs.Arith.{kindBits, sourceLane}
+use Rattle.trees.specs.Trees.{extractLane}
 use Rattle.pool.specs.declared.Node.{Node}
 use Rattle.pool.specs.declared.Built.{Built}
 use Rattle.pool.specs.Rules.{Valid}

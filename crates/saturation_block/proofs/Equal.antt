@@ -9,7 +9,7 @@ use Rattle.terms.specs.Expr.{Expr, Var}
 use Rattle.terms.specs.Value.{value, bit}
 use Rattle.pool.specs.Node.{places}
 use Rattle.neon.specs.declared.Instruction.{Instruction}
-use Rattle.trees.specs.Block.{treeStep}
+use Rattle.trees.specs.Trees.{treeStep}
 use Rattle.block_map.specs.declared.RegisterMap.{RegisterMap}
 use Rattle.block_map.specs.Map.{firstMap, written}
 use Rattle.trees_value.proofs.Block.{block-is}

@@ -6,7 +6,7 @@ use Prim.Native.Nat.{ℕ, _*_, _≤_, _<_}
 use lib.ListN.{length, getD}
 use Rattle.terms.specs.Expr.{Var}
 use Rattle.neon.specs.declared.Instruction.{Instruction}
-use Rattle.trees.specs.Block.{treeRun}
+use Rattle.trees.specs.Trees.{treeRun}
 use Rattle.pool.specs.Node.{kindNumber, places, none}
 use Rattle.pool.specs.Rules.{poolOk}
 use Rattle.pool.specs.Growth.{Reach, NodeIs}

@@ -4,7 +4,7 @@ use Prim.Native.Nat.{ℕ}
 use Rattle.terms.specs.Expr.{Expr}
 use Rattle.neon.specs.Op.{opAt, arrangementAt, full}
 use Rattle.neon.specs.Form.{form, firstFull, secondFull, byElement}
-use Rattle.trees.specs.Block.{readTree}
+use Rattle.trees.specs.Trees.{readTree}
 use Rattle.pool.specs.declared.Node.{Node}
 use Rattle.pool.specs.declared.Built.{Built}
 use Rattle.pool.specs.Rules.{Valid}

@@ -13,7 +13,8 @@ use Rattle.block.specs.Block.{Started}
 use Rattle.block.proofs.Running.{start-is}
 use Rattle.pool.proofs.Laws.{cell-kept}
 use Rattle.neon.specs.declared.Instruction.{Instruction}
-use Rattle.trees.specs.Block.{treeStep, treeRun}
+use Rattle.trees.specs.Trees.{treeStep, treeRun}
+use Rattle.trees.specs.Block as Block
 use Rattle.pool.specs.Growth.{Reach, Grown}
 use Rattle.pool.proofs.Laws.{grown-refl, grown-trans, is-kept, reach-kept, reach-trans}
 use Rattle.block_map.specs.declared.RegisterMap.{RegisterMap}
@@ -29,7 +30,7 @@ use Rattle.saturation_step.specs.Step.{raised, FlagAdded, Flags}
 use Rattle.saturation_run.specs.Run.{FlagLowered, FlagRuns, FlagStarted}
 
 bit-more : (cs : List Instruction) (c : Instruction) (t : ℕ → Expr) (b : Expr) → bitRun (cs ++ c ∷ []) t b ≡ recordBit c (treeRun cs t) (bitRun cs t b)
-unfolding bitRun treeRun
+unfolding bitRun Block.treeRun
 bit-more [] c t b = refl
 bit-more (x ∷ cs) c t b = bit-more cs c (treeStep x t) (recordBit x t b)
 
@@ -63,7 +64,7 @@ lowered-next : {ws : List ℕ} {last : ℕ} (m : RegisterMap) (t : ℕ → Expr)
     → FlagLowered ws last m t cs m′
     → FlagAdded ws last m′ (treeRun cs t) c middle answer k
     → FlagLowered ws last m t (cs ++ c ∷ []) (written (raised m′ middle) (c .d) answer k)
-unfolding treeRun
+unfolding Block.treeRun
 lowered-next {ws} {last} m t [] m′ c {middle} {answer} {k} h n = (
   middle,
   answer,
@@ -75,7 +76,7 @@ lowered-next m t (x ∷ cs) m′ c h n =
     (h .0, h .1, h .2, h .3, lowered-next (written (raised m (h .0)) (x .d) (h .1) (h .2)) (treeStep x t) cs m′ c (h .4) n)
 
 pub runs-none : {ws : List ℕ} {f : Flagged} → MapOk (f .map) → f .bit .0 < f .map .count → FlagRuns ws f ws f []
-unfolding treeRun bitRun
+unfolding Block.treeRun bitRun
 runs-none {ws} {f} ok l =
     record {
       long = refl;

@@ -5,7 +5,7 @@ use Prim.Native.Nat.{ℕ, _+_, _≤_, _<_}
 use lib.ListN.{length}
 use Rattle.terms.specs.Expr.{Expr}
 use Rattle.neon.specs.declared.Instruction.{Instruction}
-use Rattle.trees.specs.Block.{treeStep}
+use Rattle.trees.specs.Trees.{treeStep}
 use Rattle.pool.specs.declared.Node.{Node}
 use Rattle.pool.specs.Rules.{Valid}
 use Rattle.pool.specs.Growth.{Reach, Grown, NodeIs}

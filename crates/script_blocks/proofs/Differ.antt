@@ -1,10 +1,11 @@
 -- The theorems of specs/Demand.antt: the registers of an accepted block, by their script. Assumes nothing.
-use mathlib.Core.Bool.{true, not, false≢true}
+use mathlib.Core.Bool.{true, not}
 use mathlib.Core.List.{List}
-use mathlib.Core.Path.{_≡_, sym, ap, _∙_}
+use mathlib.Core.Option.{some}
+use mathlib.Core.Path.{_≡_, sym, ap₂, _∙_}
 use Prim.Native.Nat.{ℕ}
 use lib.Dec.{eqb}
-use borrow.Author.Tests.{lt-ltb, eq-eqb, ne-eqb}
+use borrow.Author.Tests.{lt-ltb, eq-eqb}
 use Rattle.terms.specs.Expr.{Expr}
 use Rattle.terms.specs.Value.{value}
 use Rattle.pool.specs.Node.{widthAt}
@@ -13,11 +14,11 @@ use Rattle.pool.specs.Unfold.{unfoldAt}
 use Rattle.pool.specs.Growth.{NodeIs}
 use Rattle.block_map.specs.Map.{nodeOf}
 use Rattle.block.proofs.Equal.{registers-hold}
+use Rattle.script_meaning.specs.Values.{meaning}
 use Rattle.script_meaning.specs.Meaning.{script}
-use Rattle.script_meaning.proofs.Stays.{holdsOf}
 use Rattle.script_length.proofs.Answers.{good-nodes}
-use Rattle.script_write.proofs.Means.{written-means}
-use Rattle.script_blocks.specs.Demand.{RegistersChosen, DifferWhenScriptHolds}
+use Rattle.script_write.proofs.Means.{written-means, apart-when-holds}
+use Rattle.script_blocks.specs.Demand.{RegistersChosen, DifferWhenScriptHolds, NamesHold}
 
 may-be-chosen : (ws : List ℕ) (count n : ℕ) (t : Expr) → NodeIs ws count n 128 t → ofWidth ws count n 128 ≡ true
 may-be-chosen ws count n t h = rw (lt-ltb n count (h .under), eq-eqb (widthAt ws n) 128 (h .wide))
@@ -32,15 +33,16 @@ registers-chosen old cs new a h z r r′ rest l l′ =
 
 pub differ-when-script-holds : DifferWhenScriptHolds
 differ-when-script-holds old cs new a h z r r′ l l′ buffer len out w start model m =
-    let x = nodeOf (a .map) r in
-    let y = nodeOf (a .map) r′ in
-    let read = written-means new (a .map .count) x y buffer len out w start model m in
-    let vx = value start (unfoldAt new x) in
-    let vy = value start (unfoldAt new y) in
-    let e = registers-hold old cs new a h z start r l in
-    let e′ = registers-hold old cs new a h z start r′ l′ in (
-      λ differ. (script (read .names) (not (eqb vx vy)), read .meant-is, ap not (ne-eqb vx vy (λ q. differ (e ∙ q ∙ sym e′)))),
-      λ holds same.
-          let holds-is : not (eqb vx vy) ≡ true = ap holdsOf (sym (read .meant-is) ∙ holds .1) ∙ holds .2 in
-          false≢true (sym (ap not (eq-eqb vx vy (sym e ∙ same ∙ e′))) ∙ holds-is),
+    apart-when-holds new (a .map .count) (nodeOf (a .map) r) (nodeOf (a .map) r′) buffer len out w start model m (registers-hold old cs new a h z start r l)
+    (registers-hold old cs new a h z start r′ l′)
+
+pub names-hold : NamesHold
+names-hold old cs new a h z x y buffer len out w start model m =
+    let read = written-means new (a .map .count) x y buffer len out w start model m in (
+      script (read .names) (not (eqb (value start (unfoldAt new x)) (value start (unfoldAt new y)))),
+      read .meant-is,
+      λ r l.
+          let t = h .accepted z .terms r l in
+          read .values (nodeOf (a .map) r) (t .under)
+          ∙ ap₂ (λ (b v : ℕ). some (meaning b v)) (t .wide) (sym (registers-hold old cs new a h z start r l)),
     )

@@ -46,12 +46,12 @@ module _ (old : List ℕ) (cs : List Instruction) (new : List ℕ) (a : BlockAns
     (r r′ : ℕ) (buffer out : List ℕ) (j : Joined)
     (joined : join.Answered new (a .map .count) new′ (a′ .map .count) (nodeOf (a .map) r) (nodeOf (a′ .map) r′) buffer out j) (e : j .number ≡ 0) (start : ℕ → ℕ) where
   -- the registers' nodes in the joined pool have the registers' values
-  first-is : (q : ℕ) → q < 32 → armRun cs start q ≡ value start (unfoldAt out (nodeOf (a .map) q))
+  pub first-is : (q : ℕ) → q < 32 → armRun cs start q ≡ value start (unfoldAt out (nodeOf (a .map) q))
   first-is q l =
       let kept = terms-kept new (a .map .count) new′ (a′ .map .count) (nodeOf (a .map) r) (nodeOf (a′ .map) r′) buffer out j joined e .0 in
       registers-hold old cs new a A z start q l ∙ sym (ap (value start) (kept (nodeOf (a .map) q) (A .accepted z .terms q l .under)))
 
-  second-is : (q : ℕ) → q < 32 → armRun cs′ start q ≡ value start (unfoldAt out (moved (a .map .count) (nodeOf (a′ .map) q)))
+  pub second-is : (q : ℕ) → q < 32 → armRun cs′ start q ≡ value start (unfoldAt out (moved (a .map .count) (nodeOf (a′ .map) q)))
   second-is q l =
       let kept = terms-kept new (a .map .count) new′ (a′ .map .count) (nodeOf (a .map) r) (nodeOf (a′ .map) r′) buffer out j joined e .1 in
       registers-hold old′ cs′ new′ a′ A′ z′ start q l ∙ sym (ap (value start) (kept (nodeOf (a′ .map) q) (A′ .accepted z′ .terms q l .under)))

@@ -2,3 +2,4 @@
 pub mod Lanes
 pub mod Equal
 pub mod Canonical
+pub mod Joined

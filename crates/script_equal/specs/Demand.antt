@@ -1,6 +1,7 @@
--- What the release desk may conclude from scripts by lanes: the statements. The Arm runs are fed a start and the records, the reader of
+-- What the release desk may conclude from scripts of two joined pools: the statements. The Arm runs are fed a start and the records, the reader of
 -- scripts a model and bytes; neither knows anything of a pool.
 use mathlib.Core.List.{List}
+use mathlib.Core.Logic.{_↔_}
 use mathlib.Core.Path.{_≡_}
 use Prim.Native.Nat.{ℕ, _+_, _-_, _*_, _^_, _<_}
 use lib.ListN.{take}
@@ -14,6 +15,8 @@ use Rattle.join_blocks.specs.Demand.{OfTwoBlocks}
 use Rattle.canonical_write.specs.declared.Canonised.{Canonised}
 use Rattle.canonical_write.specs.Canonise as canonise
 use Rattle.script_meaning.specs.Demand.{ModelOf, Holds}
+use Rattle.script_length.specs.Answer.{scriptNumber}
+use Rattle.script_write.specs.Answer as scripts
 use Rattle.script_lane_write.specs.Answer.{LaneAnswered}
 
 -- a script was written, and no model at all meets its assertions: what a solver says by "unsat"
@@ -34,6 +37,22 @@ abbrev pub OfTwoRegisters : ((cs cs′ : List Instruction) (q q′ : ℕ) (out :
 OfTwoRegisters P =
     OfTwoBlocks (λ cs a r cs′ a′ r′ buffer out j.
     j .number ≡ 0 → (q q′ : ℕ) → q < 32 → q′ < 32 → P cs cs′ q q′ out (j .count) (nodeOf (a .map) q) (moved (a .map .count) (nodeOf (a′ .map) q′)))
+
+-- ---- one script for all 128 bits
+
+-- the registers may be chosen in the joined pool: their script is refused for want of room alone
+abbrev pub JoinedRegistersChosen : Type 0
+JoinedRegistersChosen = OfTwoRegisters (λ cs cs′ q q′ out count x y. (rest : ℕ) → scriptNumber out count x y rest ≡ rest)
+
+-- for every start: they differ after the two Arm runs exactly when the assertion of their script holds in the start's model
+abbrev pub DifferWhenJoinedScriptHolds : Type 0
+DifferWhenJoinedScriptHolds =
+    OfTwoRegisters (λ cs cs′ q q′ out count x y.
+    (buffer : List ℕ) (len : ℕ) (text : List ℕ) → scripts.Answered out count x y buffer 0 len text
+    → (start : ℕ → ℕ) (model : List ℕ → ℕ) → ModelOf start model
+    → (armRun cs start q ≡ armRun cs′ start q′ → ⊥) ↔ Holds model (take len text))
+
+-- ---- scripts by lanes
 
 -- a start of 128-bit registers
 abbrev pub Start : (ℕ → ℕ) → Type 0

@@ -1,4 +1,4 @@
--- A pool's script, read by the standard at a start: the theorems of specs/Demand.antt, and an example byte for byte.
+-- A pool's script, read by the standard at a start: the theorems of specs/Demand.antt, and an example byte for byte; scripts that the reader refuses.
 pub mod Reading
 pub mod Numbers
 pub mod Vars
@@ -12,3 +12,4 @@ pub mod Fine
 pub mod Script
 pub mod Example
 pub mod Stays
+pub mod Refused

@@ -4,4 +4,5 @@ pub mod Values
 pub mod Functions
 pub mod Meaning
 pub mod Script
+pub mod Refused
 pub mod Demand

@@ -7,7 +7,8 @@ use Prim.Native.Nat.{ℕ, _+_, _-_, _*_}
 use lib.Dec.{eqb}
 use lib.ListN.{length}
 use Rattle.facts.specs.Same.{same}
-use Rattle.script_meaning.specs.Read.{isDigit, isSymbolic}
+use Rattle.terms.specs.Display.{bytes}
+use Rattle.script_meaning.specs.Read.{isIn, isDigit, isSymbolic}
 
 -- ---- may be missing
 
@@ -65,10 +66,10 @@ numeral cs = when (isNumeral cs) (number 10 0 cs)
 abbrev pub isBinaryDigit : ℕ → Bool
 isBinaryDigit c = eqb c 48 || eqb c 49
 
--- a simple symbol (3.1): letters, digits and other characters, the first no digit
+-- a simple symbol of a script (3.1): letters, digits and other characters; the first is no digit, and neither @ nor ., which solvers keep for themselves
 abbrev pub isSymbol : List ℕ → Bool
 isSymbol [] = false
-isSymbol (c ∷ cs) = not (isDigit c) && all isSymbolic (c ∷ cs)
+isSymbol (c ∷ cs) = not (isDigit c) && not (isIn c (bytes "@.")) && all isSymbolic (c ∷ cs)
 
 -- ---- values
 

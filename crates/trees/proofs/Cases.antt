@@ -1,103 +1,48 @@
--- Worked cases: document 01's set P, and a case for each trap and fault that set P lets pass; all by computation. Assumes nothing.
-use mathlib.Core.Bool.{Bool, true, false, _&&_}
-use mathlib.Core.List.{List, [], _∷_}
-use Prim.Native.Nat.{ℕ}
-use lib.Dec.{eqb}
+-- The statements of specs/Cases.antt, and worked cuts; all by computation. Assumes nothing.
+use mathlib.Core.Bool.{true}
+use mathlib.Core.Path.{_≡_, refl}
 use Rattle.terms.specs.Expr.{Const, Var, Compare, Ite, Extract, Concat, width}
 use Rattle.terms.specs.Value.{value, msb, bvneg, bvnot, bvadd, bvsub, bvmul, bvshl, bvlshr, bvashr, bvslt, bvsext}
-use Rattle.neon.specs.Op.{Op}
-use Rattle.neon.specs.Form.{form, sourceBits}
 use Rattle.neon.specs.Arm.{armLane, wrap, S, clampZ, cS, cU, ones, equalRun, lanes}
-use Rattle.trees.specs.Neon.{neonOp, valueOf}
-use mathlib.Core.Path.{_≡_, refl}
-use Rattle.trees.specs.Simd.{extractLane, concatLanes}
-use Rattle.trees.specs.Arith.{Eq, clamp, saturatingLane, shiftRight, saturatingShiftLeft, shiftLane, leadingZeros, bitwiseUnaryLane, shiftInsertLane, mixedSignAddLane, doublingProduct}
-use Rattle.trees.specs.Arith.{doublingLongLane, shiftLanes, shiftInsertLanes, mixedSignAddLanes, doublingLongLanes, keepLower, saturatingLanes, bitwiseUnaryLanes}
-use Rattle.trees.specs.Width.{highNarrowLane, highNarrowLanes}
+use Rattle.trees.specs.Simd.{concatLanes}
+use Rattle.trees.specs.Arith.{Eq, saturatingShiftLeft, shiftInsertLane}
+use Rattle.trees.specs.Trees.{extractLane, leadingZeros, keepLower}
+use Rattle.trees.specs.Simd as Simd
+use Rattle.trees.specs.Arith as Arith
+use Rattle.trees.specs.Width as Width
+use Rattle.trees.specs.Cases.{gives, SetP, NoFault}
 
--- an operation, the bits n of a lane, the immediate i, the old lane d, the source lanes a and b, and the lane of the result
-pub data Case : Type 0 where
-  case : Op → (n i d a b result : ℕ) → Case
-
-abbrev pub setP : List Case
-setP =
-    case Op.SQADD 8 0 0 0x7f 0x01 0x7f
-    ∷ case Op.SQSUB 8 0 0 0x80 0x01 0x80
-    ∷ case Op.UQSUB 8 0 0 3 5 0
-    ∷ case Op.SQSHLI 8 7 0 0xff 0 0x80
-    ∷ case Op.SQSHLI 8 7 0 0x01 0 0x7f
-    ∷ case Op.SQSHL 8 0 0 0xff 7 0x80
-    ∷ case Op.SQSHL 8 0 0 0x01 7 0x7f
-    ∷ case Op.SSHL 8 0 0 0x80 0x80 0xff
-    ∷ case Op.SRSHL 8 0 0 0x7f 0x80 0
-    ∷ case Op.SRI 8 8 0x3c 0x55 0 0x3c
-    ∷ case Op.SQDMULH 16 0 0 0x8000 0x8000 0x7fff
-    ∷ case Op.SQRDMULH 32 0 0 0x8000_0000 0x8000_0000 0x7fff_ffff
-    ∷ case Op.UQXTN 16 0 0 65600 0 65535
-    ∷ case Op.CLS 8 0 0 0x80 0 0
-    ∷ case Op.SQABS 8 0 0 0x80 0 0x7f
-    ∷ case Op.SHADD 8 0 0 0xff 0x00 0xff
-    ∷ case Op.SQDMLAL 32 0 0x8000_0000 0x8000 0x8000 0xffff_ffff
-    ∷ case Op.USQADD 8 0 3 0xfb 0 0
-    ∷ []
-
--- SRSHL at n + 1 bits; SUQADD and USQADD at n + 1 bits; a rounding narrow at 2n bits; SQSHLU without its extra bit; SQDMLAL without
--- its second clamp; RADDHN and RSUBHN without their half
-abbrev pub faults : List Case
-faults =
-    case Op.SRSHL 8 0 0 0x80 0x80 0
-    ∷ case Op.SRSHL 8 0 0 0x00 0xf7 0
-    ∷ case Op.SUQADD 8 0 0x7f 0xff 0 0x7f
-    ∷ case Op.USQADD 8 0 0xff 0x7f 0 0xff
-    ∷ case Op.SQRSHRN 8 4 0 0x7fff 0 0x7f
-    ∷ case Op.UQRSHRN 8 8 0 0xffff 0 0xff
-    ∷ case Op.SQSHLU 8 0 0 0x01 0 0x01
-    ∷ case Op.SQDMLAL 32 0 0x7fff_ffff 0x4000 0x4000 0x7fff_ffff
-    ∷ case Op.RADDHN 8 0 0 0x0080 0x0000 0x01
-    ∷ case Op.RADDHN 8 0 0 0x007f 0x0000 0x00
-    ∷ case Op.RSUBHN 8 0 0 0x0100 0x0080 0x01
-    ∷ []
-
--- the result is the Arm value, and the value of the Rust's term of one lane
-pub gives : Case → Bool
-gives (case o n i d a b result) =
-    let m = sourceBits (form o .lanes) n in
-    eqb (armLane o n i d a b) result && eqb (value (λ x. 0) (valueOf (neonOp o i false) n 1 i (Const d n) (Const a m) (Const b m))) result
-
-abbrev pub every : (Case → Bool) → List Case → Bool
-every f [] = true
-every f (c ∷ cs) = f c && every f cs
-
-all-cases : (every gives setP ≡ true) × (every gives faults ≡ true)
-unfolding gives armLane wrap S clampZ cS cU ones equalRun lanes value width msb bvneg bvnot bvadd bvsub bvmul bvshl bvlshr bvashr bvslt bvsext extractLane concatLanes clamp saturatingLane
-    shiftRight saturatingShiftLeft shiftLane leadingZeros bitwiseUnaryLane shiftInsertLane mixedSignAddLane doublingProduct doublingLongLane shiftLanes shiftInsertLanes mixedSignAddLanes
-    doublingLongLanes saturatingLanes bitwiseUnaryLanes highNarrowLane highNarrowLanes
+all-cases : SetP × NoFault
+unfolding gives armLane wrap S clampZ cS cU ones equalRun lanes value width msb bvneg bvnot bvadd bvsub bvmul bvshl bvlshr bvashr bvslt bvsext concatLanes
+    saturatingShiftLeft shiftInsertLane Simd.extractLane Arith.clamp Arith.saturatingLane Arith.shiftRight Arith.shiftLane Arith.leadingZeros
+    Arith.bitwiseUnaryLane Arith.mixedSignAddLane Arith.doublingProduct Arith.doublingLongLane Arith.shiftLanes Arith.shiftInsertLanes
+    Arith.mixedSignAddLanes Arith.doublingLongLanes Arith.saturatingLanes Arith.bitwiseUnaryLanes Width.highNarrowLane Width.highNarrowLanes
 all-cases = (refl, refl)
 
-pub set-P : every gives setP ≡ true
+pub set-P : SetP
 set-P = all-cases .0
 
-pub no-fault : every gives faults ≡ true
+pub no-fault : NoFault
 no-fault = all-cases .1
 
 -- ---- cuts: a cut of a cut is joined, until its operand is no Extract
 lane-of-view : extractLane (Extract (Var 1) 63 0) 8 7 ≡ Extract (Var 1) 63 56
-unfolding extractLane
+unfolding Simd.extractLane
 lane-of-view = refl
 
 -- an inner cut that does not begin at bit 0
 lane-of-high-half : extractLane (Extract (Var 1) 127 64) 8 1 ≡ Extract (Var 1) 79 72
-unfolding extractLane
+unfolding Simd.extractLane
 lane-of-high-half = refl
 
 -- two inner cuts
 lane-of-two : extractLane (Extract (Extract (Var 1) 127 64) 31 16) 8 1 ≡ Extract (Var 1) 95 88
-unfolding extractLane
+unfolding Simd.extractLane
 lane-of-two = refl
 
 -- bits inside a lane
 bit-of-lane : leadingZeros (extractLane (Var 1) 8 1) 8 1 ≡ Ite (Compare Eq (Extract (Var 1) 8 8) (Const 1 1)) (Const 7 8) (Const 8 8)
-unfolding leadingZeros extractLane
+unfolding Arith.leadingZeros Simd.extractLane
 bit-of-lane = refl
 
 -- a low half

@@ -1,5 +1,5 @@
--- The Rust's neon/lower/arith.rs, function by function. n is the Rust's lane_bits. A second source that a kind does not use, the
--- Rust's None, is any term here.
+-- The Rust's neon/lower/arith.rs, function by function. n is the Rust's lane_bits; cut is the cutter (Simd.antt). A second source that a kind
+-- does not use, the Rust's None, is any term here.
 use mathlib.Core.Bool.{Bool, true, false, cond, not}
 use Prim.Native.Nat.{ℕ, zero, suc, max, _+_, _-_, _*_, _/_, _^_}
 use lib.Dec.{ltb}
@@ -20,7 +20,7 @@ pub use Rattle.trees.specs.declared.BitwiseUnary.{BitwiseUnary}
 pub use Rattle.trees.specs.declared.BitwiseUnary.the-variants.{PopulationCount, LeadingZeros, LeadingSignBits, ReverseBits}
 pub use Rattle.trees.specs.declared.Combine.{Combine}
 pub use Rattle.trees.specs.declared.Combine.the-variants.{Nothing, With}
-use Rattle.trees.specs.Simd.{extractCollapsing, extractLane, concatLanes}
+use Rattle.trees.specs.Simd.{Cutter, extractLane, concatLanes}
 use Rattle.trees.specs.Lower.{extend, unsignedMax}
 
 abbrev pub signedMax : ℕ → ℕ
@@ -38,8 +38,8 @@ clamped value wide n Unsigned = clampBelow value (Const (unsignedMax n) wide)
 clamped value wide n SignedToUnsigned = clampBetween value (Const 0 wide) (Const (unsignedMax n) wide)
 
 -- `clamp`: value, of wide bits, brought into the range of n bits that `to` names
-unfoldable pub clamp : (value : Expr) (wide n : ℕ) → SaturateTo → Expr
-clamp value wide n to = extractCollapsing (clamped value wide n to) (n - 1) 0
+unfoldable pub clamp : Cutter → (value : Expr) (wide n : ℕ) → SaturateTo → Expr
+clamp cut value wide n to = cut .bits (clamped value wide n to) (n - 1) 0
 
 -- the closure `shift_by`: an arithmetic or a logical shift to the right
 abbrev pub shiftBy : Bool → Expr → Expr → Expr
@@ -56,9 +56,9 @@ narrowBits n = n * 2 + 1
 abbrev pub doubledBits : ℕ → ℕ
 doubledBits n = n * 2 + 1
 
-abbrev pub narrowed : (value : Expr) (wide n : ℕ) → Saturate → Expr
-narrowed value wide n Never = extractCollapsing value (n - 1) 0
-narrowed value wide n (Into to) = clamp value wide n to
+abbrev pub narrowed : Cutter → (value : Expr) (wide n : ℕ) → Saturate → Expr
+narrowed cut value wide n Never = cut .bits value (n - 1) 0
+narrowed cut value wide n (Into to) = clamp cut value wide n to
 
 abbrev pub negated : Bool → Expr → ℕ → Expr
 negated negate value wide = let minus = Bv Sub (Const 0 wide) value in cond negate minus (Ite (Compare Slt value (Const 0 wide)) minus value)
@@ -105,20 +105,20 @@ kindTo (DoublingMultiplyHigh rounding) = Into Signed
 kindTo (Unary negate) = Into Signed
 
 -- `saturating_lane`
-unfoldable pub saturatingLane : SaturatingKind → (a b : Expr) (n : ℕ) (signed : Bool) → Expr
-saturatingLane kind a b n signed = narrowed (exactLane kind a b n signed) (exactBits kind n) n (kindTo kind)
+unfoldable pub saturatingLane : Cutter → SaturatingKind → (a b : Expr) (n : ℕ) (signed : Bool) → Expr
+saturatingLane cut kind a b n signed = narrowed cut (exactLane kind a b n signed) (exactBits kind n) n (kindTo kind)
 
 -- `shift_right`: `most` is the largest amount, which sizes the sum of a rounding shift
 abbrev pub roundingBits : ℕ → ℕ → ℕ
 roundingBits n most = max n most + 1
 
-unfoldable pub shiftRight : (value amount : Expr) (n : ℕ) (signed rounding : Bool) (most : ℕ) → Expr
-shiftRight value amount n signed false most = shiftBy signed value amount
-shiftRight value amount n signed true most =
+unfoldable pub shiftRight : Cutter → (value amount : Expr) (n : ℕ) (signed rounding : Bool) (most : ℕ) → Expr
+shiftRight cut value amount n signed false most = shiftBy signed value amount
+shiftRight cut value amount n signed true most =
     let wide = roundingBits n most in
     let by = ZeroExtend amount wide in
     let half = Bv Shl (Const 1 wide) (Bv Sub by (Const 1 wide)) in
-    extractCollapsing (shiftBy signed (Bv Add (extend value wide signed) half) by) (n - 1) 0
+    cut .bits (shiftBy signed (Bv Add (extend value wide signed) half) by) (n - 1) 0
 
 -- `saturating_shift_left`
 abbrev pub shiftBound : (value : Expr) (n : ℕ) (signed : Bool) → Expr
@@ -134,55 +134,55 @@ abbrev pub registerShiftMax : ℕ
 registerShiftMax = 128
 
 -- SQSHLU is computed with room for the exact product and one bit for its sign
-abbrev pub leftImmediate : (saturate : Saturate) (value : Expr) (shift n : ℕ) (signed : Bool) → Expr
-leftImmediate Never value shift n signed = Bv Shl value (Const shift n)
-leftImmediate (Into Signed) value shift n signed = saturatingShiftLeft value (Const shift n) n signed
-leftImmediate (Into Unsigned) value shift n signed = saturatingShiftLeft value (Const shift n) n signed
-leftImmediate (Into SignedToUnsigned) value shift n signed =
+abbrev pub leftImmediate : Cutter → (saturate : Saturate) (value : Expr) (shift n : ℕ) (signed : Bool) → Expr
+leftImmediate cut Never value shift n signed = Bv Shl value (Const shift n)
+leftImmediate cut (Into Signed) value shift n signed = saturatingShiftLeft value (Const shift n) n signed
+leftImmediate cut (Into Unsigned) value shift n signed = saturatingShiftLeft value (Const shift n) n signed
+leftImmediate cut (Into SignedToUnsigned) value shift n signed =
     let wide = n + shift + 1 in
-    clamp (scaled value shift wide) wide n SignedToUnsigned
+    clamp cut (scaled value shift wide) wide n SignedToUnsigned
 
 -- the signed low byte of a register shift's amount
-abbrev pub signedAmount : Expr → ℕ → Expr
-signedAmount raw n = cond (ltb 8 n) (SignExtend (extractCollapsing raw 7 0) n) raw
+abbrev pub signedAmount : Cutter → Expr → ℕ → Expr
+signedAmount cut raw n = cond (ltb 8 n) (SignExtend (cut .bits raw 7 0) n) raw
 
 abbrev pub leftBy : (saturate : Bool) (value amount : Expr) (n : ℕ) (signed : Bool) → Expr
 leftBy saturate value amount n signed = cond saturate (saturatingShiftLeft value amount n signed) (Bv Shl value amount)
 
 -- `shift_lane`; `by` is the signed amount of a register shift
-abbrev pub shiftedBy : ShiftKind → (signed : Bool) (value by : Expr) (n : ℕ) → Expr
-shiftedBy (LeftImmediate shift saturate) signed value by n = leftImmediate saturate value shift n signed
-shiftedBy (RightImmediate shift rounding) signed value by n = shiftRight value (Const shift n) n signed rounding shift
-shiftedBy (Register rounding saturate) signed value by n =
-    Ite (Compare Slt by (Const 0 n)) (shiftRight value (Bv Sub (Const 0 n) by) n signed rounding registerShiftMax) (leftBy saturate value by n signed)
+abbrev pub shiftedBy : Cutter → ShiftKind → (signed : Bool) (value by : Expr) (n : ℕ) → Expr
+shiftedBy cut (LeftImmediate shift saturate) signed value by n = leftImmediate cut saturate value shift n signed
+shiftedBy cut (RightImmediate shift rounding) signed value by n = shiftRight cut value (Const shift n) n signed rounding shift
+shiftedBy cut (Register rounding saturate) signed value by n =
+    Ite (Compare Slt by (Const 0 n)) (shiftRight cut value (Bv Sub (Const 0 n) by) n signed rounding registerShiftMax) (leftBy saturate value by n signed)
 
-unfoldable pub shiftLane : ShiftKind → (signed : Bool) (value amount : Expr) (n : ℕ) → Expr
-shiftLane kind signed value amount n = shiftedBy kind signed value (signedAmount amount n) n
+unfoldable pub shiftLane : Cutter → ShiftKind → (signed : Bool) (value amount : Expr) (n : ℕ) → Expr
+shiftLane cut kind signed value amount n = shiftedBy cut kind signed value (signedAmount cut amount n) n
 
 -- what bit j makes of t, which the bits below it made
-abbrev pub zerosAt : (n : ℕ) (v : Expr) → ℕ → Expr → Expr
-zerosAt n v j t = Ite (Compare Eq (extractCollapsing v j j) (Const 1 1)) (Const (n - 1 - j) n) t
+abbrev pub zerosAt : Cutter → (n : ℕ) (v : Expr) → ℕ → Expr → Expr
+zerosAt cut n v j t = Ite (Compare Eq (cut .bits v j j) (Const 1 1)) (Const (n - 1 - j) n) t
 
-abbrev pub countAt : (n : ℕ) (v : Expr) → ℕ → Expr → Expr
-countAt n v j t = Bv Add t (ZeroExtend (extractCollapsing v j j) n)
+abbrev pub countAt : Cutter → (n : ℕ) (v : Expr) → ℕ → Expr → Expr
+countAt cut n v j t = Bv Add t (ZeroExtend (cut .bits v j j) n)
 
 -- `leading_zeros`, of the bits below k: the test of bit k - 1 stands outermost
-unfoldable pub leadingZeros : Expr → ℕ → ℕ → Expr
-leadingZeros v n zero = Const n n
-leadingZeros v n (suc k) = zerosAt n v k (leadingZeros v n k)
+unfoldable pub leadingZeros : Cutter → Expr → ℕ → ℕ → Expr
+leadingZeros cut v n zero = Const n n
+leadingZeros cut v n (suc k) = zerosAt cut n v k (leadingZeros cut v n k)
 
 -- the sum of the bits below k
-unfoldable pub populationCount : Expr → ℕ → ℕ → Expr
-populationCount v n zero = Const 0 n
-populationCount v n (suc k) = countAt n v k (populationCount v n k)
+unfoldable pub populationCount : Cutter → Expr → ℕ → ℕ → Expr
+populationCount cut v n zero = Const 0 n
+populationCount cut v n (suc k) = countAt cut n v k (populationCount cut v n k)
 
 -- `bitwise_unary_lane`
-unfoldable pub bitwiseUnaryLane : BitwiseUnary → Expr → ℕ → Expr
-bitwiseUnaryLane PopulationCount v n = populationCount v n n
-bitwiseUnaryLane LeadingZeros v n = leadingZeros v n n
-bitwiseUnaryLane LeadingSignBits v n =
-    ZeroExtend (leadingZeros (Bv Xor (extractCollapsing v (n - 1) 1) (extractCollapsing v (n - 1 - 1) 0)) (n - 1) (n - 1)) n
-bitwiseUnaryLane ReverseBits v n = concatLanes (n - 1) (λ j. extractCollapsing v (n - 1 - j) (n - 1 - j))
+unfoldable pub bitwiseUnaryLane : Cutter → BitwiseUnary → Expr → ℕ → Expr
+bitwiseUnaryLane cut PopulationCount v n = populationCount cut v n n
+bitwiseUnaryLane cut LeadingZeros v n = leadingZeros cut v n n
+bitwiseUnaryLane cut LeadingSignBits v n =
+    ZeroExtend (leadingZeros cut (Bv Xor (cut .bits v (n - 1) 1) (cut .bits v (n - 1 - 1) 0)) (n - 1) (n - 1)) n
+bitwiseUnaryLane cut ReverseBits v n = concatLanes (n - 1) (λ j. cut .bits v (n - 1 - j) (n - 1 - j))
 
 -- `absolute_difference_lane`
 unfoldable pub absoluteDifferenceLane : Bool → Expr → Expr → Expr
@@ -200,21 +200,21 @@ unfoldable pub shiftInsertLane : (left : Bool) (d a : Expr) (shift n : ℕ) → 
 shiftInsertLane left d a shift n = inserted left (keptBits left n shift) n d a (Const shift n)
 
 -- a sum that can be negative is clamped into the unsigned range as a signed one
-unfoldable pub mixedSignAddLane : (signed : Bool) (d a : Expr) (n : ℕ) → Expr
-mixedSignAddLane signed d a n =
+unfoldable pub mixedSignAddLane : Cutter → (signed : Bool) (d a : Expr) (n : ℕ) → Expr
+mixedSignAddLane cut signed d a n =
     let wide = n + 2 in
-    clamp (joined Add d signed a (not signed) wide) wide n (cond signed Signed SignedToUnsigned)
+    clamp cut (joined Add d signed a (not signed) wide) wide n (cond signed Signed SignedToUnsigned)
 
-unfoldable pub doublingProduct : (a b : Expr) (n : ℕ) → Expr
-doublingProduct a b n = clamp (twice a b (n + 1)) (n + 1) n Signed
+unfoldable pub doublingProduct : Cutter → (a b : Expr) (n : ℕ) → Expr
+doublingProduct cut a b n = clamp cut (twice a b (n + 1)) (n + 1) n Signed
 
 -- a product joined to d, under a second clamp
-abbrev pub combined : Combine → (d product : Expr) (n : ℕ) → Expr
-combined Nothing d product n = product
-combined (With op) d product n = clamp (joined op d true product true (n + 1)) (n + 1) n Signed
+abbrev pub combined : Cutter → Combine → (d product : Expr) (n : ℕ) → Expr
+combined cut Nothing d product n = product
+combined cut (With op) d product n = clamp cut (joined op d true product true (n + 1)) (n + 1) n Signed
 
-unfoldable pub doublingLongLane : Combine → (d a b : Expr) (n : ℕ) → Expr
-doublingLongLane combine d a b n = combined combine d (doublingProduct a b n) n
+unfoldable pub doublingLongLane : Cutter → Combine → (d a b : Expr) (n : ℕ) → Expr
+doublingLongLane cut combine d a b n = combined cut combine d (doublingProduct cut a b n) n
 
 abbrev pub accumulated : Bool → Expr → Expr → Expr
 accumulated accumulate d difference = cond accumulate (Bv Add d difference) difference
@@ -222,37 +222,37 @@ accumulated accumulate d difference = cond accumulate (Bv Add d difference) diff
 -- ---- whole vectors of k lanes: a and b are the sources, d the old destination, and ..At is lane j of the loop
 
 -- `shift_lanes`
-abbrev pub shiftAt : ShiftKind → (signed : Bool) (n : ℕ) (a b : Expr) → ℕ → Expr
-shiftAt kind signed n a b j = shiftLane kind signed (extractLane a n j) (extractLane b n j) n
+abbrev pub shiftAt : Cutter → ShiftKind → (signed : Bool) (n : ℕ) (a b : Expr) → ℕ → Expr
+shiftAt cut kind signed n a b j = shiftLane cut kind signed (extractLane cut a n j) (extractLane cut b n j) n
 
-unfoldable pub shiftLanes : ShiftKind → (signed : Bool) (first second : Expr) (n k : ℕ) → Expr
-shiftLanes kind signed first second n k = concatLanes (k - 1) (shiftAt kind signed n first second)
+unfoldable pub shiftLanes : Cutter → ShiftKind → (signed : Bool) (first second : Expr) (n k : ℕ) → Expr
+shiftLanes cut kind signed first second n k = concatLanes (k - 1) (shiftAt cut kind signed n first second)
 
 -- `shift_insert_lanes`
-abbrev pub insertAt : (left : Bool) (kept n : ℕ) (d a amount : Expr) → ℕ → Expr
-insertAt left kept n d a amount j = inserted left kept n (extractLane d n j) (extractLane a n j) amount
+abbrev pub insertAt : Cutter → (left : Bool) (kept n : ℕ) (d a amount : Expr) → ℕ → Expr
+insertAt cut left kept n d a amount j = inserted left kept n (extractLane cut d n j) (extractLane cut a n j) amount
 
-unfoldable pub shiftInsertLanes : (left : Bool) (shift : ℕ) (first d : Expr) (n k : ℕ) → Expr
-shiftInsertLanes left shift first d n k = concatLanes (k - 1) (insertAt left (keptBits left n shift) n d first (Const shift n))
+unfoldable pub shiftInsertLanes : Cutter → (left : Bool) (shift : ℕ) (first d : Expr) (n k : ℕ) → Expr
+shiftInsertLanes cut left shift first d n k = concatLanes (k - 1) (insertAt cut left (keptBits left n shift) n d first (Const shift n))
 
 -- `mixed_sign_add_lanes`
-abbrev pub mixedAt : (signed : Bool) (n : ℕ) (d a : Expr) → ℕ → Expr
-mixedAt signed n d a j = mixedSignAddLane signed (extractLane d n j) (extractLane a n j) n
+abbrev pub mixedAt : Cutter → (signed : Bool) (n : ℕ) (d a : Expr) → ℕ → Expr
+mixedAt cut signed n d a j = mixedSignAddLane cut signed (extractLane cut d n j) (extractLane cut a n j) n
 
-unfoldable pub mixedSignAddLanes : (signed : Bool) (first d : Expr) (n k : ℕ) → Expr
-mixedSignAddLanes signed first d n k = concatLanes (k - 1) (mixedAt signed n d first)
+unfoldable pub mixedSignAddLanes : Cutter → (signed : Bool) (first d : Expr) (n k : ℕ) → Expr
+mixedSignAddLanes cut signed first d n k = concatLanes (k - 1) (mixedAt cut signed n d first)
 
 -- `doubling_long_lanes`: the source lanes, upper ones from lane k on; the element has number i
 abbrev pub sourceLane : Bool → ℕ → ℕ → ℕ
 sourceLane upper k j = cond upper (j + k) j
 
 -- b is the lane of the second source, or its element
-abbrev pub doublingAt : Combine → (upper : Bool) (n k : ℕ) (d a b : Expr) → ℕ → Expr
-doublingAt combine upper n k d a b j = doublingLongLane combine (extractLane d n j) (extractLane a (n / 2) (sourceLane upper k j)) b n
+abbrev pub doublingAt : Cutter → Combine → (upper : Bool) (n k : ℕ) (d a b : Expr) → ℕ → Expr
+doublingAt cut combine upper n k d a b j = doublingLongLane cut combine (extractLane cut d n j) (extractLane cut a (n / 2) (sourceLane upper k j)) b n
 
-unfoldable pub doublingLongLanes : Combine → (upper byElement : Bool) (i : ℕ) (first second d : Expr) (n k : ℕ) → Expr
-doublingLongLanes combine upper byElement i first second d n k =
-    concatLanes (k - 1) λ j. doublingAt combine upper n k d first (extractLane second (n / 2) (cond byElement i (sourceLane upper k j))) j
+unfoldable pub doublingLongLanes : Cutter → Combine → (upper byElement : Bool) (i : ℕ) (first second d : Expr) (n k : ℕ) → Expr
+doublingLongLanes cut combine upper byElement i first second d n k =
+    concatLanes (k - 1) λ j. doublingAt cut combine upper n k d first (extractLane cut second (n / 2) (cond byElement i (sourceLane upper k j))) j
 
 -- `saturating_lanes`
 abbrev pub narrowing : SaturatingKind → Bool
@@ -267,26 +267,27 @@ narrowing (Unary negate) = false
 abbrev pub kindBits : SaturatingKind → ℕ → ℕ
 kindBits kind n = cond (narrowing kind) (n * 2) n
 
-abbrev pub saturatingAt : SaturatingKind → (signed : Bool) (n : ℕ) (a b : Expr) → ℕ → Expr
-saturatingAt kind signed n a b j = saturatingLane kind (extractLane a (kindBits kind n) j) (extractLane b (kindBits kind n) j) n signed
+abbrev pub saturatingAt : Cutter → SaturatingKind → (signed : Bool) (n : ℕ) (a b : Expr) → ℕ → Expr
+saturatingAt cut kind signed n a b j = saturatingLane cut kind (extractLane cut a (kindBits kind n) j) (extractLane cut b (kindBits kind n) j) n signed
 
 -- a narrowing "2" form keeps the lower half of d
-abbrev pub keepLower : (upper : Bool) (new d : Expr) (n k : ℕ) → Expr
-keepLower upper new d n k = cond upper (Concat new (extractCollapsing d (n * k - 1) 0)) new
+abbrev pub keepLower : Cutter → (upper : Bool) (new d : Expr) (n k : ℕ) → Expr
+keepLower cut upper new d n k = cond upper (Concat new (cut .bits d (n * k - 1) 0)) new
 
-unfoldable pub saturatingLanes : SaturatingKind → (signed upper : Bool) (first second d : Expr) (n k : ℕ) → Expr
-saturatingLanes kind signed upper first second d n k = keepLower upper (concatLanes (k - 1) (saturatingAt kind signed n first second)) d n k
+unfoldable pub saturatingLanes : Cutter → SaturatingKind → (signed upper : Bool) (first second d : Expr) (n k : ℕ) → Expr
+saturatingLanes cut kind signed upper first second d n k = keepLower cut upper (concatLanes (k - 1) (saturatingAt cut kind signed n first second)) d n k
 
 -- `bitwise_unary_lanes`
-abbrev pub bitwiseAt : BitwiseUnary → (n : ℕ) (a : Expr) → ℕ → Expr
-bitwiseAt kind n a j = bitwiseUnaryLane kind (extractLane a n j) n
+abbrev pub bitwiseAt : Cutter → BitwiseUnary → (n : ℕ) (a : Expr) → ℕ → Expr
+bitwiseAt cut kind n a j = bitwiseUnaryLane cut kind (extractLane cut a n j) n
 
-unfoldable pub bitwiseUnaryLanes : BitwiseUnary → (first : Expr) (n k : ℕ) → Expr
-bitwiseUnaryLanes kind first n k = concatLanes (k - 1) (bitwiseAt kind n first)
+unfoldable pub bitwiseUnaryLanes : Cutter → BitwiseUnary → (first : Expr) (n k : ℕ) → Expr
+bitwiseUnaryLanes cut kind first n k = concatLanes (k - 1) (bitwiseAt cut kind n first)
 
 -- `absolute_difference_lanes`
-abbrev pub differenceAt : (signed accumulate : Bool) (n : ℕ) (d a b : Expr) → ℕ → Expr
-differenceAt signed accumulate n d a b j = accumulated accumulate (extractLane d n j) (absoluteDifferenceLane signed (extractLane a n j) (extractLane b n j))
+abbrev pub differenceAt : Cutter → (signed accumulate : Bool) (n : ℕ) (d a b : Expr) → ℕ → Expr
+differenceAt cut signed accumulate n d a b j =
+    accumulated accumulate (extractLane cut d n j) (absoluteDifferenceLane signed (extractLane cut a n j) (extractLane cut b n j))
 
-unfoldable pub absoluteDifferenceLanes : (signed accumulate : Bool) (first second d : Expr) (n k : ℕ) → Expr
-absoluteDifferenceLanes signed accumulate first second d n k = concatLanes (k - 1) (differenceAt signed accumulate n d first second)
+unfoldable pub absoluteDifferenceLanes : Cutter → (signed accumulate : Bool) (first second d : Expr) (n k : ℕ) → Expr
+absoluteDifferenceLanes cut signed accumulate first second d n k = concatLanes (k - 1) (differenceAt cut signed accumulate n d first second)

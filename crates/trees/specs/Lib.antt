@@ -1,7 +1,11 @@
 pub mod Simd
-pub mod Joined
 pub mod Lower
 pub mod Arith
 pub mod Width
 pub mod Neon
 pub mod Block
+pub mod Trees
+pub mod Rust
+pub mod RustTexts
+pub mod Joined
+pub mod Cases

@@ -7,6 +7,7 @@ use Rattle.neon.specs.Form.{laneCount}
 use Rattle.trees.specs.declared.NeonOp.{NeonOp}
 use Rattle.trees.specs.declared.NeonOp.the-variants.{Shift, ShiftInsert, MixedSignAdd, DoublingLong, Saturating, BitwiseUnary, AbsoluteDifference, HighNarrow}
 use Rattle.trees.specs.declared.NeonShape.{NeonShape}
+use Rattle.trees.specs.Simd.{Cutter}
 use Rattle.trees.specs.Arith.{Add, Sub, Signed, Unsigned, SignedToUnsigned, Never, Into, LeftImmediate, RightImmediate, Register, AddSub, Halving, Narrow, ShiftNarrow, DoublingMultiplyHigh}
 use Rattle.trees.specs.Arith.{Unary, PopulationCount, LeadingZeros, LeadingSignBits, ReverseBits, Nothing, With, shiftLanes, shiftInsertLanes, mixedSignAddLanes, doublingLongLanes}
 use Rattle.trees.specs.Arith.{saturatingLanes, bitwiseUnaryLanes, absoluteDifferenceLanes}
@@ -85,20 +86,20 @@ neonOp Op.RSUBHN i upper = HighNarrow true true upper
 abbrev pub shapeOf : Op → Arrangement → ℕ → NeonShape
 shapeOf o v i = record { op = neonOp o i (full v); «lane_bits» = laneBits v; lanes = laneCount o v; «source_index» = record { 0 = i } }
 
--- `neon_value`: d is the old destination, first and second are the sources
-abbrev pub valueOf : NeonOp → (n k i : ℕ) (d first second : Expr) → Expr
-valueOf (Shift kind signed) n k i d first second = shiftLanes kind signed first second n k
-valueOf (ShiftInsert left shift) n k i d first second = shiftInsertLanes left shift first d n k
-valueOf (MixedSignAdd signed) n k i d first second = mixedSignAddLanes signed first d n k
-valueOf (DoublingLong combine upper byElement) n k i d first second = doublingLongLanes combine upper byElement i first second d n k
-valueOf (Saturating kind signed upper) n k i d first second = saturatingLanes kind signed upper first second d n k
-valueOf (BitwiseUnary kind) n k i d first second = bitwiseUnaryLanes kind first n k
-valueOf (AbsoluteDifference signed accumulate) n k i d first second = absoluteDifferenceLanes signed accumulate first second d n k
-valueOf (HighNarrow subtract rounding upper) n k i d first second = highNarrowLanes subtract rounding upper first second d n k
+-- `neon_value`: cut is the cutter, d the old destination, first and second are the sources
+abbrev pub valueOf : Cutter → NeonOp → (n k i : ℕ) (d first second : Expr) → Expr
+valueOf cut (Shift kind signed) n k i d first second = shiftLanes cut kind signed first second n k
+valueOf cut (ShiftInsert left shift) n k i d first second = shiftInsertLanes cut left shift first d n k
+valueOf cut (MixedSignAdd signed) n k i d first second = mixedSignAddLanes cut signed first d n k
+valueOf cut (DoublingLong combine upper byElement) n k i d first second = doublingLongLanes cut combine upper byElement i first second d n k
+valueOf cut (Saturating kind signed upper) n k i d first second = saturatingLanes cut kind signed upper first second d n k
+valueOf cut (BitwiseUnary kind) n k i d first second = bitwiseUnaryLanes cut kind first n k
+valueOf cut (AbsoluteDifference signed accumulate) n k i d first second = absoluteDifferenceLanes cut signed accumulate first second d n k
+valueOf cut (HighNarrow subtract rounding upper) n k i d first second = highNarrowLanes cut subtract rounding upper first second d n k
 
-abbrev pub neonValue : NeonShape → (d first second : Expr) → Expr
-neonValue s d first second = valueOf (s .op) (s .«lane_bits») (s .lanes) (s .«source_index» .0) d first second
+abbrev pub neonValue : Cutter → NeonShape → (d first second : Expr) → Expr
+neonValue cut s d first second = valueOf cut (s .op) (s .«lane_bits») (s .lanes) (s .«source_index» .0) d first second
 
 -- the term of an instruction
-unfoldable pub resultTree : Op → Arrangement → (i : ℕ) (d first second : Expr) → Expr
-resultTree o v i d first second = neonValue (shapeOf o v i) d first second
+unfoldable pub resultTree : Cutter → Op → Arrangement → (i : ℕ) (d first second : Expr) → Expr
+resultTree cut o v i d first second = neonValue cut (shapeOf o v i) d first second

@@ -17,8 +17,10 @@ use Rattle.terms.specs.declared.BinOp.the-variants.{Add, Sub, Xor}
 use Rattle.terms.specs.declared.CmpOp.the-variants.{Eq}
 use Rattle.neon.specs.Arm.{wrap, floor, scale, bitAt, ones, equalRun, lanes}
 use Rattle.trees.specs.Simd.{extractCollapsing}
-use Rattle.trees.specs.Arith.{plusIf, leadingZeros, populationCount, bitwiseUnaryLane, shiftInsertLane}
-use Rattle.trees.specs.Width.{highNarrowLane}
+use Rattle.trees.specs.Arith.{plusIf, shiftInsertLane}
+use Rattle.trees.specs.Trees.{leadingZeros, populationCount, bitwiseUnaryLane, highNarrowLane}
+use Rattle.trees.specs.Arith as Arith
+use Rattle.trees.specs.Width as Width
 use Rattle.trees.specs.declared.BitwiseUnary.the-variants.{LeadingSignBits, ReverseBits}
 use Rattle.neon.proofs.Lanes.{lanes-eq}
 use Rattle.trees_value.proofs.Wrap.{wrap-lt}
@@ -43,7 +45,7 @@ module _ (r : ℕ → ℕ) where
         number (bit-lt j x) (cut-width v j j ∙ one) (cut-value r v j j (omega arith) ∙ rw (one, hv))
 
     pub is-count : (n k : ℕ) → 0 < n → k ≤ n → Is r (populationCount v n k) n (pos (ones k x))
-    unfolding populationCount ones
+    unfolding Arith.populationCount ones
     is-count n zero hn h = is-const r 0 n (pow-pos n)
     is-count n (suc k) hn h =
         is-add r (is-count n k hn (omega arith))
@@ -51,7 +53,7 @@ module _ (r : ℕ → ℕ) where
 
     -- the choices by the first k bits
     pub is-leading : (n k : ℕ) → 0 < n → k ≤ n → Is r (leadingZeros v n k) n (pos (n - k + equalRun 0 k x))
-    unfolding leadingZeros equalRun
+    unfolding Arith.leadingZeros equalRun
     is-leading n zero hn h = is-eq r (ap pos (omega arith)) (is-const r n n (below n))
     is-leading n (suc k) hn h = go (is-leading n k hn (omega arith)) (eqb (bitAt k x) 0) refl
       where
@@ -129,7 +131,7 @@ folded-run m x (suc k) h = rw (folded-bit m x k h) (go (eqb (bitAt k x) (bitAt (
 
 module _ (r : ℕ → ℕ) (v : Expr) (n x : ℕ) (hv : value r v ≡ x) where
   pub is-signs : 1 < n → Is r (bitwiseUnaryLane LeadingSignBits v n) n (pos (equalRun (bitAt (n - 1) x) (n - 1) x))
-  unfolding bitwiseUnaryLane
+  unfolding Arith.bitwiseUnaryLane
   is-signs hn =
       is-zext r (omega arith) (record { low = omega arith; high = omega (arith, run-le (bitAt (n - 1) x) (n - 1) x, below (n - 1)) })
       (is-eq r (ap pos (rw (folded-run (n - 1) x (n - 1) (omega arith)) (omega arith)))
@@ -146,11 +148,11 @@ module _ (r : ℕ → ℕ) (v : Expr) (n x : ℕ) (hv : value r v ≡ x) where
 
   -- ---- bits reversed
   pub reverse-width : 0 < n → width (bitwiseUnaryLane ReverseBits v n) ≡ n
-  unfolding bitwiseUnaryLane
+  unfolding Arith.bitwiseUnaryLane
   reverse-width hn = concat-width r 1 (n - 1) (λ j. extractCollapsing v (n - 1 - j) (n - 1 - j)) (λ j. cut-width v (n - 1 - j) (n - 1 - j) ∙ omega arith) ∙ omega arith
 
   pub reverse-value : 0 < n → value r (bitwiseUnaryLane ReverseBits v n) ≡ lanes 1 n (λ j. bitAt (n - 1 - j) x)
-  unfolding bitwiseUnaryLane
+  unfolding Arith.bitwiseUnaryLane
   reverse-value hn =
       concat-value r 1 (n - 1) (λ j. extractCollapsing v (n - 1 - j) (n - 1 - j)) (λ j. cut-width v (n - 1 - j) (n - 1 - j) ∙ omega arith)
       ∙ lanes-eq 1 (suc (n - 1)) (λ j. value r (extractCollapsing v (n - 1 - j) (n - 1 - j))) (λ j. bitAt (n - 1 - j) x)
@@ -194,12 +196,12 @@ module _ (r : ℕ → ℕ) (d a : Expr) (n i y x : ℕ) (wa : width a ≡ n) (vd
 -- ---- the high half
 module _ (r : ℕ → ℕ) (a b : Expr) (n : ℕ) (x y : ℤ) (hn : 0 < n) (p : Is r a (n * 2) x) (q : Is r b (n * 2) y) where
   pub high-width : (subtract : Bool) (rounding : Bool) → width (highNarrowLane subtract rounding a b n) ≡ n
-  unfolding highNarrowLane
+  unfolding Width.highNarrowLane
   high-width subtract rounding = cut-width (plusIf rounding (Bv (cond subtract Sub Add) a b) (Const (2 ^ (n - 1)) (n * 2))) (n * 2 - 1) n ∙ omega arith
 
   pub high-value : (subtract : Bool) (rounding : Bool)
       → value r (highNarrowLane subtract rounding a b n) ≡ wrap (n * 2) (plus rounding (applyZ subtract x y) (2 ^ (n - 1))) / 2 ^ n
-  unfolding highNarrowLane
+  unfolding Width.highNarrowLane
   high-value subtract rounding =
       cut-value r (plusIf rounding (Bv (cond subtract Sub Add) a b) (Const (2 ^ (n - 1)) (n * 2))) (n * 2 - 1) n (omega arith)
       ∙ rw (is-plus r rounding (2 ^ (n - 1)) small (is-apply r subtract p q) .val, size)

@@ -14,7 +14,9 @@ use Rattle.neon.specs.Form.{form, firstFull, secondFull, byElement}
 use Rattle.neon.specs.Run.{update, readBits, armStep, armRun}
 use Rattle.neon.specs.Refusal.{Legal, AllLegal}
 use Rattle.neon.proofs.Legal.{accepted}
-use Rattle.trees.specs.Block.{readTree, widenTree, recordTree, treeStep, treeRun}
+use Rattle.trees.specs.Block.{widenTree}
+use Rattle.trees.specs.Trees.{readTree, treeStep, treeRun}
+use Rattle.trees.specs.Block as Block
 use Rattle.trees_value.proofs.Lanes.{cut-value}
 use Rattle.trees_value.proofs.Whole.{result-is}
 
@@ -36,7 +38,7 @@ module _ (start : ℕ → ℕ) where
       go false = refl
 
   pub step-is : (c : Instruction) → Legal c → (t : ℕ → Expr) (x : ℕ) → value start (treeStep c t x) ≡ armStep c (λ y. value start (t y)) x
-  unfolding treeStep recordTree armStep
+  unfolding Block.treeStep Block.recordTree armStep
   step-is c k t x =
       let o = opAt (c .operation) in
       let v = arrangementAt (c .arrangement) in
@@ -48,7 +50,7 @@ module _ (start : ℕ → ℕ) where
       ∙ rw (read-is (full v) (t (c .d)), read-is (firstFull l (full v)) (t (c .n)), read-is (secondFull l (byElement o) (full v)) (t (c .m))))
 
   pub run-is : (cs : List Instruction) → AllLegal cs → (t : ℕ → Expr) (x : ℕ) → value start (treeRun cs t x) ≡ armRun cs (λ y. value start (t y)) x
-  unfolding treeRun armRun
+  unfolding Block.treeRun armRun
   run-is [] l t x = refl
   run-is (c ∷ cs) l t x = run-is cs (l .1) (treeStep c t) x ∙ ap (λ (r : ℕ → ℕ). armRun cs r x) (fun-ext (step-is c (l .0) t))
 

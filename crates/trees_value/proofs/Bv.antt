@@ -12,21 +12,9 @@ use lib.IntN.{ℤ, pos, negsuc, negℤ, _+ℤ_, _-ℤ_, _*ℤ_}
 use lib.Signed.{ltZ, shrZ}
 use Rattle.terms.specs.Value.{msb, bvneg, bvnot, bvadd, bvsub, bvmul, bvshl, bvlshr, bvashr, bvslt, bvsext}
 use Rattle.neon.specs.Arm.{wrap, ones}
-use Rattle.trees_value.proofs.Z.{up, dn, times, neg-up, neg-dn}
+use Rattle.trees_value.specs.Fits.{up, dn, FitsS, FitsU}
+use Rattle.trees_value.proofs.Z.{times, neg-up, neg-dn}
 use Rattle.trees_value.proofs.Wrap.{half, over, under, wrap-eq, wrap-lt, wrap-is, wrap-add, wrap-mul}
-
--- z is a signed, an unsigned number of w bits
-pub record FitsS (w : ℕ) (z : ℤ) : Type 0 where
-  pub low : dn z ≤ up z + 2 ^ (w - 1)
-  pub high : up z < dn z + 2 ^ (w - 1)
-
-pub record FitsU (w : ℕ) (z : ℤ) : Type 0 where
-  pub low : dn z ≤ up z
-  pub high : up z < dn z + 2 ^ w
-
-abbrev pub Fits : Bool → ℕ → ℤ → Type 0
-Fits true w z = FitsS w z
-Fits false w z = FitsU w z
 
 -- ---- the operations that always carry over
 pub neg-is : (w : ℕ) (y : ℤ) → bvneg w (wrap w y) ≡ wrap w (negℤ y)

@@ -11,11 +11,13 @@ use lib.IntN.{ℤ, pos, negsuc, negℤ, _-ℤ_}
 use lib.Signed.{ltZ, shrZ}
 use Rattle.terms.specs.Expr.{Expr}
 use Rattle.neon.specs.Arm.{wrap, U, S, clampZ, cS, cU}
-use Rattle.trees.specs.Arith.{clamp}
+use Rattle.trees.specs.Trees.{clamp}
+use Rattle.trees.specs.Arith as Arith
 use Rattle.trees.specs.declared.SaturateTo.the-variants.{Signed, Unsigned, SignedToUnsigned}
-use Rattle.trees_value.proofs.Z.{up, dn, less, neg-up, neg-dn, ge-is, lt-is, lt-no, ext}
+use Rattle.trees_value.specs.Fits.{up, dn, FitsS, FitsU, Fits}
+use Rattle.trees_value.proofs.Z.{less, neg-up, neg-dn, ge-is, lt-is, lt-no, ext}
 use Rattle.trees_value.proofs.Wrap.{half, wrap-is, wrap-lt, wrap-eq, over, under}
-use Rattle.trees_value.proofs.Bv.{FitsS, FitsU, Fits, wrap-pos}
+use Rattle.trees_value.proofs.Bv.{wrap-pos}
 use Rattle.trees_value.proofs.Is.{Is, is-const, is-negative, is-cut, is-ite, says-slt, says-ult}
 
 -- ---- the readings
@@ -148,7 +150,7 @@ module _ (r : ℕ → ℕ) where
 
   -- ---- the clamps: in each the tests of the tree are those of the definition
   pub is-clampS : {v : Expr} {w n : ℕ} {z : ℤ} → 0 < n → n ≤ w → FitsS w z → Is r v w z → Is r (clamp v w n Signed) n (cS n z)
-  unfolding clamp cS clampZ
+  unfolding Arith.clamp cS clampZ
   is-clampS {w = w} {n = n} hn h f p =
       let hw : 0 < w = omega arith in
       let m : 2 ^ (n - 1) ≤ 2 ^ (w - 1) = pow-mono (omega arith) in
@@ -164,7 +166,7 @@ module _ (r : ℕ → ℕ) where
       is-cut r hn h (is-ite r (says-slt r hw f fl p low) low (is-ite r (says-slt r hw fh f high p) high p))
 
   pub is-clampSU : {v : Expr} {w n : ℕ} {z : ℤ} → 0 < n → n < w → FitsS w z → Is r v w z → Is r (clamp v w n SignedToUnsigned) n (cU n z)
-  unfolding clamp cU clampZ
+  unfolding Arith.clamp cU clampZ
   is-clampSU {w = w} {n = n} hn h f p =
       let hw : 0 < w = omega arith in
       let m : 2 ^ n ≤ 2 ^ (w - 1) = pow-mono (omega arith) in
@@ -177,7 +179,7 @@ module _ (r : ℕ → ℕ) where
       is-cut r hn (omega arith) (is-ite r (says-slt r hw f fl p low) low (is-ite r (says-slt r hw fh f high p) high p))
 
   pub is-clampU : {v : Expr} {w n : ℕ} {z : ℤ} → 0 < n → n ≤ w → FitsU w z → Is r v w z → Is r (clamp v w n Unsigned) n (cU n z)
-  unfolding clamp cU clampZ
+  unfolding Arith.clamp cU clampZ
   is-clampU {w = w} {n = n} {z = z} hn h f p =
       let m : 2 ^ n ≤ 2 ^ w = pow-mono h in
       let one : 0 < 2 ^ n = pow-pos n in

@@ -7,8 +7,8 @@ use lib.IntN.{ℤ, pos, negsuc, negℤ, natAbs, _-ℤ_}
 use lib.Signed.{ltZ}
 use Rattle.terms.specs.Expr.{Expr}
 use Rattle.trees.specs.Arith.{absoluteDifferenceLane}
-use Rattle.trees_value.proofs.Z.{up, dn, less, neg-up, neg-dn, ext, lt-yes, lt-no}
-use Rattle.trees_value.proofs.Bv.{Fits}
+use Rattle.trees_value.specs.Fits.{up, dn, Fits}
+use Rattle.trees_value.proofs.Z.{less, neg-up, neg-dn, ext, lt-yes, lt-no}
 use Rattle.trees_value.proofs.Is.{Is, is-eq, is-sub, is-ite, says-slt, says-ult}
 
 abs-pos : (z : ℤ) → dn z ≤ up z → pos (natAbs z) ≡ z

@@ -12,9 +12,12 @@ use Rattle.terms.specs.declared.CmpOp.the-variants.{Ult, Slt}
 use Rattle.terms.specs.declared.BinOp.{BinOp}
 use Rattle.terms.specs.declared.CmpOp.{CmpOp}
 use Rattle.terms.specs.Rules.{Good}
-use Rattle.trees.specs.Simd.{extractCollapsing, extractLane, concatLanes}
+use Rattle.trees.specs.Simd.{extractCollapsing, concatLanes}
 use Rattle.trees.specs.Lower.{extend}
-use Rattle.trees.specs.Arith.{clamp, shiftBy, plusIf}
+use Rattle.trees.specs.Arith.{shiftBy, plusIf}
+use Rattle.trees.specs.Trees.{extractLane, clamp}
+use Rattle.trees.specs.Simd as Simd
+use Rattle.trees.specs.Arith as Arith
 use Rattle.trees.specs.declared.SaturateTo.the-variants.{Signed, Unsigned, SignedToUnsigned}
 use Rattle.trees.specs.declared.SaturateTo.{SaturateTo}
 use Rattle.trees_value.proofs.Wrap.{half}
@@ -112,7 +115,7 @@ fit-plus false c h l p = p
 
 -- ---- the clamps
 pub fit-clamp : (to : SaturateTo) {v : Expr} {w : ℕ} (n : ℕ) → 0 < n → n ≤ w → w ≤ 129 → Fit v w → Fit (clamp v w n to) n
-unfolding clamp
+unfolding Arith.clamp
 fit-clamp Signed {w = w} n hn h l p =
     let m : 2 ^ n ≤ 2 ^ w = pow-mono h in
     let k : 2 ^ n ≡ 2 * 2 ^ (n - 1) = half n hn in
@@ -139,5 +142,5 @@ fit-concat-lanes n (suc k) f h g =
     (fit-concat (omega (arith, mul-suc n (suc k))) (g (suc k) (omega arith)) (fit-concat-lanes n k f (omega (arith, mul-suc n (suc k))) (λ j l. g j (omega arith))))
 
 pub fit-lane-of : (e : Expr) (w n j : ℕ) → 0 < n → n * j + n ≤ w → Fit e w → Fit (extractLane e n j) n
-unfolding extractLane
+unfolding Simd.extractLane
 fit-lane-of e w n j hn h p = fit-as (omega arith) (fit-joined e (n * j + n - 1) (n * j) (omega arith) (omega arith) p)

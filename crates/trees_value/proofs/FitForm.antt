@@ -18,9 +18,11 @@ use Rattle.neon.proofs.Legal.{accepted, m-le}
 use Rattle.trees.specs.declared.SaturateTo.the-variants.{Signed, Unsigned, SignedToUnsigned}
 use Rattle.trees.specs.declared.Saturate.the-variants.{Never, Into}
 use Rattle.trees.specs.Simd.{concatLanes}
-use Rattle.trees.specs.Arith.{shiftLane, bitwiseUnaryLane, doublingLongLane}
-use Rattle.trees.specs.Neon.{neonOp, resultTree}
-use Rattle.trees.specs.Block.{readTree, widenTree, recordTree, treeStep, treeRun}
+use Rattle.trees.specs.Neon.{neonOp}
+use Rattle.trees.specs.Block.{widenTree}
+use Rattle.trees.specs.Trees.{resultTree, readTree, recordTree, treeStep, treeRun}
+use Rattle.trees.specs.Arith as Arith
+use Rattle.trees.specs.Block as Block
 use Rattle.trees_value.proofs.Fit.{Fit, fit-as, fit-bv, fit-cut, fit-concat, fit-zext, fit-concat-lanes, fit-lane-of}
 use Rattle.trees_value.proofs.FitLane.{fit-imm, fit-saturating, fit-sqshlu, fit-right, fit-register, fit-insert, fit-sat, fit-halving, fit-narrow, fit-shift-narrow, fit-unary, fit-dmulh}
 use Rattle.trees_value.proofs.FitLane.{fit-mixed, fit-abd, fit-count, fit-leading, fit-signs, fit-reverse, fit-high, fit-product, fit-combined}
@@ -29,7 +31,7 @@ use Rattle.trees_value.proofs.Whole.{treeAt, placeTree, as-lanes}
 
 pub fit-lane : (o : Op) (n i : ℕ) (d a b : Expr) → 8 ≤ n → n ≤ 64 → least o ≤ i → i ≤ most o n → Fit d n → Fit a (sourceBits (form o .lanes) n) → Fit b (sourceBits (form o .lanes) n)
     → (upper : Bool) → Fit (laneTree (neonOp o i upper) n d a b) n
-unfolding shiftLane bitwiseUnaryLane doublingLongLane
+unfolding Arith.shiftLane Arith.bitwiseUnaryLane Arith.doublingLongLane
 fit-lane Op.SHL n i d a b h8 h64 l h o p q u = fit-bv Shl p (fit-imm n h8 h64 i (omega arith))
 fit-lane Op.SQSHLI n i d a b h8 h64 l h o p q u = fit-saturating n h8 h64 true p (fit-imm n h8 h64 i (omega arith))
 fit-lane Op.UQSHLI n i d a b h8 h64 l h o p q u = fit-saturating n h8 h64 false p (fit-imm n h8 h64 i (omega arith))
@@ -143,13 +145,13 @@ fit-widen false p = fit-zext 128 (omega arith) (omega arith) p
 abbrev pub AllFit : (ℕ → Expr) → Type 0
 AllFit t = (x : ℕ) → x < 32 → Fit (t x) 128
 
-fit-step : (c : Instruction) → Legal c → (t : ℕ → Expr) → AllFit t → AllFit (treeStep c t)
-unfolding treeStep
+pub fit-step : (c : Instruction) → Legal c → (t : ℕ → Expr) → AllFit t → AllFit (treeStep c t)
+unfolding Block.treeStep
 fit-step c k t f x h = go (eqb x (c .d))
   where
     new : Fit (recordTree c t) 128
     new =
-        unfold recordTree in
+        unfold Block.recordTree in
         let o = opAt (c .operation) in
         let v = arrangementAt (c .arrangement) in
         let g = accepted c k in
@@ -163,7 +165,7 @@ fit-step c k t f x h = go (eqb x (c .d))
     go false = f x h
 
 pub fit-run : (cs : List Instruction) → AllLegal cs → (t : ℕ → Expr) → AllFit t → AllFit (treeRun cs t)
-unfolding treeRun
+unfolding Block.treeRun
 fit-run [] k t f = f
 fit-run (c ∷ cs) k t f = fit-run cs (k .1) (treeStep c t) (fit-step c (k .0) t f)
 

@@ -11,9 +11,12 @@ use Rattle.terms.specs.declared.BinOp.the-variants.{Add, Sub, Mul, And, Or, Xor
 use Rattle.terms.specs.declared.CmpOp.the-variants.{Eq, Ult, Slt}
 use Rattle.terms.specs.declared.BinOp.{BinOp}
 use Rattle.trees.specs.Simd.{extractCollapsing}
-use Rattle.trees.specs.Arith.{narrowed, negated, saturatingLane, shiftRight, shiftBound, saturatingShiftLeft, registerShiftMax, leftImmediate, signedAmount, leftBy, shiftLane, leadingZeros}
-use Rattle.trees.specs.Arith.{populationCount, bitwiseUnaryLane, absoluteDifferenceLane, shiftInsertLane, mixedSignAddLane, doublingProduct, doublingLongLane}
-use Rattle.trees.specs.Width.{highNarrowLane}
+use Rattle.trees.specs.Arith.{negated, shiftBound, saturatingShiftLeft, registerShiftMax, leftBy}
+use Rattle.trees.specs.Arith.{absoluteDifferenceLane, shiftInsertLane}
+use Rattle.trees.specs.Trees.{narrowed, saturatingLane, shiftRight, leftImmediate, signedAmount, shiftLane, leadingZeros, populationCount, bitwiseUnaryLane}
+use Rattle.trees.specs.Trees.{mixedSignAddLane, doublingProduct, doublingLongLane, highNarrowLane}
+use Rattle.trees.specs.Arith as Arith
+use Rattle.trees.specs.Width as Width
 use Rattle.trees.specs.declared.SaturateTo.the-variants.{Signed, SignedToUnsigned}
 use Rattle.trees.specs.declared.SaturateTo.{SaturateTo}
 use Rattle.trees.specs.declared.Saturate.the-variants.{Never, Into}
@@ -30,7 +33,7 @@ module _ (n : ℕ) (h8 : 8 ≤ n) (h64 : n ≤ 64) where
   hn = omega arith
 
   pub fit-sat : (op : BinOp) (to : SaturateTo) (s : Bool) {a b : Expr} → Fit a n → Fit b n → Fit (saturatingLane (AddSub op to) a b n s) n
-  unfolding saturatingLane
+  unfolding Arith.saturatingLane
   fit-sat op to s p q =
       fit-clamp to n hn (omega arith) (omega arith) (fit-bv op (fit-extend s (n + 1) (omega arith) (omega arith) p) (fit-extend s (n + 1) (omega arith) (omega arith) q))
 
@@ -38,7 +41,7 @@ module _ (n : ℕ) (h8 : 8 ≤ n) (h64 : n ≤ 64) where
   small c w h l = omega (arith, below n, pow-mono l)
 
   pub fit-halving : (t s : Bool) {a b : Expr} → Fit a n → Fit b n → Fit (saturatingLane (Halving t) a b n s) n
-  unfolding saturatingLane
+  unfolding Arith.saturatingLane
   fit-halving t s p q =
       let one : 1 < 2 ^ (n + 1) = small 1 (n + 1) (omega arith) (omega arith) in
       fit-cut n hn (omega arith)
@@ -47,7 +50,7 @@ module _ (n : ℕ) (h8 : 8 ≤ n) (h64 : n ≤ 64) where
       (fit-const 1 (n + 1) (omega arith) (omega arith) one))
 
   pub fit-narrow : (to : SaturateTo) (s : Bool) {a : Expr} (b : Expr) → Fit a (n * 2) → Fit (saturatingLane (Narrow to) a b n s) n
-  unfolding saturatingLane
+  unfolding Arith.saturatingLane
   fit-narrow to s b p = fit-clamp to n hn (omega arith) (omega arith) p
 
   fit-narrowed : (to : Saturate) {v : Expr} → Fit v (n * 2 + 1) → Fit (narrowed v (n * 2 + 1) n to) n
@@ -55,7 +58,7 @@ module _ (n : ℕ) (h8 : 8 ≤ n) (h64 : n ≤ 64) where
   fit-narrowed (Into to) p = fit-clamp to n hn (omega arith) (omega arith) p
 
   pub fit-shift-narrow : (i : ℕ) (t : Bool) (to : Saturate) (s : Bool) {a : Expr} (b : Expr) → i ≤ n → Fit a (n * 2) → Fit (saturatingLane (ShiftNarrow i t to) a b n s) n
-  unfolding saturatingLane
+  unfolding Arith.saturatingLane
   fit-shift-narrow i t to s b h p =
       fit-narrowed to
       (fit-shift s (fit-plus t (2 ^ (i - 1)) (omega arith) (pow-lt (omega arith)) (fit-extend s (n * 2 + 1) (omega arith) (omega arith) p))
@@ -68,11 +71,11 @@ module _ (n : ℕ) (h8 : 8 ≤ n) (h64 : n ≤ 64) where
       fit-ite (test Slt p none) (fit-bv Sub none p) p
 
   pub fit-unary : (t s : Bool) {a : Expr} (b : Expr) → Fit a n → Fit (saturatingLane (Unary t) a b n s) n
-  unfolding saturatingLane
+  unfolding Arith.saturatingLane
   fit-unary t s b p = fit-clamp Signed n hn (omega arith) (omega arith) (fit-negated t (omega arith) (fit-sext (n + 1) (omega arith) (omega arith) p))
 
   pub fit-dmulh : (t s : Bool) {a b : Expr} → Fit a n → Fit b n → Fit (saturatingLane (DoublingMultiplyHigh t) a b n s) n
-  unfolding saturatingLane
+  unfolding Arith.saturatingLane
   fit-dmulh t s p q =
       let w1 : n ≤ n * 2 + 1 = omega arith in
       let w2 : n * 2 + 1 ≤ 129 = omega arith in
@@ -83,7 +86,7 @@ module _ (n : ℕ) (h8 : 8 ≤ n) (h64 : n ≤ 64) where
 
   -- shifts
   pub fit-right : (s t : Bool) {v amount : Expr} (most : ℕ) → most ≤ 128 → Fit v n → Fit amount n → Fit (shiftRight v amount n s t most) n
-  unfolding shiftRight
+  unfolding Arith.shiftRight
   fit-right s false most l p q = fit-shift s p q
   fit-right s true most l p q =
       let w1 : n ≤ max n most + 1 = omega (arith, le-max-left n most) in
@@ -118,7 +121,7 @@ module _ (n : ℕ) (h8 : 8 ≤ n) (h64 : n ≤ 64) where
   fit-left false s p q = fit-bv Shl p q
 
   pub fit-register : (t u s : Bool) {v raw : Expr} → Fit v n → Fit raw n → Fit (shiftLane (Register t u) s v raw n) n
-  unfolding shiftLane
+  unfolding Arith.shiftLane
   fit-register t u s p q =
       let k = fit-amount q in
       fit-ite (test Slt k fit-zero) (fit-right s t registerShiftMax (omega arith) p (fit-bv Sub fit-zero k)) (fit-left u s p k)
@@ -136,19 +139,19 @@ module _ (n : ℕ) (h8 : 8 ≤ n) (h64 : n ≤ 64) where
   fit-bit k h p = fit-as (omega arith) (fit-extract k k (omega arith) h p)
 
   pub fit-leading : {v : Expr} {w : ℕ} (k : ℕ) → w ≤ 64 → k ≤ w → Fit v w → Fit (leadingZeros v w k) w
-  unfolding leadingZeros
+  unfolding Arith.leadingZeros
   fit-leading {w = w} zero l h p = fit-const w w (p .some) (omega arith) (below w)
   fit-leading {w = w} (suc k) l h p =
       fit-ite (test Eq (fit-bit k h p) (fit-const 1 1 (omega arith) (omega arith) (omega arith))) (fit-const (w - 1 - k) w (p .some) (omega arith) (omega (arith, below w)))
       (fit-leading k l (omega arith) p)
 
   pub fit-count : {v : Expr} (k : ℕ) → k ≤ n → Fit v n → Fit (populationCount v n k) n
-  unfolding populationCount
+  unfolding Arith.populationCount
   fit-count zero h p = fit-zero
   fit-count (suc k) h p = fit-bv Add (fit-count k (omega arith) p) (fit-zext n (omega arith) (omega arith) (fit-bit k h p))
 
   pub fit-signs : {v : Expr} → Fit v n → Fit (bitwiseUnaryLane LeadingSignBits v n) n
-  unfolding bitwiseUnaryLane
+  unfolding Arith.bitwiseUnaryLane
   fit-signs p =
       fit-zext n (omega arith) (omega arith)
       (fit-leading (n - 1) (omega arith) (omega arith)
@@ -160,20 +163,20 @@ module _ (n : ℕ) (h8 : 8 ≤ n) (h64 : n ≤ 64) where
   fit-insert false i h o p = fit-bv Or (fit-bv LShr p (fit-imm i h)) (fit-bv And o (fit-const (2 ^ n - 2 ^ (n - i)) n hn (omega arith) (omega (arith, pow-pos (n - i), pow-pos n))))
 
   pub fit-mixed : (s : Bool) {d a : Expr} → Fit d n → Fit a n → Fit (mixedSignAddLane s d a n) n
-  unfolding mixedSignAddLane
+  unfolding Arith.mixedSignAddLane
   fit-mixed s o p =
       fit-clamp (cond s Signed SignedToUnsigned) n hn (omega arith) (omega arith)
       (fit-bv Add (fit-extend s (n + 2) (omega arith) (omega arith) o) (fit-extend (not s) (n + 2) (omega arith) (omega arith) p))
 
   pub fit-product : {a b : Expr} → Fit a (n / 2) → Fit b (n / 2) → Fit (doublingProduct a b n) n
-  unfolding doublingProduct
+  unfolding Arith.doublingProduct
   fit-product p q =
       fit-clamp Signed n hn (omega arith) (omega arith)
       (fit-bv Shl (fit-bv Mul (fit-sext (n + 1) (omega arith) (omega arith) p) (fit-sext (n + 1) (omega arith) (omega arith) q))
       (fit-const 1 (n + 1) (omega arith) (omega arith) (small 1 (n + 1) (omega arith) (omega arith))))
 
   pub fit-combined : (op : BinOp) {d a b : Expr} → Fit d n → Fit a (n / 2) → Fit b (n / 2) → Fit (doublingLongLane (With op) d a b n) n
-  unfolding doublingLongLane
+  unfolding Arith.doublingLongLane
   fit-combined op o p q =
       fit-clamp Signed n hn (omega arith) (omega arith)
       (fit-bv op (fit-sext (n + 1) (omega arith) (omega arith) o) (fit-sext (n + 1) (omega arith) (omega arith) (fit-product p q)))
@@ -184,12 +187,12 @@ module _ (n : ℕ) (h8 : 8 ≤ n) (h64 : n ≤ 64) where
   fit-abd false p q = fit-ite (test Ult p q) (fit-bv Sub q p) (fit-bv Sub p q)
 
   pub fit-high : (subtract t : Bool) {a b : Expr} → Fit a (n * 2) → Fit b (n * 2) → Fit (highNarrowLane subtract t a b n) n
-  unfolding highNarrowLane
+  unfolding Width.highNarrowLane
   fit-high subtract t p q =
       fit-as (omega arith) (fit-extract (n * 2 - 1) n (omega arith) (omega arith) (fit-plus t (2 ^ (n - 1)) (omega arith) (pow-lt (omega arith)) (fit-bv (cond subtract Sub Add) p q)))
 
 pub fit-reverse : (n : ℕ) {v : Expr} → 0 < n → n ≤ 129 → Fit v n → Fit (bitwiseUnaryLane ReverseBits v n) n
-unfolding bitwiseUnaryLane
+unfolding Arith.bitwiseUnaryLane
 fit-reverse n {v = v} hn h p =
     fit-as (omega arith)
     (fit-concat-lanes 1 (n - 1) (λ j. extractCollapsing v (n - 1 - j) (n - 1 - j)) (omega arith)

@@ -19,7 +19,7 @@ use Rattle.trees.specs.Arith.{shiftBy}
 use Rattle.trees_value.proofs.Z.{neg-up, neg-dn}
 use Rattle.trees_value.proofs.Wrap.{wrap-is}
 use Rattle.trees_value.proofs.Bv as Bv
-use Rattle.trees_value.proofs.Bv.{FitsS, FitsU, Fits}
+use Rattle.trees_value.specs.Fits.{FitsS, FitsU, Fits}
 
 module _ (r : ℕ → ℕ) where
   pub record Is (t : Expr) (w : ℕ) (z : ℤ) : Type 0 where

@@ -12,10 +12,11 @@ use Rattle.neon.specs.Form.{form, least, most, sourceBits}
 use Rattle.trees.specs.declared.NeonOp.{NeonOp}
 use Rattle.trees.specs.declared.NeonOp.the-variants.{Shift, ShiftInsert, MixedSignAdd, DoublingLong, Saturating, BitwiseUnary, AbsoluteDifference, HighNarrow}
 use Rattle.trees.specs.declared.Combine.the-variants.{With}
-use Rattle.trees.specs.Arith.{shiftLane, shiftInsertLane, mixedSignAddLane, doublingProduct, doublingLongLane, saturatingLane, bitwiseUnaryLane, accumulated, absoluteDifferenceLane}
-use Rattle.trees.specs.Width.{highNarrowLane}
+use Rattle.trees.specs.Arith.{shiftInsertLane, accumulated, absoluteDifferenceLane}
 use Rattle.trees.specs.Neon.{neonOp}
-use Rattle.trees_value.proofs.Bv.{FitsS, FitsU}
+use Rattle.trees.specs.Trees.{shiftLane, mixedSignAddLane, doublingProduct, doublingLongLane, saturatingLane, bitwiseUnaryLane, highNarrowLane}
+use Rattle.trees.specs.Arith as Arith
+use Rattle.trees_value.specs.Fits.{FitsS, FitsU}
 use Rattle.trees_value.proofs.Is.{Is, Has, has-is, has-number, is-number, is-eq, is-add}
 use Rattle.trees_value.proofs.Clamp.{S-fits, is-reading}
 use Rattle.trees_value.proofs.Register.{is-register, is-shl-immediate, is-sqshl-immediate, is-shr-immediate, is-rshr-immediate, is-sqshlu}
@@ -107,7 +108,7 @@ module _ (r : ℕ → ℕ) (n i : ℕ) (d a b : Expr) (w x y : ℕ) (h8 : 8 ≤ 
       (is-dmlal r a b (n / 2) (S (n / 2) x) (S (n / 2) y) (omega arith) (g .sx) (g .sy) (g .qa) (g .qb) subtract d (S n w)) sw qd
 
   pub lane-is : (o : Op) → least o ≤ i → i ≤ most o n → Sources r a b x y (sourceBits (form o .lanes) n) → (upper : Bool) → Has r (laneTree (neonOp o i upper) n d a b) n (armLane o n i w x y)
-  unfolding armLane shiftLane doublingLongLane bitwiseUnaryLane
+  unfolding armLane Arith.shiftLane Arith.doublingLongLane Arith.bitwiseUnaryLane
   lane-is Op.SHL l h g u = has-is r (is-shl-immediate r false a n i (pos x) hn (g .ux) (g .pa))
   lane-is Op.SQSHLI l h g u = has-is r (is-sqshl-immediate r true a n i (S n x) hn (g .sx) (g .qa))
   lane-is Op.UQSHLI l h g u = has-is r (is-sqshl-immediate r false a n i (pos x) hn (g .ux) (g .pa))

@@ -10,7 +10,9 @@ use lib.IntN.{ℤ, pos}
 use Rattle.terms.specs.Expr.{Expr, Var, Const, Bv, Compare, Ite, Extract, Concat, ZeroExtend, SignExtend, width}
 use Rattle.terms.specs.Value.{value}
 use Rattle.neon.specs.Arm.{wrap, lane, lanes}
-use Rattle.trees.specs.Simd.{inside, extractCollapsing, extractLane, concatLanes}
+use Rattle.trees.specs.Simd.{inside, extractCollapsing, concatLanes}
+use Rattle.trees.specs.Trees.{extractLane}
+use Rattle.trees.specs.Simd as Simd
 use Rattle.trees_value.proofs.Bv.{wrap-pos, cut-is}
 use Rattle.trees_value.proofs.Is.{Is}
 
@@ -79,7 +81,7 @@ module _ (r : ℕ → ℕ) where
       record { wide = cut-width a (n - 1) 0 ∙ size; val = cut-value r a (n - 1) 0 (omega arith) ∙ rw (size, p .val, div-one (wrap w x)) (cut-is w n x h) }
 
   pub is-lane : (e : Expr) (n j : ℕ) → 0 < n → Is r (extractLane e n j) n (pos (lane n j (value r e)))
-  unfolding extractLane
+  unfolding Simd.extractLane
   is-lane e n j hn =
       let size : suc (n * j + n - 1 - n * j) ≡ n = omega arith in
       record {

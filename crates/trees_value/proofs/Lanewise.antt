@@ -13,7 +13,8 @@ use Rattle.neon.specs.Form.{Lanes, Same, Narrow, Long, form, isNarrow, least, m
 use Rattle.neon.specs.Arm.{lane, lanes, armLane, armAt, placeBits, placeLane, armResult}
 use Rattle.neon.proofs.Geometry.{sized, source-some, by-half}
 use Rattle.neon.proofs.Lanes.{lane-of-lanes}
-use Rattle.trees.specs.Neon.{neonOp, resultTree}
+use Rattle.trees.specs.Neon.{neonOp}
+use Rattle.trees.specs.Trees.{resultTree}
 use Rattle.trees_value.proofs.Is.{Has}
 use Rattle.trees_value.proofs.Lanes.{lane-lt}
 use Rattle.trees_value.proofs.Lane.{laneTree, lane-is, sources}

@@ -19,3 +19,6 @@ pub mod FitForm
 pub mod Range
 pub mod Lanewise
 pub mod Joined
+pub mod JoinedTerms
+pub mod JoinedTrees
+pub mod Rust

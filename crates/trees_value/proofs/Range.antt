@@ -16,7 +16,7 @@ use Rattle.terms.specs.Value.{value, apply, ite, msb, bvneg, bvnot, bvadd, bvsu
 use Rattle.terms.specs.Rules.{Good}
 use Rattle.neon.specs.declared.Instruction.{Instruction}
 use Rattle.neon.specs.Refusal.{AllLegal}
-use Rattle.trees.specs.Block.{treeRun}
+use Rattle.trees.specs.Trees.{treeRun}
 use Rattle.trees_value.proofs.FitForm.{fit-block}
 
 -- each operator gives a number of m bits

@@ -14,13 +14,15 @@ use Rattle.terms.specs.declared.BinOp.the-variants.{Sub}
 use Rattle.terms.specs.declared.CmpOp.the-variants.{Slt}
 use Rattle.neon.specs.Arm.{wrap, S, cU, floor, round, scale, byte, shiftZ, roundZ}
 use Rattle.trees.specs.Simd.{extractCollapsing}
-use Rattle.trees.specs.Arith.{shiftBy, scaled, shiftRight, saturatingShiftLeft, registerShiftMax, leftImmediate, signedAmount, leftBy, shiftLane}
+use Rattle.trees.specs.Arith.{shiftBy, scaled, saturatingShiftLeft, registerShiftMax, leftBy}
+use Rattle.trees.specs.Trees.{shiftRight, leftImmediate, signedAmount, shiftLane}
+use Rattle.trees.specs.Arith as Arith
 use Rattle.trees.specs.declared.SaturateTo.the-variants.{SignedToUnsigned}
 use Rattle.trees.specs.declared.Saturate.the-variants.{Never, Into}
 use Rattle.trees.specs.declared.ShiftKind.the-variants.{Register}
-use Rattle.trees_value.proofs.Z.{up, dn, sum, Floor, floored, ge-is}
+use Rattle.trees_value.specs.Fits.{up, dn, FitsS, Fits}
+use Rattle.trees_value.proofs.Z.{sum, Floor, floored, ge-is}
 use Rattle.trees_value.proofs.Wrap.{half}
-use Rattle.trees_value.proofs.Bv.{FitsS, Fits}
 use Rattle.trees_value.proofs.Is.{Is, Says, By, by-const, by-is, is-eq, is-const, is-sub, is-shl, is-shift, is-sext, is-then, is-else, says-slt}
 use Rattle.trees_value.proofs.Lanes.{is-low}
 use Rattle.trees_value.proofs.Clamp.{S-fits, is-reading, clampTo, clamp-in, floor-fits, is-clampSU}
@@ -134,7 +136,7 @@ module _ (r : ℕ → ℕ) (rounding saturate s : Bool) (v raw : Expr) (n : ℕ)
   -- to the right by suc k
   right : (rounding : Bool) (amount : Expr) (k : ℕ) → k < 128 → Is r amount n (pos (suc k))
       → Is r (shiftRight v amount n s rounding registerShiftMax) n (limited saturate s n (turned rounding x (negsuc k)))
-  unfolding shiftRight
+  unfolding Arith.shiftRight
   right false amount k l q =
       is-eq r (limited-in saturate s n (floor x (suc k)) (floor-fits s n x (2 ^ suc k) (pow-pos (suc k)) f))
       (is-shift r s positive-n f p (by-is r (omega (arith, large)) q))
@@ -147,7 +149,7 @@ module _ (r : ℕ → ℕ) (rounding saturate s : Bool) (v raw : Expr) (n : ℕ)
   left false amount k q = is-shl r p q
 
   right-width : (rounding : Bool) (amount : Expr) → width (shiftRight v amount n s rounding registerShiftMax) ≡ n
-  unfolding shiftRight width
+  unfolding Arith.shiftRight width
   right-width false amount = go s
     where
       go : (s : Bool) → unfold width in (width (shiftBy s v amount) ≡ n)
@@ -174,7 +176,7 @@ module _ (r : ℕ → ℕ) (rounding saturate s : Bool) (v raw : Expr) (n : ℕ)
       (is-eq r (ap pos (zero-add (suc k))) (is-sub r (is-const r 0 n (pow-pos n)) q)))
 
   pub is-register : (y : ℕ) → y < 2 ^ n → Is r raw n (pos y) → Is r (shiftLane (Register rounding saturate) s v raw n) n (limited saturate s n (turned rounding x (byte y)))
-  unfolding shiftLane
+  unfolding Arith.shiftLane
   is-register y l q = turn (signedAmount raw n) (byte y) (byte-fits y) (is-amount r raw n y hn l q)
 
 -- ---- the immediate forms
@@ -186,7 +188,7 @@ module _ (r : ℕ → ℕ) (s : Bool) (v : Expr) (n i : ℕ) (x : ℤ) (hn : 0 <
   is-sqshl-immediate = is-saturating r v n i hn s (Const i n) x f p (by-const r i n)
 
   pub is-shr-immediate : Is r (shiftRight v (Const i n) n s false i) n (floor x i)
-  unfolding shiftRight
+  unfolding Arith.shiftRight
   is-shr-immediate = is-shift r s hn f p (by-const r i n)
 
   pub is-rshr-immediate : 0 < i → i ≤ n → Is r (shiftRight v (Const i n) n s true i) n (round x i)

@@ -11,14 +11,16 @@ use Rattle.terms.specs.Expr.{Expr, Const, Bv}
 use Rattle.terms.specs.declared.BinOp.the-variants.{Add, Sub}
 use Rattle.neon.specs.Arm.{cS, cU, floor}
 use Rattle.trees.specs.Lower.{extend}
-use Rattle.trees.specs.Arith.{plusIf, joined, twice, shifted, exactLane, saturatingLane, mixedSignAddLane, doublingProduct, doublingLongLane}
+use Rattle.trees.specs.Arith.{plusIf, joined, twice, shifted, exactLane}
+use Rattle.trees.specs.Trees.{saturatingLane, mixedSignAddLane, doublingProduct, doublingLongLane}
+use Rattle.trees.specs.Arith as Arith
 use Rattle.trees.specs.declared.SaturateTo.the-variants.{Signed, Unsigned, SignedToUnsigned}
 use Rattle.trees.specs.declared.Saturate.the-variants.{Never, Into}
 use Rattle.trees.specs.declared.SaturatingKind.the-variants.{AddSub, Halving, Narrow, ShiftNarrow, DoublingMultiplyHigh, Unary}
 use Rattle.trees.specs.declared.Combine.the-variants.{With}
-use Rattle.trees_value.proofs.Z.{up, dn, sum, less, times, neg-up, neg-dn, ge-is}
+use Rattle.trees_value.specs.Fits.{up, dn, FitsS, FitsU, Fits}
+use Rattle.trees_value.proofs.Z.{sum, less, times, neg-up, neg-dn, ge-is}
 use Rattle.trees_value.proofs.Wrap.{half}
-use Rattle.trees_value.proofs.Bv.{FitsS, FitsU, Fits}
 use Rattle.trees_value.proofs.Is.{Is, by-const, is-eq, is-const, is-add, is-sub, is-mul, is-shl, is-ashr, is-extend, is-shift, is-cut, is-ite, says-slt}
 use Rattle.trees_value.proofs.Clamp.{is-clampS, is-clampU, is-clampSU, clamp-fits, floor-fits}
 
@@ -143,7 +145,7 @@ module _ (r : ℕ → ℕ) where
     one-more = omega arith
 
     pub is-halving : (rounding : Bool) → Is r (saturatingLane (Halving rounding) a b n s) n (floor (plus rounding (x +ℤ y) 1) 1)
-    unfolding saturatingLane
+    unfolding Arith.saturatingLane
     is-halving rounding =
         is-cut r hn one-more
         (is-shift r s (omega arith) (sum1 s rounding n x y hn f g)
@@ -157,7 +159,7 @@ module _ (r : ℕ → ℕ) where
   -- two signed lanes
   module _ (a b : Expr) (n : ℕ) (x y : ℤ) (hn : 0 < n) (f : FitsS n x) (g : FitsS n y) (p : Is r a n x) (q : Is r b n y) where
     pub is-sqaddsub : (subtract : Bool) → Is r (saturatingLane (AddSub (cond subtract Sub Add) Signed) a b n true) n (cS n (applyZ subtract x y))
-    unfolding saturatingLane
+    unfolding Arith.saturatingLane
     is-sqaddsub subtract = is-clampS r hn (omega arith) (apply-fits subtract hn f g) (is-joined subtract true true hn (omega arith) f g p q)
 
     pub is-doubled : (w : ℕ) → n ≤ w → Is r (twice a b w) w (x *ℤ y *ℤ pos 2)
@@ -172,17 +174,17 @@ module _ (r : ℕ → ℕ) where
         small = omega (arith, half n hn, pow-mono {i = n} {j = n * 2 + 1} (omega arith), pow-pos (n - 1))
 
     pub is-dmulh : (rounding : Bool) → Is r (saturatingLane (DoublingMultiplyHigh rounding) a b n true) n (cS n (floor (plus rounding (x *ℤ y *ℤ pos 2) (2 ^ (n - 1))) n))
-    unfolding saturatingLane
+    unfolding Arith.saturatingLane
     is-dmulh rounding = is-clampS r hn (omega arith) (floor-high n x y hn f g rounding) (is-high rounding)
 
   -- two unsigned lanes
   module _ (a b : Expr) (n : ℕ) (x y : ℤ) (hn : 0 < n) (f : FitsU n x) (g : FitsU n y) (p : Is r a n x) (q : Is r b n y) where
     pub is-uqadd : Is r (saturatingLane (AddSub Add Unsigned) a b n false) n (cU n (x +ℤ y))
-    unfolding saturatingLane
+    unfolding Arith.saturatingLane
     is-uqadd = is-clampU r hn (omega arith) (sumU hn f g) (is-joined false false false hn (omega arith) f g p q)
 
     pub is-uqsub : Is r (saturatingLane (AddSub Sub SignedToUnsigned) a b n false) n (cU n (x -ℤ y))
-    unfolding saturatingLane
+    unfolding Arith.saturatingLane
     is-uqsub = is-clampSU r hn (omega arith) (lessU hn f g) (is-joined true false false hn (omega arith) f g p q)
 
   -- ---- one signed lane: the negative and the absolute value
@@ -216,25 +218,25 @@ module _ (r : ℕ → ℕ) where
         (is-ite r (says-slt r (omega arith) x-fits (zero-fits (n + 1)) wide-x (is-const r 0 (n + 1) (pow-pos (n + 1)))) is-minus wide-x)
 
     pub is-sqneg : Is r (saturatingLane (Unary true) a b n true) n (cS n (negℤ x))
-    unfolding saturatingLane
+    unfolding Arith.saturatingLane
     is-sqneg = is-clampS r hn (omega arith) minus-fits is-minus
 
     pub is-sqabs : Is r (saturatingLane (Unary false) a b n true) n (cS n (pos (natAbs x)))
-    unfolding saturatingLane
+    unfolding Arith.saturatingLane
     is-sqabs = is-clampS r hn (omega arith) abs-fits is-abs
 
   -- ---- narrowing: the source has n * 2 bits
   module _ (a b : Expr) (n : ℕ) (x : ℤ) (hn : 0 < n) (p : Is r a (n * 2) x) where
     pub is-sqxtn : FitsS (n * 2) x → Is r (saturatingLane (Narrow Signed) a b n true) n (cS n x)
-    unfolding saturatingLane
+    unfolding Arith.saturatingLane
     is-sqxtn f = is-clampS r hn (omega arith) f p
 
     pub is-uqxtn : FitsU (n * 2) x → Is r (saturatingLane (Narrow Unsigned) a b n false) n (cU n x)
-    unfolding saturatingLane
+    unfolding Arith.saturatingLane
     is-uqxtn f = is-clampU r hn (omega arith) f p
 
     pub is-sqxtun : FitsS (n * 2) x → Is r (saturatingLane (Narrow SignedToUnsigned) a b n true) n (cU n x)
-    unfolding saturatingLane
+    unfolding Arith.saturatingLane
     is-sqxtun f = is-clampSU r hn (omega arith) f p
 
     module _ (s rounding : Bool) (i : ℕ) (f : Fits s (n * 2) x) (hi : 0 < i) (h : i ≤ n) where
@@ -255,33 +257,33 @@ module _ (r : ℕ → ℕ) where
 
     pub is-shrn : (s rounding : Bool) (i : ℕ) → Fits s (n * 2) x → 0 < i → i ≤ n
         → Is r (saturatingLane (ShiftNarrow i rounding Never) a b n s) n (floor (plus rounding x (2 ^ (i - 1))) i)
-    unfolding saturatingLane
+    unfolding Arith.saturatingLane
     is-shrn s rounding i f hi h = is-cut r hn (omega arith) (is-shifted s rounding i f hi h)
 
     pub is-sqshrn : (rounding : Bool) (i : ℕ) → FitsS (n * 2) x → 0 < i → i ≤ n
         → Is r (saturatingLane (ShiftNarrow i rounding (Into Signed)) a b n true) n (cS n (floor (plus rounding x (2 ^ (i - 1))) i))
-    unfolding saturatingLane
+    unfolding Arith.saturatingLane
     is-sqshrn rounding i f hi h = is-clampS r hn (omega arith) (narrow-fits true rounding i f hi h) (is-shifted true rounding i f hi h)
 
     pub is-uqshrn : (rounding : Bool) (i : ℕ) → FitsU (n * 2) x → 0 < i → i ≤ n
         → Is r (saturatingLane (ShiftNarrow i rounding (Into Unsigned)) a b n false) n (cU n (floor (plus rounding x (2 ^ (i - 1))) i))
-    unfolding saturatingLane
+    unfolding Arith.saturatingLane
     is-uqshrn rounding i f hi h = is-clampU r hn (omega arith) (narrow-fits false rounding i f hi h) (is-shifted false rounding i f hi h)
 
     pub is-sqshrun : (rounding : Bool) (i : ℕ) → FitsS (n * 2) x → 0 < i → i ≤ n
         → Is r (saturatingLane (ShiftNarrow i rounding (Into SignedToUnsigned)) a b n true) n (cU n (floor (plus rounding x (2 ^ (i - 1))) i))
-    unfolding saturatingLane
+    unfolding Arith.saturatingLane
     is-sqshrun rounding i f hi h = is-clampSU r hn (omega arith) (narrow-fits true rounding i f hi h) (is-shifted true rounding i f hi h)
 
   -- ---- doubling, long: the source lanes have h bits, the result h * 2
   module _ (a b : Expr) (h : ℕ) (x y : ℤ) (hh : 0 < h) (f : FitsS h x) (g : FitsS h y) (p : Is r a h x) (q : Is r b h y) where
     pub is-dmull : Is r (doublingProduct a b (h * 2)) (h * 2) (cS (h * 2) (x *ℤ y *ℤ pos 2))
-    unfolding doublingProduct
+    unfolding Arith.doublingProduct
     is-dmull = is-clampS r (omega arith) (omega arith) (doubled-fits h x y hh f g) (is-doubled a b h x y hh f g p q (h * 2 + 1) (omega arith))
 
     pub is-dmlal : (subtract : Bool) (d : Expr) (z : ℤ) → FitsS (h * 2) z → Is r d (h * 2) z
         → Is r (doublingLongLane (With (cond subtract Sub Add)) d a b (h * 2)) (h * 2) (cS (h * 2) (applyZ subtract z (cS (h * 2) (x *ℤ y *ℤ pos 2))))
-    unfolding doublingLongLane
+    unfolding Arith.doublingLongLane
     is-dmlal subtract d z k o =
         is-clampS r (omega arith) (omega arith) (apply-fits subtract (omega arith) k (clamp-fits (h * 2) (x *ℤ y *ℤ pos 2)))
         (is-joined subtract true true (omega arith) (omega arith) k (clamp-fits (h * 2) (x *ℤ y *ℤ pos 2)) o is-dmull)
@@ -289,9 +291,9 @@ module _ (r : ℕ → ℕ) where
   -- ---- the mixed signs, at n + 2 bits
   module _ (d a : Expr) (n : ℕ) (z x : ℤ) (hn : 0 < n) (o : Is r d n z) (p : Is r a n x) where
     pub is-suqadd : FitsS n z → FitsU n x → Is r (mixedSignAddLane true d a n) n (cS n (z +ℤ x))
-    unfolding mixedSignAddLane
+    unfolding Arith.mixedSignAddLane
     is-suqadd f g = is-clampS r hn (omega arith) (sumSU hn f g) (is-joined false true false hn (omega arith) f g o p)
 
     pub is-usqadd : FitsU n z → FitsS n x → Is r (mixedSignAddLane false d a n) n (cU n (z +ℤ x))
-    unfolding mixedSignAddLane
+    unfolding Arith.mixedSignAddLane
     is-usqadd f g = is-clampSU r hn (omega arith) (sumUS hn f g) (is-joined false false true hn (omega arith) f g o p)

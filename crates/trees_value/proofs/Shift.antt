@@ -15,10 +15,13 @@ use Rattle.terms.specs.declared.BinOp.the-variants.{Shl}
 use Rattle.terms.specs.declared.CmpOp.the-variants.{Eq}
 use Rattle.neon.specs.Form.{most}
 use Rattle.neon.specs.Arm.{wrap, cS, cU, lane}
-use Rattle.trees.specs.Arith.{shiftBy, shiftRight, shiftBound, saturatingShiftLeft}
-use Rattle.trees_value.proofs.Z.{up, dn, sum, less, times, ext, Floor, floored, ge-is}
+use Rattle.trees.specs.Arith.{shiftBy, shiftBound, saturatingShiftLeft}
+use Rattle.trees.specs.Trees.{shiftRight}
+use Rattle.trees.specs.Arith as Arith
+use Rattle.trees_value.specs.Fits.{up, dn, FitsS, FitsU, Fits}
+use Rattle.trees_value.proofs.Z.{sum, less, times, ext, Floor, floored, ge-is}
 use Rattle.trees_value.proofs.Wrap.{half, wrap-lt, over, under, wrap-is}
-use Rattle.trees_value.proofs.Bv.{FitsS, FitsU, Fits, wrap-pos}
+use Rattle.trees_value.proofs.Bv.{wrap-pos}
 use Rattle.trees_value.proofs.Is.{Is, By, by-is, is-eq, is-const, is-negative, is-add, is-sub, is-shl, is-zext, is-extend, is-shift, is-cut, is-then, is-else, is-ite, says-slt, says-eq}
 use Rattle.trees_value.proofs.Clamp.{reading, reading-fits, reading-wrap, reading-is, same, near, clampTo, clamp-in, low-S, high-S, high-U, floor-fits, congruent, multiple-le}
 
@@ -49,7 +52,7 @@ module _ (n k most : ℕ) (hn : 0 < n) (hk : 0 < k) (hm : k ≤ most) where
 
   pub is-round : (r : ℕ → ℕ) (s : Bool) (v amount : Expr) (x : ℤ) → Fits s n x → k < 2 ^ n → Is r v n x → Is r amount n (pos k)
       → Is r (shiftRight v amount n s true most) n (shrZ (x +ℤ pos (2 ^ (k - 1))) (2 ^ k))
-  unfolding shiftRight
+  unfolding Arith.shiftRight
   is-round r s v amount x f small p q =
       let w : ℕ = max n most + 1 in
       let nw : n ≤ max n most + 1 = omega (arith, le-max-left n most) in

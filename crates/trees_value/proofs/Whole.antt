@@ -11,10 +11,13 @@ use Rattle.neon.specs.Form.{Lanes, Same, Narrow, Long, form, least, most, sourc
 use Rattle.neon.specs.Arm.{lane, lanes, armAt, placeBits, armResult}
 use Rattle.neon.proofs.Lanes.{lanes-eq}
 use Rattle.neon.proofs.Geometry.{sized, source-some, filled, by-half}
-use Rattle.trees.specs.Simd.{extractCollapsing, extractLane, concatLanes}
-use Rattle.trees.specs.Arith.{shiftLanes, shiftInsertLane, shiftInsertLanes, mixedSignAddLanes, doublingLongLanes, saturatingLanes, bitwiseUnaryLanes, absoluteDifferenceLanes, keepLower}
-use Rattle.trees.specs.Width.{highNarrowLanes}
-use Rattle.trees.specs.Neon.{neonOp, resultTree}
+use Rattle.trees.specs.Simd.{extractCollapsing, concatLanes}
+use Rattle.trees.specs.Arith.{shiftInsertLane}
+use Rattle.trees.specs.Neon.{neonOp}
+use Rattle.trees.specs.Trees.{extractLane, keepLower, resultTree}
+use Rattle.trees.specs.Arith as Arith
+use Rattle.trees.specs.Width as Width
+use Rattle.trees.specs.Neon as Neon
 use Rattle.trees_value.proofs.Is.{Has, has-number}
 use Rattle.trees_value.proofs.Lanes.{cut-value, cut-width, is-lane, lane-lt, concat-width, concat-value}
 use Rattle.trees_value.proofs.Lane.{laneTree, lane-is, sources}
@@ -43,7 +46,8 @@ keeps v false new d = refl
 
 pub as-lanes : (o : Op) (v : Arrangement) (i : ℕ) (d a b : Expr)
     → resultTree o v i d a b ≡ placeTree (form o .lanes) (full v) (concatLanes (laneCount o v - 1) (treeAt o v i d a b)) d
-unfolding resultTree shiftLanes shiftInsertLane shiftInsertLanes mixedSignAddLanes doublingLongLanes saturatingLanes bitwiseUnaryLanes absoluteDifferenceLanes highNarrowLanes
+unfolding Neon.resultTree Arith.shiftLanes shiftInsertLane Arith.shiftInsertLanes Arith.mixedSignAddLanes Arith.doublingLongLanes
+    Arith.saturatingLanes Arith.bitwiseUnaryLanes Arith.absoluteDifferenceLanes Width.highNarrowLanes
 as-lanes Op.SHL v i d a b = refl
 as-lanes Op.SQSHLI v i d a b = refl
 as-lanes Op.UQSHLI v i d a b = refl

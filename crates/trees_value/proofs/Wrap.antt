@@ -6,7 +6,8 @@ use native.Mathlib.Omega.{arith}
 use lib.Pow.{pow-pos}
 use lib.IntN.{ℤ, pos, negsuc, _+ℤ_, _*ℤ_}
 use Rattle.neon.specs.Arm.{wrap}
-use Rattle.trees_value.proofs.Z.{up, dn, sum, times}
+use Rattle.trees_value.specs.Fits.{up, dn}
+use Rattle.trees_value.proofs.Z.{sum, times}
 
 pub half : (w : ℕ) → 0 < w → 2 ^ w ≡ 2 * 2 ^ (w - 1)
 half zero h = absurd (omega arith)

@@ -1,4 +1,5 @@
 // Bit-vector operations of SMT-LIB on numbers in three words, at any width up to 192: those of crate `wide`, cut to the width.
+use pool::Bit;
 use wide::Wide;
 use wide::add;
 use wide::cut;
@@ -122,11 +123,11 @@ pub fn bv_sext(a: Wide, m: u64, w: u64) -> Wide
     bv_not(bv_not(a, m), w)
 }
 
-pub fn bv_extract(a: Wide, hi: u64, lo: u64) -> Wide
-    requires { ⌜ (lo ≤ hi) × (hi < 192) ⌝ }
-    ensures { λ r. ⌜ num r ≡ num a / 2 ^ lo % 2 ^ suc (hi - lo) ⌝ }
+pub fn bv_extract(a: Wide, hi: Bit, lo: Bit) -> Wide
+    requires { ⌜ (lo .0 ≤ hi .0) × (hi .0 < 192) ⌝ }
+    ensures { λ r. ⌜ num r ≡ num a / 2 ^ lo .0 % 2 ^ suc (hi .0 - lo .0) ⌝ }
 {
-    cut(shr(a, lo), hi - lo + 1)
+    cut(shr(a, lo.0), hi.0 - lo.0 + 1)
 }
 
 pub fn bv_concat(a: Wide, b: Wide, w: u64) -> Wide

@@ -1,5 +1,6 @@
--- Sample words: for each operation two lines of the project's list of words, which two assemblers made, and words beside them that encode
--- no form of ours. They hold the encodings to Arm's, where the theorems of Inverse.antt say only that going and returning agree.
+-- Sample words: for each operation two lines of the project's list of words, which two assemblers made, for each element of 16 bits three more, and
+-- words beside them that encode no form of ours. They check the encodings against Arm's; the theorems of Inverse.antt say only that going and
+-- returning agree.
 use mathlib.Core.Bool.{Bool, true, false, _&&_}
 use mathlib.Core.List.{List, [], _∷_}
 use mathlib.Core.Path.{_≡_}
@@ -156,6 +157,25 @@ samples =
     0x4ebf607a is instruction 66 5 0 26 3 31 ∷
     0x2e37629f is instruction 67 0 0 31 20 23 ∷
     0x6eba60fd is instruction 67 5 0 29 7 26 ∷
+    -- an element of 16 bits by each bit of its index alone, H:L:M
+    0x0f51b260 is instruction 48 5 1 0 19 1 ∷
+    0x0f62b020 is instruction 48 5 2 0 1 2 ∷
+    0x0f40bbc6 is instruction 48 5 4 6 30 0 ∷
+    0x0f523020 is instruction 49 5 1 0 1 2 ∷
+    0x0f623020 is instruction 49 5 2 0 1 2 ∷
+    0x0f423820 is instruction 49 5 4 0 1 2 ∷
+    0x0f527020 is instruction 50 5 1 0 1 2 ∷
+    0x0f627020 is instruction 50 5 2 0 1 2 ∷
+    0x0f40788b is instruction 50 5 4 11 4 0 ∷
+    0x4f52b020 is instruction 51 5 1 0 1 2 ∷
+    0x4f62b020 is instruction 51 5 2 0 1 2 ∷
+    0x4f41b8dc is instruction 51 5 4 28 6 1 ∷
+    0x4f5032bb is instruction 52 5 1 27 21 0 ∷
+    0x4f613116 is instruction 52 5 2 22 8 1 ∷
+    0x4f423820 is instruction 52 5 4 0 1 2 ∷
+    0x4f527020 is instruction 53 5 1 0 1 2 ∷
+    0x4f627020 is instruction 53 5 2 0 1 2 ∷
+    0x4f407999 is instruction 53 5 4 25 12 0 ∷
     []
 
 -- words that encode none

@@ -5,7 +5,8 @@ use Prim.Native.Nat.{_*_, _-_, _≤_}
 use mathlib.Core.List.{[]}
 use Rattle.lower.specs.Builds.{read, readIf}
 use Rattle.lower.proofs.Lanes.{LanesTo, LanesKept, lanes-first, lanes-more, lanes-all, room-first, room-lane, room-concat}
-use Rattle.trees.specs.Arith.{differenceAt, absoluteDifferenceLanes}
+use Rattle.trees.specs.Trees.{differenceAt, absoluteDifferenceLanes}
+use Rattle.trees.specs.Arith as Arith
 use Rattle.lower_absolute_difference.proofs.absolute_difference_lanes.Statement.{statement}
 use Rattle.lower_absolute_difference.proofs.absolute_difference_lanes.Tie as tie
 
@@ -86,7 +87,7 @@ same-length : tie.Need-same-length Inv-loop μ-loop
 same-length c = so-far (c .before) .sized .long
 
 returns : tie.Need-returns Inv-loop μ-loop
-unfolding absoluteDifferenceLanes
+unfolding Arith.absoluteDifferenceLanes
 returns c = lanes-all _ _ _ (omega (arith, c .before .loop .inv .1, c .loop-test .left)) (so-far (c .before))
 
 pub absolute-difference-lanes-spec : {M : Type 1} → statement M

@@ -2,7 +2,8 @@
 use native.Mathlib.Omega.{arith}
 use native.Mathlib.Nat.{lt-of-lt-of-le, one-le-mul}
 use Rattle.lower.proofs.Lanes.{kept-below}
-use Rattle.trees.specs.Width.{highNarrowLanes}
+use Rattle.trees.specs.Trees.{highNarrowLanes}
+use Rattle.trees.specs.Width as Width
 use borrow.Author.Needs.{needs}
 use Rattle.lower_high_narrow.proofs.high_narrow_lanes.Statement.{statement}
 use Rattle.lower_high_narrow.proofs.high_narrow_lanes.Tie as tie
@@ -27,7 +28,7 @@ same-length : tie.Need-same-length
 same-length c = search needs
 
 returns : tie.Need-returns
-unfolding highNarrowLanes
+unfolding Width.highNarrowLanes
 returns c =
     let l-keep-lower = c .before .before in
     let l-narrowed-lanes = l-keep-lower .before .before .before .before in

@@ -5,7 +5,7 @@ use Prim.Native.Nat.{ℕ, _*_, _-_, _≤_, _<_}
 use mathlib.Core.List.{[]}
 use Rattle.lower.specs.Builds.{read, unread}
 use Rattle.lower.proofs.Lanes.{LanesTo, LanesKept, lanes-first, lanes-more, lanes-all, room-first, room-lane, room-concat}
-use Rattle.trees.specs.Width.{highAt}
+use Rattle.trees.specs.Trees.{highAt}
 use Rattle.lower_high_narrow.proofs.narrowed_lanes.Statement.{statement}
 use Rattle.lower_high_narrow.proofs.narrowed_lanes.Tie as tie
 

@@ -5,7 +5,8 @@ use Prim.Native.Nat.{ℕ, _*_, _-_, _≤_, _<_}
 use mathlib.Core.List.{[]}
 use Rattle.lower.specs.Builds.{read, unread}
 use Rattle.lower.proofs.Lanes.{LanesTo, LanesKept, lanes-first, lanes-more, lanes-all, room-first, room-lane, room-concat}
-use Rattle.trees.specs.Arith.{mixedAt, mixedSignAddLanes}
+use Rattle.trees.specs.Trees.{mixedAt, mixedSignAddLanes}
+use Rattle.trees.specs.Arith as Arith
 use Rattle.lower_mixed_sign_add.proofs.mixed_sign_add_lanes.Statement.{statement}
 use Rattle.lower_mixed_sign_add.proofs.mixed_sign_add_lanes.Tie as tie
 
@@ -85,7 +86,7 @@ same-length : tie.Need-same-length Inv-loop μ-loop
 same-length c = so-far (c .before) .sized .long
 
 returns : tie.Need-returns Inv-loop μ-loop
-unfolding mixedSignAddLanes
+unfolding Arith.mixedSignAddLanes
 returns c = lanes-all _ _ _ (omega (arith, c .before .loop .inv .1, c .loop-test .left)) (so-far (c .before))
 
 pub mixed-sign-add-lanes-spec : {M : Type 1} → statement M

@@ -1,7 +1,8 @@
 -- lower_form builds `resultTree`: a legal form's shape is ready for its family
 use native.Mathlib.Omega.{arith}
 use Rattle.neon.specs.Op.{Op, Arrangement, opAt, arrangementAt}
-use Rattle.neon.proofs.Legal.{Formed, formed}
+use Rattle.neon.specs.Refusal.{Formed}
+use Rattle.neon.proofs.Legal.{formed}
 use Rattle.lower_neon.proofs.Rows.{Row, row}
 use Rattle.lower_neon.proofs.Sources.{form-ready, form-lowers}
 use Rattle.lower_neon.proofs.lower_form.Statement.{statement}

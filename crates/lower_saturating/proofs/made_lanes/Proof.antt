@@ -3,7 +3,8 @@ use native.Mathlib.Omega.{arith}
 use native.Mathlib.Nat.{lt-of-lt-of-le}
 use Prim.Native.Nat.{ℕ, _*_, _-_, _≤_, _<_}
 use mathlib.Core.List.{[]}
-use Rattle.trees.specs.Arith.{saturatingAt, kindBits}
+use Rattle.trees.specs.Arith.{kindBits}
+use Rattle.trees.specs.Trees.{saturatingAt}
 use Rattle.lower_kinds.specs.Sources.{usesSecond}
 use Rattle.lower.specs.Builds.{read, readIf, unread}
 use Rattle.lower.proofs.Lanes.{LanesTo, LanesKept, lanes-first, lanes-more, lanes-all, room-first, room-lane, room-concat}

@@ -6,7 +6,8 @@ use mathlib.Core.List.{[]}
 use Rattle.lower_kinds.specs.Sources.{isRegister}
 use Rattle.lower.specs.Builds.{read, readIf, unread}
 use Rattle.lower.proofs.Lanes.{LanesTo, LanesKept, lanes-first, lanes-more, lanes-all, room-first, room-lane, room-concat}
-use Rattle.trees.specs.Arith.{shiftAt, shiftLanes}
+use Rattle.trees.specs.Trees.{shiftAt, shiftLanes}
+use Rattle.trees.specs.Arith as Arith
 use Rattle.lower_shift.proofs.shift_lanes.Statement.{statement}
 use Rattle.lower_shift.proofs.shift_lanes.Tie as tie
 
@@ -86,7 +87,7 @@ same-length : tie.Need-same-length Inv-loop μ-loop
 same-length c = so-far (c .before) .sized .long
 
 returns : tie.Need-returns Inv-loop μ-loop
-unfolding shiftLanes
+unfolding Arith.shiftLanes
 returns c = lanes-all _ _ _ (omega (arith, c .before .loop .inv .1, c .loop-test .left)) (so-far (c .before))
 
 pub shift-lanes-spec : {M : Type 1} → statement M

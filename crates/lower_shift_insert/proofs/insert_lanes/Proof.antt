@@ -5,7 +5,7 @@ use Prim.Native.Nat.{ℕ, _*_, _-_, _≤_, _<_}
 use mathlib.Core.List.{[], _∷_}
 use Rattle.lower.specs.Builds.{read}
 use Rattle.lower.proofs.Lanes.{LanesTo, LanesKept, lanes-first, lanes-more, lanes-all, room-first, room-lane, room-concat}
-use Rattle.trees.specs.Arith.{insertAt}
+use Rattle.trees.specs.Trees.{insertAt}
 use Rattle.lower_shift_insert.proofs.insert_lanes.Statement.{statement}
 use Rattle.lower_shift_insert.proofs.insert_lanes.Tie as tie
 

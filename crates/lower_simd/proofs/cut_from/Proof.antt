@@ -15,8 +15,8 @@ abbrev μ-loop : tie.MeasureT-loop
 loop-holds : tie.Need-loop-holds Inv-loop μ-loop
 loop-holds c = kept-none _ _ _ (c .before .pre .1)
 
-add-rises : tie.Need-add-rises Inv-loop μ-loop
-add-rises c = omega (arith, c .before .loop .inv .small)
+add-t8 : tie.Need-add-t8 Inv-loop μ-loop
+add-t8 c = omega (arith, c .before .loop .inv .small)
 
 rises-requires : tie.Need-rises-requires Inv-loop μ-loop
 rises-requires c κs =
@@ -65,7 +65,7 @@ cut-from-spec =
     Inv-loop
     μ-loop
     loop-holds
-    add-rises
+    add-t8
     rises-requires
     cut-lo-requires
     add-by

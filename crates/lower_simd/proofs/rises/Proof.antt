@@ -17,7 +17,7 @@ sub-result c = search needs
 
 returns : tie.Need-returns
 returns c =
-    let l = c .before in
+    let l = c .before .before in
     let f = l .before .before .before in
     rw (f .before .kind-of .ensures, f .first .ensures, l .cut-lo .ensures)
 

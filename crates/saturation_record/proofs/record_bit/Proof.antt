@@ -1,7 +1,8 @@
 -- record_bit: a bit for an operation that can saturate, else the bit before.
 use mathlib.Core.Path.{refl, sym, _∙_}
 use Rattle.neon.specs.Op.{opAt, arrangementAt}
-use Rattle.neon.proofs.Legal.{Formed, formed}
+use Rattle.neon.specs.Refusal.{Formed}
+use Rattle.neon.proofs.Legal.{formed}
 use Rattle.lower_neon.proofs.Rows.{row}
 use Rattle.lower_neon.proofs.Sources.{form-ready}
 use Rattle.saturation_record.proofs.Recording.{changes, stays}

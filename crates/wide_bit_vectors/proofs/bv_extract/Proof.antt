@@ -18,7 +18,7 @@ cut-requires : tie.Need-cut-requires
 cut-requires c κs = search needs
 
 returns : tie.Need-returns
-returns c = c .cut .ensures ∙ rw (c .before .shr .ensures, add-one)
+returns c = c .cut .ensures ∙ rw (c .before .before .before .shr .ensures, add-one)
 
 pub bv-extract-spec : {M : Type 1} → statement M
 bv-extract-spec = tie.close (tie.spec shr-requires sub-cut add-cut cut-requires returns)

@@ -2,7 +2,7 @@
 use native.Mathlib.Omega.{arith}
 use native.Mathlib.Nat.{le-refl}
 use Prim.Native.Nat.{_-_, _≤_}
-use Rattle.trees.specs.Arith.{zerosAt}
+use Rattle.trees.specs.Trees.{zerosAt}
 use Rattle.lower_bitwise_unary_lane.proofs.Layering.{BitsTo, BitsKept, bits-none, bits-more, bits-all, zerosTo, zeros-none, zeros-more}
 use Rattle.lower_bitwise_unary_lane.proofs.counts.leading_zeros.Statement.{statement}
 use Rattle.lower_bitwise_unary_lane.proofs.counts.leading_zeros.Tie as tie

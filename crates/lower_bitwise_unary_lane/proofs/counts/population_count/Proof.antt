@@ -1,7 +1,7 @@
 -- population_count builds `populationCount`: its loop keeps the sum of the bits so far
 use native.Mathlib.Omega.{arith}
 use Prim.Native.Nat.{_-_, _≤_}
-use Rattle.trees.specs.Arith.{countAt}
+use Rattle.trees.specs.Trees.{countAt}
 use Rattle.lower_bitwise_unary_lane.proofs.Layering.{BitsTo, BitsKept, bits-none, bits-more, bits-all, countTo, count-none, count-more}
 use Rattle.lower_bitwise_unary_lane.proofs.counts.population_count.Statement.{statement}
 use Rattle.lower_bitwise_unary_lane.proofs.counts.population_count.Tie as tie

@@ -14,9 +14,8 @@ low-bits-requires c κs = search needs
 
 returns : tie.Need-returns
 returns c =
-    let low = c .before .before in
-    let a = low .before .args in
-    c .low-bits .ensures ∙ low-lane (a .x .low) (a .x .high) (a .n) (a .at) (omega arith)
+    let a = c .before .before .before .before .before .args in
+    c .low-bits .ensures ∙ low-lane (a .x .low) (a .x .high) (a .n) (a .at .0) (omega arith)
 
 shr-low-bits-2 : tie.Need-shr-low-bits-2
 shr-low-bits-2 c = search needs
@@ -26,9 +25,8 @@ low-bits-requires-2 c κs = search needs
 
 returns-2 : tie.Need-returns-2
 returns-2 c =
-    let high = c .before .before in
-    let a = high .before .args in
-    c .low-bits2 .ensures ∙ high-lane (a .x .low) (a .x .high) (a .n) (a .at) (omega arith) (omega arith)
+    let a = c .before .before .before .before .before .args in
+    c .low-bits2 .ensures ∙ high-lane (a .x .low) (a .x .high) (a .n) (a .at .0) (omega arith) (omega arith)
 
 pub bits-at-spec : {M : Type 1} → statement M
 bits-at-spec =

@@ -14,8 +14,8 @@ use Rattle.run_block.proofs.lanes.run_lanes.Tie as tie
 abbrev Inv-loop : tie.InvT-loop
 Inv-loop op n m k skip element index d a b acc₀ saturated₀ j₀ acc saturated j =
     (j ≤ k)
-    × Kept n j (laneBy op n m skip element index (number d) (number a) (number b)) (beyondBy op n m skip element index (number d) (number a) (number b)) acc
-    saturated
+    × Kept n j (laneBy op n m skip element (index .0) (number d) (number a) (number b))
+    (beyondBy op n m skip element (index .0) (number d) (number a) (number b)) acc saturated
 
 abbrev μ-loop : tie.MeasureT-loop
 μ-loop op n m k skip element index d a b acc₀ saturated₀ j₀ acc saturated j = k - j
@@ -47,9 +47,9 @@ abbrev turn : tie.After-second-at Inv-loop μ-loop → tie.In-loop Inv-loop μ-l
 turn c = c .before .before .before
 
 abbrev made : tie.After-lane-at Inv-loop μ-loop → tie.In-loop Inv-loop μ-loop
-made c = turn (c .before .before)
+made c = turn (c .before .before .before)
 
-second : (c : tie.After-second-at Inv-loop μ-loop) → let a = entry (turn c) .args in a .m * c .second-at .result + a .m ≤ 128
+second : (c : tie.After-second-at Inv-loop μ-loop) → let a = entry (turn c) .args in a .m * c .second-at .result .0 + a .m ≤ 128
 second c =
     let t = turn c in
     let a = entry t .args in
@@ -57,13 +57,13 @@ second c =
 
 -- the lanes that are read
 lane-is : (c : tie.After-lane-at Inv-loop μ-loop) → let t = made c in let a = entry t .args in
-    Answers (laneBy (a .op) (a .n) (a .m) (a .skip) (a .element) (a .index) (number (a .d)) (number (a .a)) (number (a .b)) (j t))
-    (beyondBy (a .op) (a .n) (a .m) (a .skip) (a .element) (a .index) (number (a .d)) (number (a .a)) (number (a .b)) (j t))
+    Answers (laneBy (a .op) (a .n) (a .m) (a .skip) (a .element) (a .index .0) (number (a .d)) (number (a .a)) (number (a .b)) (j t))
+    (beyondBy (a .op) (a .n) (a .m) (a .skip) (a .element) (a .index .0) (number (a .d)) (number (a .a)) (number (a .b)) (j t))
     (c .lane-at .result .bits) (c .lane-at .result .saturated)
 unfolding lane
 lane-is c =
     let a = entry (made c) .args in
-    let of-b = c .before .before in
+    let of-b = c .before .before .before in
     let of-a = of-b .before in
     answers-at (a .op) (a .n) (of-a .before .bits-at .ensures) (of-a .bits-at2 .ensures)
     (c .before .bits-at3 .ensures ∙ ap (λ (t : ℕ). number (a .b) / 2 ^ (a .m * t) % 2 ^ a .m) (of-b .second-at .ensures))
@@ -74,19 +74,19 @@ lane-is c =
 loop-holds : tie.Need-loop-holds Inv-loop μ-loop
 loop-holds c = (omega arith, none-yet _ _ _)
 
-mul-at : tie.Need-mul-at Inv-loop μ-loop
-mul-at c = omega (arith, place c)
+mul-lane-at : tie.Need-mul-lane-at Inv-loop μ-loop
+mul-lane-at c = omega (arith, place c)
 
 bits-at-requires : tie.Need-bits-at-requires Inv-loop μ-loop
 bits-at-requires c κs =
     let s = entry c in
     (omega (arith, place c, s .pre .0), in-word (s .args .n) (j c) (s .pre .0) (s .pre .4 .n-word))
 
-add-bits-at : tie.Need-add-bits-at Inv-loop μ-loop
-add-bits-at c = omega (arith, near (c .before))
+add-t19 : tie.Need-add-t19 Inv-loop μ-loop
+add-t19 c = omega (arith, near (c .before))
 
-mul-bits-at : tie.Need-mul-bits-at Inv-loop μ-loop
-mul-bits-at c = omega (arith, first (c .before))
+mul-t20 : tie.Need-mul-t20 Inv-loop μ-loop
+mul-t20 c = omega (arith, first (c .before))
 
 bits-at-requires-2 : tie.Need-bits-at-requires-2 Inv-loop μ-loop
 bits-at-requires-2 c κs =
@@ -96,19 +96,19 @@ bits-at-requires-2 c κs =
 second-at-requires : tie.Need-second-at-requires Inv-loop μ-loop
 second-at-requires c κs = omega (arith, near (c .before .before))
 
-mul-bits-at-2 : tie.Need-mul-bits-at-2 Inv-loop μ-loop
-mul-bits-at-2 c = omega (arith, second c)
+mul-t25 : tie.Need-mul-t25 Inv-loop μ-loop
+mul-t25 c = omega (arith, second (c .before))
 
 bits-at-requires-3 : tie.Need-bits-at-requires-3 Inv-loop μ-loop
 bits-at-requires-3 c κs =
-    let s = entry (turn c) in
-    (omega (arith, second c, s .pre .1), in-word (s .args .m) _ (s .pre .1) (s .pre .4 .m-word))
+    let s = entry (turn (c .before)) in
+    (omega (arith, second (c .before), s .pre .1), in-word (s .args .m) _ (s .pre .1) (s .pre .4 .m-word))
 
 lane-at-requires : tie.Need-lane-at-requires Inv-loop μ-loop
 lane-at-requires c κs =
-    let t = turn (c .before) in
+    let t = turn (c .before .before) in
     let s = entry t in
-    let of-a = c .before .before in (
+    let of-a = c .before .before .before in (
       s .pre .0,
       n-le t,
       rw (of-a .before .bits-at .ensures) (mod-lt _ (pow-pos _)),
@@ -139,7 +139,7 @@ loop-again c =
     let s = entry t in (
       omega (arith, t .loop-test .taken),
       one-more (s .args .n) (s .args .k) _ _
-          (lane-by-lt (s .args .op) (s .args .n) (s .args .m) (s .args .skip) (s .args .element) (s .args .index) _ _ _ (s .pre .0) (n-le t)
+          (lane-by-lt (s .args .op) (s .args .n) (s .args .m) (s .args .skip) (s .args .element) (s .args .index .0) _ _ _ (s .pre .0) (n-le t)
           (s .pre .2) (s .pre .3)) (j t) _ _ _ _ _ _ (t .before .loop .inv .1) (place t) (lane-is l .bits-are) (lane-is l .saturated-is)
           (at-shl .shl .ensures) (c .before .add .ensures),
     )
@@ -152,7 +152,7 @@ returns c =
     let kept = rw e at (l .loop .inv .1) in
     record {
       bits-are = two-words (s .args .n) (s .args .k) _ _ (lane-by-lt (s .args .op) (s .args .n) (s .args .m) (s .args .skip) (s .args .element)
-          (s .args .index) _ _ _ (s .pre .0) (at-most (s .args .n) (s .pre .4 .n-word)) (s .pre .2) (s .pre .3)) (l .loop .acc) (l .loop .saturated) kept
+          (s .args .index .0) _ _ _ (s .pre .0) (at-most (s .args .n) (s .pre .4 .n-word)) (s .pre .2) (s .pre .3)) (l .loop .acc) (l .loop .saturated) kept
           (all-in (s .args .n) (s .args .k) (s .pre .4 .lane-in));
       saturated-is = kept .flag;
     }
@@ -164,13 +164,13 @@ run-lanes-spec =
     Inv-loop
     μ-loop
     loop-holds
-    mul-at
+    mul-lane-at
     bits-at-requires
-    add-bits-at
-    mul-bits-at
+    add-t19
+    mul-t20
     bits-at-requires-2
     second-at-requires
-    mul-bits-at-2
+    mul-t25
     bits-at-requires-3
     lane-at-requires
     shl-requires
