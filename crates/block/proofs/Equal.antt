@@ -7,7 +7,7 @@ use Rattle.terms.specs.Value.{value}
 use Rattle.pool.specs.Node.{places}
 use Rattle.neon.specs.declared.Instruction.{Instruction}
 use Rattle.neon.specs.Refusal.{Legal, AllLegal}
-use Rattle.trees.specs.Joined.{allJoined}
+use Rattle.trees.specs.Joined.{all_joined}
 use Rattle.trees_value.proofs.Block.{block-is}
 use Rattle.trees_value.proofs.Range.{block-lt}
 use Rattle.trees_value.proofs.JoinedTrees.{joined-run}
@@ -42,4 +42,4 @@ registers-fit old cs new a h z start bits r l =
 pub registers-joined : RegistersJoined
 registers-joined old cs new a h z r l =
     let legal = (block-legal (places old) cs (sym h.number ∙ z)).2 in
-    ap allJoined ((h.accepted z).terms r l).tree ∙ joined-run cs legal r l
+    ap all_joined ((h.accepted z).terms r l).tree ∙ joined-run cs legal r l

@@ -2,13 +2,13 @@
 use Rattle.std.specs.Prelude.{true, List, [], ◌∷◌, ◌≡◌, ℕ, ◌+◌, ◌*◌, ◌≤◌, ◌<◌, length, get_or}
 use Rattle.terms.specs.Expr.{Expr, Var}
 use Rattle.neon.specs.declared.Instruction.{Instruction}
-use Rattle.neon.specs.Refusal.{reserve, blockRefusal}
-use Rattle.trees.specs.Trees.{treeStep, treeRun}
-use Rattle.pool.specs.Node.{var, Cell, cell_at, kindNumber, places}
-use Rattle.pool.specs.Rules.{Valid, poolOk}
+use Rattle.neon.specs.Refusal.{reserve, block_refusal}
+use Rattle.trees.specs.Trees.{tree_step, tree_run}
+use Rattle.pool.specs.Node.{var, Cell, cell_at, kind_number, places}
+use Rattle.pool.specs.Rules.{Valid, pool_ok}
 use Rattle.pool.specs.Growth.{Grown}
 use Rattle.block_map.specs.declared.RegisterMap.{RegisterMap}
-use Rattle.block_map.specs.Map.{firstMap, noMap, written}
+use Rattle.block_map.specs.Map.{first_map, no_map, written}
 use Rattle.block_record.specs.Step.{MapOk, MapIs, Added}
 use Rattle.block.specs.declared.BlockAnswer.{BlockAnswer}
 
@@ -19,23 +19,23 @@ VarAt ws r = ◌≡◌ {A = Cell} (cell_at ws r) (record { kind = var; width = 1
 -- the records in order, each on the map and over the terms that the one before left: the nodes that it added, and its answer in the map
 abbrev pub Lowered : List ℕ → RegisterMap → (ℕ → Expr) → List Instruction → RegisterMap → Type 0
 Lowered ws m t [] m' = m' ≡ m
-Lowered ws m t (c ∷ cs) m' = (answer : ℕ) × (k : ℕ) × Added ws m t c answer k × Lowered ws (written m c.d answer k) (treeStep c t) cs m'
+Lowered ws m t (c ∷ cs) m' = (answer : ℕ) × (k : ℕ) × Added ws m t c answer k × Lowered ws (written m c.d answer k) (tree_step c t) cs m'
 
 -- a block that is accepted: nodes 0 to 31 are the registers, and no other is a Var
 pub record Accepted (old : List ℕ) (cs : List Instruction) (new : List ℕ) (m : RegisterMap) : Type 0 where
-  pub terms : MapIs new m (treeRun cs Var)
-  pub checked : poolOk new m.count ≡ true
+  pub terms : MapIs new m (tree_run cs Var)
+  pub checked : pool_ok new m.count ≡ true
   pub long : length new ≡ length old
   pub past : (i : ℕ) → 4 * m.count ≤ i → get_or new i 0 ≡ get_or old i 0
   pub vars : (r : ℕ) → r < 32 → VarAt new r
-  pub plain : (n : ℕ) → 32 ≤ n → n < m.count → kindNumber new n ≡ 1 → ⊥
-  pub lowered : Lowered new firstMap Var cs m
+  pub plain : (n : ℕ) → 32 ≤ n → n < m.count → kind_number new n ≡ 1 → ⊥
+  pub lowered : Lowered new first_map Var cs m
 
 -- the answer for every block: its number and position; refused, no node and no word; else all of the above
 pub record Answered (old : List ℕ) (cs : List Instruction) (new : List ℕ) (a : BlockAnswer) : Type 0 where
-  pub number : a.number ≡ (blockRefusal (places old) cs).number
-  pub position : a.position ≡ (blockRefusal (places old) cs).position
-  pub refused : (a.number ≡ 0 → ⊥) → (a.map ≡ noMap) × (new ≡ old)
+  pub number : a.number ≡ (block_refusal (places old) cs).number
+  pub position : a.position ≡ (block_refusal (places old) cs).position
+  pub refused : (a.number ≡ 0 → ⊥) → (a.map ≡ no_map) × (new ≡ old)
   pub accepted : a.number ≡ 0 → Accepted old cs new a.map
 
 -- ---- the parts of the lowering
@@ -49,12 +49,12 @@ pub record Started (old new : List ℕ) (k : ℕ) : Type 0 where
 pub record RunMade (old : List ℕ) (m : RegisterMap) (new : List ℕ) (m' : RegisterMap) (cs : List Instruction) (t : ℕ → Expr) : Type 0 where
   pub grown : Grown old m.count new m'.count
   pub valid : Valid new m'.count
-  pub is : MapIs new m' (treeRun cs t)
+  pub is : MapIs new m' (tree_run cs t)
   pub lowered : Lowered new m t cs m'
 
 -- records in order: the numbers, whatever the pool holds; and what a valid pool and registers of known terms become
 pub record Runs (old : List ℕ) (m : RegisterMap) (new : List ℕ) (m' : RegisterMap) (cs : List Instruction) : Type 0 where
   pub long : length new ≡ length old
   pub most : m'.count ≤ m.count + reserve * length cs
-  pub map-ok : MapOk m'
+  pub map_ok : MapOk m'
   pub made : {t : ℕ → Expr} → Valid old m.count → MapIs old m t → RunMade old m new m' cs t

@@ -2,8 +2,8 @@
 ghost use Rattle.std.specs.Prelude.{◌≡◌, ◌*◌, ◌/◌, length};
 ghost use Rattle.neon.specs.Refusal.{reserve, AllLegal};
 ghost use Rattle.pool.specs.Growth.{Room};
-ghost use Rattle.block_map.specs.Map.{firstMap};
-ghost use Rattle.block_check.specs.Records.{recordsOf};
+ghost use Rattle.block_map.specs.Map.{first_map};
+ghost use Rattle.block_check.specs.Records.{records_of};
 ghost use Rattle.block_record.specs.Step.{MapOk};
 ghost use Rattle.block.specs.Block.{Started, Runs, Answered};
 
@@ -12,7 +12,7 @@ use block_record::lower_record;
 use block_record_check::record_at;
 
 // The number and the position of document 01, and the map of the registers.
-#[derive(Drop)]
+#[derive(Clone, Copy)]
 pub struct BlockAnswer {
     pub number: u64,
     pub position: usize,
@@ -22,7 +22,7 @@ pub struct BlockAnswer {
 // Nodes 0 to 31 are the registers, and so the map says.
 pub fn start_pool(pool: &mut [u64]) -> RegisterMap
     requires { Room pool.old 0 32 }
-    ensures { Started pool.old pool.new 32 × (result ≡ firstMap) }
+    ensures { Started pool.old pool.new 32 × (result ≡ first_map) }
 {
     let mut r: usize = 0;
     while r < 32 {
@@ -36,8 +36,8 @@ pub fn start_pool(pool: &mut [u64]) -> RegisterMap
 fn run_records(pool: &mut [u64], start: RegisterMap, records: &[u64]) -> RegisterMap
     requires room { Room pool.old start.count (reserve * (length records.now / 6)) }
     requires map_ok { MapOk start }
-    requires all_legal { AllLegal (recordsOf records.now) }
-    ensures { Runs pool.old start pool.new result (recordsOf records.now) }
+    requires all_legal { AllLegal (records_of records.now) }
+    ensures { Runs pool.old start pool.new result (records_of records.now) }
 {
     let count = records.len() / 6;
     let mut map = start;
@@ -53,7 +53,7 @@ fn run_records(pool: &mut [u64], start: RegisterMap, records: &[u64]) -> Registe
 // Six numbers a record: operation, arrangement, i, d, n, m; numbers after the last whole record are not read. A block with one
 // refused record is refused whole, and then the pool is as it was.
 pub fn lower_block(pool: &mut [u64], records: &[u64]) -> BlockAnswer
-    ensures { Answered pool.old (recordsOf records.now) pool.new result }
+    ensures { Answered pool.old (records_of records.now) pool.new result }
 {
     let refused = block_check::block_refusal(pool, records);
     let number = refused.number;

@@ -11,84 +11,84 @@ use lib.ListN.{length}
 use borrow.Author.Tests.{le-leb, lt-leb, eq-eqb, ne_eqb, eqb-true, eqb-false, leb-true}
 use Rattle.facts.specs.Refuse.{unless}
 use Rattle.neon.specs.declared.Instruction.{Instruction}
-use Rattle.neon.specs.Refusal.{reserve, mostRecords, recordNumber, Legal, AllLegal, refusal, recordsRefusal, sizeNumber, refusalBy, blockRefusal}
-use Rattle.pool.specs.Node.{none, placesIn}
-use Rattle.block_record_check.specs.Record.{recordAt}
-use Rattle.block_check.specs.Records.{recordsFrom, recordsOf}
+use Rattle.neon.specs.Refusal.{reserve, most_records, record_number, Legal, AllLegal, refusal, records_refusal, size_number, refusal_by, block_refusal}
+use Rattle.pool.specs.Node.{none, places_in}
+use Rattle.block_record_check.specs.Record.{record_at}
+use Rattle.block_check.specs.Records.{records_from, records_of}
 
 -- ---- records in order
 
-pub from-length : (flat : List ℕ) (j k : ℕ) → length (recordsFrom flat j k) ≡ k
-unfolding recordsFrom
+pub from-length : (flat : List ℕ) (j k : ℕ) → length (records_from flat j k) ≡ k
+unfolding records_from
 from-length flat j zero = refl
 from-length flat j (suc k) = ap suc (from-length flat (suc j) k)
 
 -- the first of k records, and those after it
-from_next : (flat : List ℕ) (j k : ℕ) → j < k → recordsFrom flat j (k - j) ≡ recordAt flat j ∷ recordsFrom flat (suc j) (k - suc j)
-unfolding recordsFrom
-from_next flat j k h = ap (λ (n : ℕ). recordsFrom flat j n) {x = k - j} {y = suc (k - suc j)} (omega arith)
+from_next : (flat : List ℕ) (j k : ℕ) → j < k → records_from flat j (k - j) ≡ record_at flat j ∷ records_from flat (suc j) (k - suc j)
+unfolding records_from
+from_next flat j k h = ap (λ (n : ℕ). records_from flat j n) {x = k - j} {y = suc (k - suc j)} (omega arith)
 
-pub refused-here : (flat : List ℕ) (j k : ℕ) → j < k → 0 < recordNumber (recordAt flat j)
-    → recordsRefusal j (recordsFrom flat j (k - j)) ≡ refusal (recordNumber (recordAt flat j)) j
-unfolding recordsRefusal
-refused-here flat j k h n = rw (from_next flat j k h, ne_eqb (recordNumber (recordAt flat j)) 0 (λ e. omega arith))
+pub refused-here : (flat : List ℕ) (j k : ℕ) → j < k → 0 < record_number (record_at flat j)
+    → records_refusal j (records_from flat j (k - j)) ≡ refusal (record_number (record_at flat j)) j
+unfolding records_refusal
+refused-here flat j k h n = rw (from_next flat j k h, ne_eqb (record_number (record_at flat j)) 0 (λ e. omega arith))
 
-pub passed_here : (flat : List ℕ) (j k : ℕ) → j < k → recordNumber (recordAt flat j) ≤ 0
-    → recordsRefusal j (recordsFrom flat j (k - j)) ≡ recordsRefusal (j + 1) (recordsFrom flat (j + 1) (k - (j + 1)))
-unfolding recordsRefusal
-passed_here flat j k h n = rw (from_next flat j k h, eq-eqb (recordNumber (recordAt flat j)) 0 (omega arith), add-one j)
+pub passed_here : (flat : List ℕ) (j k : ℕ) → j < k → record_number (record_at flat j) ≤ 0
+    → records_refusal j (records_from flat j (k - j)) ≡ records_refusal (j + 1) (records_from flat (j + 1) (k - (j + 1)))
+unfolding records_refusal
+passed_here flat j k h n = rw (from_next flat j k h, eq-eqb (record_number (record_at flat j)) 0 (omega arith), add-one j)
 
-pub none_left : (flat : List ℕ) (j k : ℕ) → k ≤ j → recordsRefusal j (recordsFrom flat j (k - j)) ≡ refusal 0 0
-unfolding recordsRefusal recordsFrom
-none_left flat j k h = ap (λ (n : ℕ). recordsRefusal j (recordsFrom flat j n)) {x = k - j} {y = 0} (omega arith)
+pub none_left : (flat : List ℕ) (j k : ℕ) → k ≤ j → records_refusal j (records_from flat j (k - j)) ≡ refusal 0 0
+unfolding records_refusal records_from
+none_left flat j k h = ap (λ (n : ℕ). records_refusal j (records_from flat j n)) {x = k - j} {y = 0} (omega arith)
 
 -- from the first record on, all of them
-pub all_left : (flat : List ℕ) → recordsRefusal 0 (recordsFrom flat 0 (length flat / 6 - 0)) ≡ recordsRefusal 0 (recordsOf flat)
-all_left flat = ap (λ (n : ℕ). recordsRefusal 0 (recordsFrom flat 0 n)) {x = length flat / 6 - 0} {y = length flat / 6} (omega arith)
+pub all_left : (flat : List ℕ) → records_refusal 0 (records_from flat 0 (length flat / 6 - 0)) ≡ records_refusal 0 (records_of flat)
+all_left flat = ap (λ (n : ℕ). records_refusal 0 (records_from flat 0 n)) {x = length flat / 6 - 0} {y = length flat / 6} (omega arith)
 
 -- ---- a block
 
 module _ (words count : ℕ) where
-  pub too_long : mostRecords < count → 8 ≡ sizeNumber (placesIn words) count
-  unfolding sizeNumber
-  too_long h = rw (lt-leb count mostRecords h)
+  pub too_long : most_records < count → 8 ≡ size_number (places_in words) count
+  unfolding size_number
+  too_long h = rw (lt-leb count most_records h)
 
-  pub no_room : count ≤ mostRecords → words / 4 < 32 + reserve * count → 6 ≡ sizeNumber (placesIn words) count
-  unfolding sizeNumber
-  no_room h l = rw (le-leb count mostRecords h, lt-leb (32 + reserve * count) (placesIn words) (omega (arith, min-le_left (words / 4) none)))
+  pub no_room : count ≤ most_records → words / 4 < 32 + reserve * count → 6 ≡ size_number (places_in words) count
+  unfolding size_number
+  no_room h l = rw (le-leb count most_records h, lt-leb (32 + reserve * count) (places_in words) (omega (arith, min-le_left (words / 4) none)))
 
-  pub has_room : count ≤ mostRecords → 32 + reserve * count ≤ words / 4 → 0 ≡ sizeNumber (placesIn words) count
-  unfolding sizeNumber
-  has_room h l = rw (le-leb count mostRecords h, le-leb (32 + reserve * count) (placesIn words) (le-min l (omega arith)))
+  pub has_room : count ≤ most_records → 32 + reserve * count ≤ words / 4 → 0 ≡ size_number (places_in words) count
+  unfolding size_number
+  has_room h l = rw (le-leb count most_records h, le-leb (32 + reserve * count) (places_in words) (le-min l (omega arith)))
 
 -- a block by the number of its size
 module _ (size : ℕ) (cs : List Instruction) where
   -- refused for its size
-  pub by_size : 0 < size → refusalBy size cs ≡ refusal size 0
+  pub by_size : 0 < size → refusal_by size cs ≡ refusal size 0
   by_size h = rw (ne_eqb size 0 (λ e. omega arith))
 
   -- the size is accepted: the records decide
-  pub by-records : size ≤ 0 → refusalBy size cs ≡ recordsRefusal 0 cs
+  pub by-records : size ≤ 0 → refusal_by size cs ≡ records_refusal 0 cs
   by-records h = rw (eq-eqb size 0 (omega arith))
 
 -- ---- what is accepted
 
-pub all-legal : (p : ℕ) (cs : List Instruction) → (recordsRefusal p cs).number ≡ 0 → AllLegal cs
-unfolding recordsRefusal
+pub all-legal : (p : ℕ) (cs : List Instruction) → (records_refusal p cs).number ≡ 0 → AllLegal cs
+unfolding records_refusal
 all-legal p [] e = tt
-all-legal p (c ∷ cs) e = go (λ z. all-legal (suc p) cs z) (eqb (recordNumber c) 0) refl e
+all-legal p (c ∷ cs) e = go (λ z. all-legal (suc p) cs z) (eqb (record_number c) 0) refl e
   where
-    go : ((recordsRefusal (suc p) cs).number ≡ 0 → AllLegal cs) → (b : Bool) → eqb (recordNumber c) 0 ≡ b
-        → (cond b (recordsRefusal (suc p) cs) (refusal (recordNumber c) p)).number ≡ 0
+    go : ((records_refusal (suc p) cs).number ≡ 0 → AllLegal cs) → (b : Bool) → eqb (record_number c) 0 ≡ b
+        → (cond b (records_refusal (suc p) cs) (refusal (record_number c) p)).number ≡ 0
         → AllLegal (c ∷ cs)
-    go f true q z = (eqb-true (recordNumber c) 0 q, f z)
-    go f false q z = absurd (eqb-false (recordNumber c) 0 q z)
+    go f true q z = (eqb-true (record_number c) 0 q, f z)
+    go f false q z = absurd (eqb-false (record_number c) 0 q z)
 
 -- a size that is accepted, and records
-pub legal-by : (size : ℕ) (cs : List Instruction) → (refusalBy size cs).number ≡ 0 → (size ≡ 0) × AllLegal cs
+pub legal-by : (size : ℕ) (cs : List Instruction) → (refusal_by size cs).number ≡ 0 → (size ≡ 0) × AllLegal cs
 legal-by size cs e = go (eqb size 0) refl e
   where
-    go : (b : Bool) → eqb size 0 ≡ b → (cond b (recordsRefusal 0 cs) (refusal size 0)).number ≡ 0 → (size ≡ 0) × AllLegal cs
+    go : (b : Bool) → eqb size 0 ≡ b → (cond b (records_refusal 0 cs) (refusal size 0)).number ≡ 0 → (size ≡ 0) × AllLegal cs
     go true q z = (eqb-true _ 0 q, all-legal 0 cs z)
     go false q z = absurd (eqb-false _ 0 q z)
 
@@ -102,28 +102,28 @@ size-legal n greatest need p e = go (leb n greatest) (leb need p) refl refl e
     go false b q r z = absurd (omega arith)
 
 -- a block that is accepted: its records fit and are accepted
-pub block-legal : (p : ℕ) (cs : List Instruction) → (blockRefusal p cs).number ≡ 0 → (length cs ≤ mostRecords) × (32 + reserve * length cs ≤ p) × AllLegal cs
-unfolding blockRefusal sizeNumber
+pub block-legal : (p : ℕ) (cs : List Instruction) → (block_refusal p cs).number ≡ 0 → (length cs ≤ most_records) × (32 + reserve * length cs ≤ p) × AllLegal cs
+unfolding block_refusal size_number
 block-legal p cs e =
     let l = legal-by _ cs e in
-    let s = size-legal (length cs) mostRecords (32 + reserve * length cs) p l.0 in
+    let s = size-legal (length cs) most_records (32 + reserve * length cs) p l.0 in
     (s.0, s.1, l.1)
 
 -- record j + n of records that are accepted
-pub legal-at : (flat : List ℕ) (j k n : ℕ) → AllLegal (recordsFrom flat j k) → n < k → Legal (recordAt flat (j + n))
-unfolding recordsFrom
+pub legal-at : (flat : List ℕ) (j k n : ℕ) → AllLegal (records_from flat j k) → n < k → Legal (record_at flat (j + n))
+unfolding records_from
 legal-at flat j zero n l h = absurd (not-suc-le-zero h)
 legal-at flat j (suc k) zero l h = rw (add-zero j) l.0
 legal-at flat j (suc k) (suc n) l h =
-    subst (λ (i : ℕ). Legal (recordAt flat i)) {x = suc j + n} {y = j + suc n} (omega arith) (legal-at flat (suc j) k n l.1 (le_of_suc-le-suc h))
+    subst (λ (i : ℕ). Legal (record_at flat i)) {x = suc j + n} {y = j + suc n} (omega arith) (legal-at flat (suc j) k n l.1 (le_of_suc-le-suc h))
 
-pub legal-here : (flat : List ℕ) (j : ℕ) → AllLegal (recordsOf flat) → j < length flat / 6 → Legal (recordAt flat j)
+pub legal-here : (flat : List ℕ) (j : ℕ) → AllLegal (records_of flat) → j < length flat / 6 → Legal (record_at flat j)
 legal-here flat j l h = rw zero-add at (legal-at flat 0 (length flat / 6) j l h)
 
 -- one record more
-pub from_more : (flat : List ℕ) (j k : ℕ) → recordsFrom flat j (suc k) ≡ recordsFrom flat j k ++ recordAt flat (j + k) ∷ []
-unfolding recordsFrom
+pub from_more : (flat : List ℕ) (j k : ℕ) → records_from flat j (suc k) ≡ records_from flat j k ++ record_at flat (j + k) ∷ []
+unfolding records_from
 from_more flat j zero = rw (add-zero j)
 from_more flat j (suc k) =
-    ap (λ (l : List Instruction). recordAt flat j ∷ l)
-    (from_more flat (suc j) k ∙ ap (λ (i : ℕ). recordsFrom flat (suc j) k ++ recordAt flat i ∷ []) {x = suc j + k} {y = j + suc k} (omega arith))
+    ap (λ (l : List Instruction). record_at flat j ∷ l)
+    (from_more flat (suc j) k ∙ ap (λ (i : ℕ). records_from flat (suc j) k ++ record_at flat i ∷ []) {x = suc j + k} {y = j + suc k} (omega arith))

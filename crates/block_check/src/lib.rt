@@ -1,9 +1,9 @@
 // The refusals of a block (document 01, "The numbers"), whose records come as flat numbers, six each; numbers after the last whole
 // record are not read.
 ghost use Rattle.std.specs.Prelude.{◌≡◌};
-ghost use Rattle.neon.specs.Refusal.{recordsRefusal, sizeNumber, refusalBy, blockRefusal};
-ghost use Rattle.pool.specs.Node.{places, placesIn};
-ghost use Rattle.block_check.specs.Records.{recordsOf, Refuses};
+ghost use Rattle.neon.specs.Refusal.{records_refusal, size_number, refusal_by, block_refusal};
+ghost use Rattle.pool.specs.Node.{places, places_in};
+ghost use Rattle.block_check.specs.Records.{records_of, Refuses};
 
 use block_record_check::{record_at, record_number};
 
@@ -11,7 +11,7 @@ use block_record_check::{record_at, record_number};
 pub const MOST_RECORDS: usize = 85;
 
 // 0 and 0, or the number and the position that refuse a block.
-#[derive(Drop)]
+#[derive(Clone, Copy)]
 pub struct Checked {
     pub number: u64,
     pub position: usize,
@@ -19,7 +19,7 @@ pub struct Checked {
 
 // What comes back of a list that is read or written: 0 or a number of documents 01 and 02, the position of what is refused, and how
 // many lines, words or records there are.
-#[derive(Drop)]
+#[derive(Clone, Copy)]
 pub struct ListAnswer {
     pub number: u64,
     pub position: usize,
@@ -28,7 +28,7 @@ pub struct ListAnswer {
 
 // The first record that is refused.
 pub fn records_refusal(records: &[u64]) -> Checked
-    ensures { Refuses result (recordsRefusal 0 (recordsOf records.now)) }
+    ensures { Refuses result (records_refusal 0 (records_of records.now)) }
 {
     let count = records.len() / 6;
     let mut j = 0;
@@ -52,7 +52,7 @@ pub fn records_refusal(records: &[u64]) -> Checked
 // 0, or the first of 8 and 6 that refuses a block of so many records for a pool of so many words. The longest block needs fewer
 // places than a pool can have.
 pub fn size_number(words: usize, count: usize) -> u64
-    ensures { result ≡ sizeNumber (placesIn words) count }
+    ensures { result ≡ size_number (places_in words) count }
 {
     if MOST_RECORDS < count {
         return 8;
@@ -65,7 +65,7 @@ pub fn size_number(words: usize, count: usize) -> u64
 
 // The refusal for the block's size if there is one, else that of the first refused record.
 pub fn refusal_by(number: u64, records: &[u64]) -> Checked
-    ensures { Refuses result (refusalBy number (recordsOf records.now)) }
+    ensures { Refuses result (refusal_by number (records_of records.now)) }
 {
     if 0 < number {
         return Checked {
@@ -78,7 +78,7 @@ pub fn refusal_by(number: u64, records: &[u64]) -> Checked
 
 // What refuses a block of these records for this pool.
 pub fn block_refusal(pool: &[u64], records: &[u64]) -> Checked
-    ensures { Refuses result (blockRefusal (places pool.now) (recordsOf records.now)) }
+    ensures { Refuses result (block_refusal (places pool.now) (records_of records.now)) }
 {
     let number = size_number(pool.len(), records.len() / 6);
     refusal_by(number, records)

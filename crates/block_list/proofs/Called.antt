@@ -133,8 +133,8 @@ module _ (c : Called) where
   Owned ps h Γ = ‵ Own ∷ ‵ (flft κ₂ q₂) ∷ ‵ (Pool ps m) ∷ ‵ (flft κ q) ∷ ‵ (Map h) ∷ ‵ (flft κ₃ q₃) ∷ Γ
 
 -- the three as a walk is given them, with the lifetimes and their shares
-abbrev pub calledOf : Lfts 3 → Shares 3 → (p : MutBor (List ℕ)) (l : MutBor (List Instruction)) → MutBor RegisterMap → Room u64 (length p.now) → Room R (length l.now) → Called
-calledOf κs qs p l h room room₂ = record {
+abbrev pub called_of : Lfts 3 → Shares 3 → (p : MutBor (List ℕ)) (l : MutBor (List Instruction)) → MutBor RegisterMap → Room u64 (length p.now) → Room R (length l.now) → Called
+called_of κs qs p l h room room₂ = record {
   κ = κs.0;
   κ₂ = κs.1.0;
   κ₃ = κs.1.1.0;

@@ -8,11 +8,11 @@ use native.Mathlib.Numerals.{add-one}
 use lib.ListN.{length, get_or, take}
 use lib.Seq.{take-suc, take_all, length-take-le}
 use Rattle.neon.specs.declared.Instruction.{Instruction}
-use Rattle.neon.specs.Refusal.{reserve, Legal, AllLegal, blockRefusal}
-use Rattle.pool.specs.Node.{none as no_node, places, placesIn}
+use Rattle.neon.specs.Refusal.{reserve, Legal, AllLegal, block_refusal}
+use Rattle.pool.specs.Node.{none as no_node, places, places_in}
 use Rattle.pool.specs.Growth.{Room}
 use Rattle.block_map.specs.declared.RegisterMap.{RegisterMap}
-use Rattle.block_map.specs.Map.{firstMap, noMap}
+use Rattle.block_map.specs.Map.{first_map, no_map}
 use Rattle.block_check.specs.declared.Checked.{Checked}
 use Rattle.block_check.specs.Records.{Refuses}
 use Rattle.block_check.proofs.Refusals.{block-legal}
@@ -49,12 +49,12 @@ module _ (w0 : List ℕ) (m0 : RegisterMap) (cs : List Instruction) where
   ran-ok k {w} {m} room legal l r =
       let n : length (take k cs) ≡ k = length-take-le k cs (omega arith) in
       let most : m.count + reserve ≤ m0.count + reserve * length cs = omega (arith, r.most, n, l) in
-      (omega (arith, most, room, r.long), r.map-ok, legal-in cs legal k l)
+      (omega (arith, most, room, r.long), r.map_ok, legal-in cs legal k l)
 
 -- ---- the whole
 
-module _ (w0 : List ℕ) (cs : List Instruction) (r : Checked) (e : Refuses r (blockRefusal (placesIn (length w0)) cs)) where
-  pub all-refused : (m : RegisterMap) → 0 < r.number → m ≡ noMap → Answered w0 cs w0 (answer r m)
+module _ (w0 : List ℕ) (cs : List Instruction) (r : Checked) (e : Refuses r (block_refusal (places_in (length w0)) cs)) where
+  pub all-refused : (m : RegisterMap) → 0 < r.number → m ≡ no_map → Answered w0 cs w0 (answer r m)
   all-refused m h q = record { number = e.0; position = e.1; refused = λ _. (q, refl); accepted = λ z. absurd (omega (arith, h, z)) }
 
   -- a pool and records that are accepted
@@ -63,13 +63,13 @@ module _ (w0 : List ℕ) (cs : List Instruction) (r : Checked) (e : Refuses r (b
       let b = block-legal (places w0) cs (omega (arith, e.0, h)) in
       omega (arith, b.1, min-le_left (length w0 / 4) no_node, min-le_right (length w0 / 4) no_node)
 
-  pub run_ok : r.number ≤ 0 → {w1 : List ℕ} {m1 : RegisterMap} → Started w0 w1 32 → m1 ≡ firstMap → Room w1 m1.count (reserve * length cs) × MapOk m1 × AllLegal cs
+  pub run_ok : r.number ≤ 0 → {w1 : List ℕ} {m1 : RegisterMap} → Started w0 w1 32 → m1 ≡ first_map → Room w1 m1.count (reserve * length cs) × MapOk m1 × AllLegal cs
   run_ok h {w1} {m1} s q =
       let b = block-legal (places w0) cs (omega (arith, e.0, h)) in
       let n : m1.count ≡ 32 = ap (λ (m : RegisterMap). m.count) q in
       (omega (arith, b.1, n, s.grown.long, min-le_left (length w0 / 4) no_node, min-le_right (length w0 / 4) no_node), rw q first-ok, b.2)
 
-  pub all-accepted : r.number ≤ 0 → {w1 w2 : List ℕ} {m1 m2 : RegisterMap} → Started w0 w1 32 → m1 ≡ firstMap → Runs w1 m1 w2 m2 cs → Answered w0 cs w2 (answer r m2)
+  pub all-accepted : r.number ≤ 0 → {w1 w2 : List ℕ} {m1 m2 : RegisterMap} → Started w0 w1 32 → m1 ≡ first_map → Runs w1 m1 w2 m2 cs → Answered w0 cs w2 (answer r m2)
   all-accepted h s q t =
       record {
         number = e.0;

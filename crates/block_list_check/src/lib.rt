@@ -1,6 +1,6 @@
 // The refusals of a block that comes as a list of records. block_record_check has the test of one record.
-ghost use Rattle.neon.specs.Refusal.{blockRefusal};
-ghost use Rattle.pool.specs.Node.{placesIn};
+ghost use Rattle.neon.specs.Refusal.{block_refusal};
+ghost use Rattle.pool.specs.Node.{places_in};
 ghost use Rattle.block_check.specs.Records.{Refuses};
 
 use block_check::Checked;
@@ -8,7 +8,7 @@ use neon::Instruction;
 
 // What refuses a block of these records for a pool of so many words.
 pub fn block_refusal(words: usize, records: &[Instruction]) -> Checked
-    ensures { Refuses result (blockRefusal (placesIn words) records.now) }
+    ensures { Refuses result (block_refusal (places_in words) records.now) }
 {
     let size = block_check::size_number(words, records.len());
     if 0 < size {

@@ -11,23 +11,23 @@ use lib.Seq.{ext_get_or, get_or-set_same, get_or-set_other}
 use borrow.Author.Tests.{eqb-true, eqb-false}
 use Rattle.pool.specs.declared.Node.{Node}
 use Rattle.block_map.specs.declared.RegisterMap.{RegisterMap}
-use Rattle.block_map.specs.Map.{node, node_of, nodesFrom, firstMap, written}
+use Rattle.block_map.specs.Map.{node, node_of, nodes_from, first_map, written}
 
-from-length : (r k : ℕ) → length (nodesFrom r k) ≡ k
-unfolding nodesFrom
+from-length : (r k : ℕ) → length (nodes_from r k) ≡ k
+unfolding nodes_from
 from-length r zero = refl
 from-length r (suc k) = ap suc (from-length (suc r) k)
 
-from_at : (r k j : ℕ) → j < k → get_or (nodesFrom r k) j (node 0) ≡ node (r + j)
-unfolding nodesFrom
+from_at : (r k j : ℕ) → j < k → get_or (nodes_from r k) j (node 0) ≡ node (r + j)
+unfolding nodes_from
 from_at r zero j h = absurd (not-suc-le-zero h)
 from_at r (suc k) zero h = ap node (rw (add-zero r))
 from_at r (suc k) (suc j) h = from_at (suc r) k j (le_of_suc-le-suc h) ∙ ap node (rw (suc-add r j, add-suc r j))
 
 -- a list whose entry i is node i, up to 32
-pub is-first : (l : List Node) → length l ≡ 32 → ((i : ℕ) → i < 32 → get_or l i (node 0) ≡ node i) → l ≡ nodesFrom 0 32
+pub is-first : (l : List Node) → length l ≡ 32 → ((i : ℕ) → i < 32 → get_or l i (node 0) ≡ node i) → l ≡ nodes_from 0 32
 is-first l e f =
-    ext_get_or (node 0) l (nodesFrom 0 32) (rw (e, from-length 0 32))
+    ext_get_or (node 0) l (nodes_from 0 32) (rw (e, from-length 0 32))
     (λ i h. f i (omega (arith, e)) ∙ rw (from_at 0 32 i (omega (arith, e)), zero-add i))
 
 -- one more entry
@@ -40,7 +40,7 @@ one_more l k e h f i g = go (eqb i k) refl
 
 -- ---- what the maps hold
 
-pub first-is : (r : ℕ) → r < 32 → node_of firstMap r ≡ r
+pub first-is : (r : ℕ) → r < 32 → node_of first_map r ≡ r
 first-is r h = ap (λ (n : Node). n.0) (from_at 0 32 r h) ∙ zero-add r
 
 pub written_is : (m : RegisterMap) (d n count r : ℕ) → d < length m.nodes → node_of (written m d n count) r ≡ cond (eqb r d) n (node_of m r)

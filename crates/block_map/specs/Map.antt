@@ -12,17 +12,17 @@ abbrev pub node_of : RegisterMap → ℕ → ℕ
 node_of m r = (get_or m.nodes r (node 0)).0
 
 -- k nodes, from node r on
-unfoldable pub nodesFrom : ℕ → ℕ → List Node
-nodesFrom r zero = []
-nodesFrom r (suc k) = node r ∷ nodesFrom (suc r) k
+unfoldable pub nodes_from : ℕ → ℕ → List Node
+nodes_from r zero = []
+nodes_from r (suc k) = node r ∷ nodes_from (suc r) k
 
 -- node r for register r
-abbrev pub firstMap : RegisterMap
-firstMap = record { nodes = nodesFrom 0 32; count = 32 }
+abbrev pub first_map : RegisterMap
+first_map = record { nodes = nodes_from 0 32; count = 32 }
 
 -- 32 times no node
-abbrev pub noMap : RegisterMap
-noMap = record { nodes = replicate 32 (node none); count = 0 }
+abbrev pub no_map : RegisterMap
+no_map = record { nodes = replicate 32 (node none); count = 0 }
 
 -- n for register r
 abbrev pub written : RegisterMap → (r n count : ℕ) → RegisterMap

@@ -1,10 +1,10 @@
 // The map of a block (document 01, "Pool"): the node of each of the 32 registers, and the count of the pool's nodes.
 ghost use Rattle.std.specs.Prelude.{◌≡◌, ◌<◌};
-ghost use Rattle.block_map.specs.Map.{node_of, firstMap, noMap, written};
+ghost use Rattle.block_map.specs.Map.{node_of, first_map, no_map, written};
 
 use pool::Node;
 
-#[derive(Drop)]
+#[derive(Clone, Copy)]
 pub struct RegisterMap {
     pub nodes: [Node; 32],
     pub count: usize,
@@ -13,7 +13,7 @@ pub struct RegisterMap {
 impl RegisterMap {
     // Node r for register r.
     pub fn initial() -> Self
-        ensures { result ≡ firstMap }
+        ensures { result ≡ first_map }
     {
         let mut nodes = [Node(0); 32];
         let mut r: usize = 0;
@@ -26,7 +26,7 @@ impl RegisterMap {
 
     // The map of a block that is refused.
     pub fn refused() -> Self
-        ensures { result ≡ noMap }
+        ensures { result ≡ no_map }
     {
         Self {
             nodes: [Node::none(); 32],

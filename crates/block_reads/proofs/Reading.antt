@@ -5,10 +5,10 @@ use mathlib.Core.Bool.{Bool, true, false, false≢true}
 use mathlib.Core.List.{List, [], ◌∷◌}
 use native.Mathlib.Omega.{arith}
 use native.Mathlib.Nat.{not-le_of_lt, lt_trans}
-use Rattle.neon.specs.Op.{bitsIf}
+use Rattle.neon.specs.Op.{bits_if}
 use Rattle.terms.specs.Expr.{Expr}
-use Rattle.trees.specs.Block.{widenTree}
-use Rattle.trees.specs.Trees.{readTree}
+use Rattle.trees.specs.Block.{widen_tree}
+use Rattle.trees.specs.Trees.{read_tree}
 use Rattle.pool.specs.declared.Node.{Node}
 use Rattle.pool.specs.declared.Built.{Built}
 use Rattle.pool_nodes.specs.Builders.{MadeZeroExtend}
@@ -17,15 +17,15 @@ use Rattle.pool.proofs.Laws.{grown-refl, width-kept, unfold-kept}
 use Rattle.pool.specs.Growth.{Grown}
 use Rattle.pool.proofs.Steps.{stay}
 use Rattle.lower.specs.Builds.{Builds1}
-use Rattle.block_reads.specs.Reads.{LowHalf, halfRead, Reads}
+use Rattle.block_reads.specs.Reads.{LowHalf, half_read, Reads}
 
 -- ---- a read
 
-half-whole : (used : Bool) → halfRead used true ≡ 0
+half-whole : (used : Bool) → half_read used true ≡ 0
 half-whole true = refl
 half-whole false = refl
 
-half-most : (used whole : Bool) → halfRead used whole ≤ 1
+half-most : (used whole : Bool) → half_read used whole ≤ 1
 half-most true true = omega arith
 half-most true false = omega arith
 half-most false whole = omega arith
@@ -87,7 +87,7 @@ read-half {old} {k} {new} {r} {register = register} u q d =
                 (record {
                   after = omega (arith, d.at, h.under);
                   wide = x.is.wide;
-                  tree = x.is.tree ∙ ap (λ (s : Expr). readTree false s) (sym (unfold-kept x.grown register.0 h.under ∙ h.tree));
+                  tree = x.is.tree ∙ ap (λ (s : Expr). read_tree false s) (sym (unfold-kept x.grown register.0 h.under ∙ h.tree));
                 });
           };
     }
@@ -99,17 +99,17 @@ half-kept g {register} {y} q x l h =
     (record {
       after = h.after;
       wide = width-kept g x l ∙ h.wide;
-      tree = unfold-kept g x l ∙ h.tree ∙ ap (λ (s : Expr). readTree false s) (sym (unfold-kept g y (lt_trans h.after l)));
+      tree = unfold-kept g x l ∙ h.tree ∙ ap (λ (s : Expr). read_tree false s) (sym (unfold-kept g y (lt_trans h.after l)));
     })
 
 -- ---- the widening
 
 pub widen_none : {ws : List ℕ} {k : ℕ} {r : Built} {whole : Bool} {a : Node} → whole ≡ true → a.0 < k → r.node.0 ≡ a.0 → r.count ≡ k
-    → Builds1 ws k ws r 1 a (bitsIf whole) 128 (widenTree whole) (a.0 ∷ [])
+    → Builds1 ws k ws r 1 a (bits_if whole) 128 (widen_tree whole) (a.0 ∷ [])
 widen_none q b e f = rw q (record { sized = omega (arith, b, e, f); made = λ v x. rw (e, f) (stay v x) })
 
 pub widen-some : {old : List ℕ} {k : ℕ} {new : List ℕ} {r : Built} {whole : Bool} {a : Node} → whole ≡ false → MadeZeroExtend old k new r a 128
-    → Builds1 old k new r 1 a (bitsIf whole) 128 (widenTree whole) (a.0 ∷ [])
+    → Builds1 old k new r 1 a (bits_if whole) 128 (widen_tree whole) (a.0 ∷ [])
 widen-some q d = rw q (record { sized = omega (arith, d.sized); made = λ v x. d.made v (omega arith) (omega arith) (omega arith) x })
 
 -- ---- flags that are known by an equation
@@ -120,6 +120,6 @@ pub read_flags : {old : List ℕ} {k : ℕ} {new : List ℕ} {r : Built} {used u
 read_flags p q h = rw (← p, ← q) h
 
 pub widen-flag : {old : List ℕ} {k : ℕ} {new : List ℕ} {r : Built} {whole whole' : Bool} {a : Node} → whole ≡ whole'
-    → Builds1 old k new r 1 a (bitsIf whole) 128 (widenTree whole) (a.0 ∷ [])
-    → Builds1 old k new r 1 a (bitsIf whole') 128 (widenTree whole') (a.0 ∷ [])
+    → Builds1 old k new r 1 a (bits_if whole) 128 (widen_tree whole) (a.0 ∷ [])
+    → Builds1 old k new r 1 a (bits_if whole') 128 (widen_tree whole') (a.0 ∷ [])
 widen-flag q h = rw (← q) h

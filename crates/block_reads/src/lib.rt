@@ -1,7 +1,7 @@
 // How a record of a block reads a register, and how its result becomes one (document 01, "Pool").
 ghost use Rattle.std.specs.Prelude.{[], ◌∷◌, ◌<◌};
-ghost use Rattle.neon.specs.Op.{bitsIf};
-ghost use Rattle.trees.specs.Block.{widenTree};
+ghost use Rattle.neon.specs.Op.{bits_if};
+ghost use Rattle.trees.specs.Block.{widen_tree};
 ghost use Rattle.pool.specs.Growth.{Room};
 ghost use Rattle.lower.specs.Builds.{Builds1};
 ghost use Rattle.block_reads.specs.Reads.{Reads};
@@ -33,7 +33,7 @@ pub fn read_if(pool: &mut [u64], count: usize, used: bool, whole: bool, register
 pub fn widen(pool: &mut [u64], count: usize, whole: bool, res: Node) -> Built
     requires room { Room pool.old count 1 }
     requires res_lt_count { res.0 < count }
-    ensures { Builds1 pool.old count pool.new result 1 res (bitsIf whole) 128 (widenTree whole) (res.0 ∷ []) }
+    ensures { Builds1 pool.old count pool.new result 1 res (bits_if whole) 128 (widen_tree whole) (res.0 ∷ []) }
 {
     if whole {
         return Built { node: res, count };

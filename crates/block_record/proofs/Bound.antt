@@ -1,4 +1,4 @@
--- No legal record adds more than 768 nodes: recordNodes is 764. Assumes nothing.
+-- No legal record adds more than 768 nodes: record_nodes is 764. Assumes nothing.
 use native.Mathlib.Omega.{arith}
 use Rattle.block_record.specs.Bound.{RecordAdds}
 

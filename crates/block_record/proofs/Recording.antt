@@ -11,19 +11,19 @@ use borrow.Author.Tests.{eq-eqb}
 use Rattle.facts.proofs.Numbers.{before-or-from}
 use Rattle.terms.specs.Expr.{Expr}
 use Rattle.neon.specs.declared.Instruction.{Instruction}
-use Rattle.neon.specs.Op.{Op, opAt, Arrangement, arrangementAt, full, view}
-use Rattle.neon.specs.Form.{form, hasSecond, readsD, byElement, firstFull, secondFull, firstBits, secondBits}
-use Rattle.neon.specs.Refusal.{mostNodes, recordNodes, Legal}
+use Rattle.neon.specs.Op.{Op, op_at, Arrangement, arrangement_at, full, view}
+use Rattle.neon.specs.Form.{form, has_second, reads_d, by_element, first_full, second_full, first_bits, second_bits}
+use Rattle.neon.specs.Refusal.{most_nodes, record_nodes, Legal}
 use Rattle.neon.proofs.Legal.{accepted, m-le}
-use Rattle.trees.specs.Block.{widenTree}
-use Rattle.trees.specs.Trees.{resultTree, readTree, recordTree}
+use Rattle.trees.specs.Block.{widen_tree}
+use Rattle.trees.specs.Trees.{result_tree, read_tree, record_tree}
 use Rattle.trees.specs.Block as Block
 use Rattle.pool.specs.declared.Node.{Node}
 use Rattle.pool.specs.declared.Built.{Built}
 use Rattle.pool.specs.Rules.{Valid}
 use Rattle.pool.specs.Growth.{Reach, NodeIs}
 use Rattle.pool.proofs.Laws.{grown-trans, is-kept, reach-kept, reach-trans}
-use Rattle.lower.specs.Builds.{Builds1, Lowers, read, readIf}
+use Rattle.lower.specs.Builds.{Builds1, Lowers, read, read_if}
 use Rattle.block_map.specs.declared.RegisterMap.{RegisterMap}
 use Rattle.block_map.specs.Map.{node, node_of, written}
 use Rattle.block_map.proofs.Nodes.{written_is}
@@ -45,14 +45,14 @@ written_at m d n k h = rw (written_is m d n k d h, eq-eqb d d refl)
 
 -- what a record reads, at its operation o and arrangement v
 module _ (m : RegisterMap) (ok : MapOk m) (c : Instruction) (hd : c.d < 32) (hn : c.n < 32) (hm : c.m < 32) (o : Op) (v : Arrangement)
-    (eo : opAt c.operation ≡ o) (ev : arrangementAt c.arrangement ≡ v) {w0 w1 w2 w3 w4 w5 : List ℕ} {b1 b2 b3 b4 b5 : Built} {n1 n2 n3 : Node}
+    (eo : op_at c.operation ≡ o) (ev : arrangement_at c.arrangement ≡ v) {w0 w1 w2 w3 w4 w5 : List ℕ} {b1 b2 b3 b4 b5 : Built} {n1 n2 n3 : Node}
     (q1 : n1.0 ≡ node_of m c.n) (q2 : n2.0 ≡ node_of m c.m) (q3 : n3.0 ≡ node_of m c.d)
-    (r1 : Reads w0 m.count w1 b1 true (firstFull (form o).lanes (full v)) n1)
-    (r2 : Reads w1 b1.count w2 b2 (hasSecond o) (secondFull (form o).lanes (byElement o) (full v)) n2)
-    (r3 : Reads w2 b2.count w3 b3 (readsD o v) (full v) n3)
-    (f : Lowers w3 b3.count w4 b4 mostNodes (view v) (readIf (readsD o v) b3.node (view v)) (read b1.node (firstBits o v))
-    (readIf (hasSecond o) b2.node (secondBits o v)) (resultTree o v c.i) [])
-    (w : Builds1 w4 b4.count w5 b5 1 b4.node (view v) 128 (widenTree (full v)) (b4.node.0 ∷ [])) where
+    (r1 : Reads w0 m.count w1 b1 true (first_full (form o).lanes (full v)) n1)
+    (r2 : Reads w1 b1.count w2 b2 (has_second o) (second_full (form o).lanes (by_element o) (full v)) n2)
+    (r3 : Reads w2 b2.count w3 b3 (reads_d o v) (full v) n3)
+    (f : Lowers w3 b3.count w4 b4 most_nodes (view v) (read_if (reads_d o v) b3.node (view v)) (read b1.node (first_bits o v))
+    (read_if (has_second o) b2.node (second_bits o v)) (result_tree o v c.i) [])
+    (w : Builds1 w4 b4.count w5 b5 1 b4.node (view v) 128 (widen_tree (full v)) (b4.node.0 ∷ [])) where
   in_map : c.d < length m.nodes
   in_map = omega (arith, ok.size)
 
@@ -60,7 +60,7 @@ module _ (m : RegisterMap) (ok : MapOk m) (c : Instruction) (hd : c.d < 32) (hn 
   after-at = written_at m c.d b5.node.0 b5.count in_map
 
   -- three reads, the form's nodes, one widening
-  sizes : (m.count ≤ b5.count) × (b5.count ≤ m.count + recordNodes)
+  sizes : (m.count ≤ b5.count) × (b5.count ≤ m.count + record_nodes)
   sizes = (
     omega (arith, read_more r1, read_more r2, read_more r3, f.sized, w.sized),
     omega (arith, read-most r1, read-most r2, read-most r3, f.sized, w.sized),
@@ -84,18 +84,18 @@ module _ (m : RegisterMap) (ok : MapOk m) (c : Instruction) (hd : c.d < 32) (hn 
   of-d x l k h = rw (eo, ev) (inr (inr (omega (arith, l, r1.next, r2.next), omega (arith, k, r1.next, r2.next, r3.next), h)))
 
   made : (t : ℕ → Expr) → Valid w0 m.count → MapIs w0 m t → StepMade w0 m w5 (written m c.d b5.node.0 b5.count) c t
-  unfolding Block.treeStep Block.recordTree
+  unfolding Block.tree_step Block.record_tree
   made t val h =
       let m1 = r1.made val (node_at q1 (h c.n hn)) in
       let m2 = r2.made m1.valid (is-kept m1.grown (node_at q2 (h c.m hm))) in
       let g2 = grown-trans m1.grown m2.grown in
       let m3 = r3.made m2.valid (is-kept g2 (node_at q3 (h c.d hd))) in
       let g3 = grown-trans g2 m3.grown in
-      let mf = f.made {td = readTree (full v) (t c.d)} {ta = readTree (firstFull (form o).lanes (full v)) (t c.n)}
-      {tb = readTree (secondFull (form o).lanes (byElement o) (full v)) (t c.m)} m3.valid m3.is
+      let mf = f.made {td = read_tree (full v) (t c.d)} {ta = read_tree (first_full (form o).lanes (full v)) (t c.n)}
+      {tb = read_tree (second_full (form o).lanes (by_element o) (full v)) (t c.m)} m3.valid m3.is
       (λ u. is-kept (grown-trans m2.grown m3.grown) (m1.is refl)) (λ u. is-kept m3.grown (m2.is u)) in
       let mw = w.made mf.valid mf.is in
-      let answered : NodeIs w5 b5.count b5.node.0 128 (recordTree c t) = rw (eo, ev) mw.is in
+      let answered : NodeIs w5 b5.count b5.node.0 128 (record_tree c t) = rw (eo, ev) mw.is in
       let g45 = mw.grown in
       let g35 = grown-trans mf.grown g45 in
       let g25 = grown-trans m3.grown g35 in
@@ -105,7 +105,7 @@ module _ (m : RegisterMap) (ok : MapOk m) (c : Instruction) (hd : c.d < 32) (hn 
       λ x l r. ⊎_elim (λ k. inr (of-n x k (half-kept g15 q1 x k (m1.halves x l k))))
       (λ l1. ⊎_elim (λ k. inr (of-m x l1 k (half-kept g25 q2 x k (m2.halves x l1 k))))
       (λ l2. ⊎_elim (λ k. inr (of-d x l2 k (half-kept g35 q3 x k (m3.halves x l2 k))))
-      (λ l3. ⊎_elim (λ k. inl (reach-trans mw.ins-reached.0 (reach-kept g45 mf.is.under (mf.all x l3 k)))) (λ l4. inl (mw.all x l4 r))
+      (λ l3. ⊎_elim (λ k. inl (reach-trans mw.ins_reached.0 (reach-kept g45 mf.is.under (mf.all x l3 k)))) (λ l4. inl (mw.all x l4 r))
       (before-or-from x b4.count)) (before-or-from x b3.count)) (before-or-from x b2.count)) (before-or-from x b1.count) in
       record {
         grown = g05;
@@ -122,7 +122,7 @@ module _ (m : RegisterMap) (ok : MapOk m) (c : Instruction) (hd : c.d < 32) (hn 
         long = w.sized.long ∙ f.sized.long ∙ r3.long ∙ r2.long ∙ r1.long;
         more = sizes.0;
         most = sizes.1;
-        map-ok = after-ok;
+        map_ok = after-ok;
         map_is = rw after-at refl;
         made = λ {t} val h. made t val h;
       }
@@ -132,7 +132,7 @@ module _ (m : RegisterMap) (ok : MapOk m) (c : Instruction) (hd : c.d < 32) (hn 
 pub registers-in : (c : Instruction) → Legal c → (c.d < 32) × (c.n < 32) × (c.m < 32)
 registers-in c l =
     let a = accepted c l in
-    (omega (arith, a.at-d), omega (arith, a.at_n), omega (arith, a.at-m, m-le (opAt c.operation) (arrangementAt c.arrangement)))
+    (omega (arith, a.at-d), omega (arith, a.at_n), omega (arith, a.at-m, m-le (op_at c.operation) (arrangement_at c.arrangement)))
 
 pub nodes-in : (m : RegisterMap) → MapOk m → (c : Instruction) → Legal c → (node_of m c.d < m.count) × (node_of m c.n < m.count) × (node_of m c.m < m.count)
 nodes-in m ok c l =

@@ -1,17 +1,17 @@
 // A record of a block and its refusals (document 01, "The numbers"). A record is six numbers: operation, arrangement, i, d, n, m. The
 // Rust has no counterpart: it lowers one instruction at a time.
 ghost use Rattle.std.specs.Prelude.{◌≡◌, ◌+◌, ◌*◌, ◌≤◌, length};
-ghost use Rattle.neon.specs.Op.{laneBits};
-ghost use Rattle.neon.specs.Refusal.{mostM, recordNumber};
+ghost use Rattle.neon.specs.Op.{bits_of_lane};
+ghost use Rattle.neon.specs.Refusal.{most_m, record_number};
 ghost use Rattle.neon_form.specs.Code.{OfCode};
-ghost use Rattle.block_record_check.specs.Record.{instruction, recordAt};
+ghost use Rattle.block_record_check.specs.Record.{instruction, record_at};
 
 use neon::Instruction;
 
 // Record j of a list of flat numbers.
 pub fn record_at(records: &[u64], j: usize) -> Instruction
     requires { 6 * j + 6 ≤ length records.now }
-    ensures { result ≡ recordAt records.now j }
+    ensures { result ≡ record_at records.now j }
 {
     let at = 6 * j;
     Instruction {
@@ -27,7 +27,7 @@ pub fn record_at(records: &[u64], j: usize) -> Instruction
 // The last register that m may name, by the form code and the bits of a lane: 0 if there is no second source, and 15 for an
 // element of 16 bits.
 fn most_m(code: u64, bits: u64) -> u64
-    ensures { OfCode code (λ o v. bits ≡ laneBits v → result ≡ mostM o v) }
+    ensures { OfCode code (λ o v. bits ≡ bits_of_lane v → result ≡ most_m o v) }
 {
     let short = neon_form::by_element(code) & (bits / 2 == 16);
     let last = if short { 15 } else { 31 };
@@ -36,7 +36,7 @@ fn most_m(code: u64, bits: u64) -> u64
 
 // 0, or the first of 2, 3, 4 and 7 that refuses a record.
 pub fn record_number(operation: u64, arrangement: u64, i: u64, d: u64, n: u64, m: u64) -> u64
-    ensures { result ≡ recordNumber (instruction operation arrangement i d n m) }
+    ensures { result ≡ record_number (instruction operation arrangement i d n m) }
 {
     let number = neon_form::form_number(operation, arrangement, i);
     if 0 < number {

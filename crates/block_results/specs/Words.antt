@@ -5,12 +5,12 @@ use Rattle.block_map.specs.declared.RegisterMap.{RegisterMap}
 use Rattle.block_map.specs.Map.{node_of}
 
 -- the nodes of k registers, from register r on
-unfoldable pub nodesOf : RegisterMap → ℕ → ℕ → List ℕ
-nodesOf m r zero = []
-nodesOf m r (suc k) = node_of m r ∷ nodesOf m (suc r) k
+unfoldable pub nodes_of : RegisterMap → ℕ → ℕ → List ℕ
+nodes_of m r zero = []
+nodes_of m r (suc k) = node_of m r ∷ nodes_of m (suc r) k
 
-unfoldable pub answerWords : RegisterMap → (position : ℕ) → List ℕ
-answerWords m position = nodesOf m 0 32 ++ (m.count ∷ position ∷ [])
+unfoldable pub answer_words : RegisterMap → (position : ℕ) → List ℕ
+answer_words m position = nodes_of m 0 32 ++ (m.count ∷ position ∷ [])
 
-abbrev pub flaggedWords : RegisterMap → (position bit : ℕ) → List ℕ
-flaggedWords m position bit = answerWords m position ++ (bit ∷ [])
+abbrev pub flagged_words : RegisterMap → (position bit : ℕ) → List ℕ
+flagged_words m position bit = answer_words m position ++ (bit ∷ [])

@@ -1,13 +1,13 @@
 // The words in which a block's answer is given to C and Rust.
 ghost use Rattle.std.specs.Prelude.{◌≡◌};
-ghost use Rattle.block_results.specs.Words.{answerWords, flaggedWords};
+ghost use Rattle.block_results.specs.Words.{answer_words, flagged_words};
 
 use block_map::RegisterMap;
 use pool::Node;
 
 // The nodes of the 32 registers, the count and the position.
 pub fn answer_words(map: RegisterMap, position: usize) -> [u64; 34]
-    ensures { result ≡ answerWords map position }
+    ensures { result ≡ answer_words map position }
 {
     let mut words = [0u64; 34];
     let mut r: usize = 0;
@@ -23,7 +23,7 @@ pub fn answer_words(map: RegisterMap, position: usize) -> [u64; 34]
 
 // The same, and the node of the block's saturation bit.
 pub fn flagged_words(map: RegisterMap, position: usize, bit: Node) -> [u64; 35]
-    ensures { result ≡ flaggedWords map position bit.0 }
+    ensures { result ≡ flagged_words map position bit.0 }
 {
     let first = answer_words(map, position);
     let mut words = [bit.0 as u64; 35];

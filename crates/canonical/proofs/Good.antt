@@ -5,7 +5,7 @@ use native.Mathlib.Omega.{arith}
 use lib.ListN.{length}
 use Rattle.terms.specs.Expr.{Expr, Var, Const, Bv, Compare, Ite, Extract, Concat, ZeroExtend, SignExtend}
 use Rattle.terms.specs.Rules.{Good}
-use Rattle.canonical.specs.Order.{parts, walk, add, addAll, postorder}
+use Rattle.canonical.specs.Order.{parts, walk, add, add_all, postorder}
 use Rattle.canonical.proofs.Lists.{by-add}
 use Rattle.canonical.proofs.Trees.{All, by_parts, at, walks, walk-parts}
 
@@ -13,8 +13,8 @@ all_more : (P : Expr → Type 0) (l m : List Expr) → All P l → All P m → A
 all_more P [] m a b = b
 all_more P (x ∷ l) m a b = (a.0, all_more P l m a.1 b)
 
-all-add : (P : Expr → Type 0) (l ts : List Expr) → All P l → All P ts → All P (addAll l ts)
-unfolding addAll
+all-add : (P : Expr → Type 0) (l ts : List Expr) → All P l → All P ts → All P (add_all l ts)
+unfolding add_all
 all-add P l [] a b = a
 all-add P l (t ∷ ts) a b = all-add P (add l t) ts (by-add (All P) l t (λ h. a) (λ h. all_more P l (t ∷ []) a (b.0, tt))) b.1
 

@@ -9,7 +9,7 @@ use lib.ListN.{length, get_or, length-append}
 use borrow.Author.Tests.{lt-ltb, le-ltb, ltb-true, ltb-false}
 use Rattle.terms.specs.Expr.{Expr}
 use Rattle.canonical.specs.Same.{same}
-use Rattle.canonical.specs.Order.{place, add, addAll, In, AllIn}
+use Rattle.canonical.specs.Order.{place, add, add_all, In, AllIn}
 
 -- ---- places
 
@@ -101,13 +101,13 @@ kept-add l t =
     by-add (λ m. Kept l m) l t (λ h. kept_refl l)
     (λ h. record { stays = λ s i. place-append l (t ∷ []) s i; longer = omega (arith, length-append l (t ∷ [])) })
 
-pub kept-all : (l ts : List Expr) → Kept l (addAll l ts)
-unfolding addAll
+pub kept-all : (l ts : List Expr) → Kept l (add_all l ts)
+unfolding add_all
 kept-all l [] = kept_refl l
 kept-all l (t ∷ ts) = kept_trans (kept-add l t) (kept-all (add l t) ts)
 
-pub all_append : (l ts us : List Expr) → addAll l (ts ++ us) ≡ addAll (addAll l ts) us
-unfolding addAll
+pub all_append : (l ts us : List Expr) → add_all l (ts ++ us) ≡ add_all (add_all l ts) us
+unfolding add_all
 all_append l [] us = refl
 all_append l (t ∷ ts) us = all_append (add l t) ts us
 
@@ -115,12 +115,12 @@ pub all-kept : {l m : List Expr} → Kept l m → (ts : List Expr) → AllIn l t
 all-kept k [] h = tt
 all-kept k (t ∷ ts) h = (kept_in k t h.0, all-kept k ts h.1)
 
-pub in_all : (l ts : List Expr) → AllIn (addAll l ts) ts
-unfolding addAll
+pub in_all : (l ts : List Expr) → AllIn (add_all l ts) ts
+unfolding add_all
 in_all l [] = tt
 in_all l (t ∷ ts) = (kept_in (kept-all (add l t) ts) t (in-add l t), in_all (add l t) ts)
 
-pub all_old : (l ts : List Expr) → AllIn l ts → addAll l ts ≡ l
-unfolding addAll
+pub all_old : (l ts : List Expr) → AllIn l ts → add_all l ts ≡ l
+unfolding add_all
 all_old l [] h = refl
 all_old l (t ∷ ts) h = rw (add-old l t h.0) (all_old l ts h.1)

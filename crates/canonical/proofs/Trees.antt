@@ -5,7 +5,7 @@ use Prim.Native.Nat.{ℕ, zero, suc, ◌+◌, ◌≤◌, ◌<◌}
 use native.Mathlib.Omega.{arith}
 use lib.ListN.{length, get_or, length-append, get_or-append}
 use Rattle.terms.specs.Expr.{Expr, Var, Const, Bv, Compare, Ite, Extract, Concat, ZeroExtend, SignExtend}
-use Rattle.canonical.specs.Order.{parts, walk, place, add, addAll, postorder, In, AllIn}
+use Rattle.canonical.specs.Order.{parts, walk, place, add, add_all, postorder, In, AllIn}
 use Rattle.canonical.proofs.Lists.{at_place, place-append, add-new, by-add, in-add, Kept, kept_refl, kept_in, kept_trans, kept-all, all_append}
 use borrow.Author.Tests.{ltb-false, ltb-true}
 use lib.Dec.{ltb}
@@ -32,11 +32,11 @@ by_parts P f (SignExtend a w) = f (SignExtend a w) (by_parts P f a, tt)
 
 -- l with the distinct subtrees of t added
 abbrev pub visit : List Expr → Expr → List Expr
-visit l t = addAll l (walk t)
+visit l t = add_all l (walk t)
 
-abbrev pub visitAll : List Expr → List Expr → List Expr
-visitAll l [] = l
-visitAll l (t ∷ ts) = visitAll (visit l t) ts
+abbrev pub visit_all : List Expr → List Expr → List Expr
+visit_all l [] = l
+visit_all l (t ∷ ts) = visit_all (visit l t) ts
 
 abbrev pub walks : List Expr → List Expr
 walks [] = []
@@ -54,27 +54,27 @@ walk-parts (Concat a b) = simp append_assoc
 walk-parts (ZeroExtend a w) = simp append_assoc
 walk-parts (SignExtend a w) = simp append_assoc
 
-visit-walks : (l ts : List Expr) → addAll l (walks ts) ≡ visitAll l ts
-unfolding addAll
+visit-walks : (l ts : List Expr) → add_all l (walks ts) ≡ visit_all l ts
+unfolding add_all
 visit-walks l [] = refl
 visit-walks l (t ∷ ts) = all_append l (walk t) (walks ts) ∙ visit-walks (visit l t) ts
 
-pub visit-step : (l : List Expr) (t : Expr) → visit l t ≡ add (visitAll l (parts t)) t
-unfolding addAll
+pub visit-step : (l : List Expr) (t : Expr) → visit l t ≡ add (visit_all l (parts t)) t
+unfolding add_all
 visit-step l t =
-    ap (addAll l) (walk-parts t) ∙ all_append l (walks (parts t)) (t ∷ []) ∙ ap (λ m. add m t) (visit-walks l (parts t))
+    ap (add_all l) (walk-parts t) ∙ all_append l (walks (parts t)) (t ∷ []) ∙ ap (λ m. add m t) (visit-walks l (parts t))
 
 pub kept-visit : (l : List Expr) (t : Expr) → Kept l (visit l t)
 kept-visit l t = kept-all l (walk t)
 
-pub kept-visits : (l ts : List Expr) → Kept l (visitAll l ts)
+pub kept-visits : (l ts : List Expr) → Kept l (visit_all l ts)
 kept-visits l [] = kept_refl l
 kept-visits l (t ∷ ts) = kept_trans (kept-visit l t) (kept-visits (visit l t) ts)
 
 pub in-visit : (l : List Expr) (t : Expr) → In (visit l t) t
-in-visit l t = subst (λ m. In m t) (sym (visit-step l t)) (in-add (visitAll l (parts t)) t)
+in-visit l t = subst (λ m. In m t) (sym (visit-step l t)) (in-add (visit_all l (parts t)) t)
 
-pub in-visits : (l ts : List Expr) → AllIn (visitAll l ts) ts
+pub in-visits : (l ts : List Expr) → AllIn (visit_all l ts) ts
 in-visits l [] = tt
 in-visits l (t ∷ ts) = (kept_in (kept-visits (visit l t) ts) t (in-visit l t), in-visits (visit l t) ts)
 
@@ -118,7 +118,7 @@ closed-more l t c a i h = go (ltb i (length l)) refl
         let q : i ≡ length l = omega (arith, length-append l (t ∷ [])) in
         rw (q, at-end l t) (all-before l (t ∷ []) (parts t) a)
 
-closed-visits : (ts l : List Expr) → All (λ t. (l : List Expr) → Closed l → Closed (visit l t)) ts → Closed l → Closed (visitAll l ts)
+closed-visits : (ts l : List Expr) → All (λ t. (l : List Expr) → Closed l → Closed (visit l t)) ts → Closed l → Closed (visit_all l ts)
 closed-visits [] l a c = c
 closed-visits (t ∷ ts) l a c = closed-visits ts (visit l t) a.1 (a.0 l c)
 
@@ -126,7 +126,7 @@ pub closed-visit : (t : Expr) (l : List Expr) → Closed l → Closed (visit l t
 closed-visit =
     by_parts (λ t. (l : List Expr) → Closed l → Closed (visit l t))
     (λ t a l c.
-    let m = visitAll l (parts t) in
+    let m = visit_all l (parts t) in
     let k : Closed m = closed-visits (parts t) l a c in
     subst Closed (sym (visit-step l t)) (by-add Closed m t (λ h. k) (λ h. closed-more m t k (in-visits l (parts t)))))
 
@@ -158,8 +158,8 @@ small-up : (n m : ℕ) (l : List Expr) → n ≤ m → Small n l → Small m l
 small-up n m [] h a = tt
 small-up n m (x ∷ l) h a = (omega (arith, a.0), small-up n m l h a.1)
 
-small_all : (n : ℕ) (l ts : List Expr) → Small n l → Small n ts → Small n (addAll l ts)
-unfolding addAll
+small_all : (n : ℕ) (l ts : List Expr) → Small n l → Small n ts → Small n (add_all l ts)
+unfolding add_all
 small_all n l [] a b = a
 small_all n l (t ∷ ts) a b = small_all n (add l t) ts (by-add (λ m. Small n m) l t (λ h. a) (λ h. small-more n l (t ∷ []) a (b.0, tt))) b.1
 
@@ -206,10 +206,10 @@ small-out l t a = go (ltb (place l t) (length l)) refl
     go false e = ltb-false _ _ e
 
 -- the distinct subtrees of t's operands, and then t
-pub order-last : (t : Expr) → postorder t ≡ visitAll [] (parts t) ++ (t ∷ [])
+pub order-last : (t : Expr) → postorder t ≡ visit_all [] (parts t) ++ (t ∷ [])
 unfolding postorder
 order-last t =
-    let m = visitAll [] (parts t) in
+    let m = visit_all [] (parts t) in
     visit-step [] t
     ∙ add-new m t
     (small-out m t (subst (Small (size t)) (visit-walks [] (parts t))
@@ -217,12 +217,12 @@ order-last t =
 
 -- the last place
 pub root : Expr → ℕ
-root t = length (visitAll [] (parts t))
+root t = length (visit_all [] (parts t))
 
 pub order-length : (t : Expr) → length (postorder t) ≡ suc (root t)
 unfolding root
-order-length t = ap length (order-last t) ∙ omega (arith, length-append (visitAll [] (parts t)) (t ∷ []))
+order-length t = ap length (order-last t) ∙ omega (arith, length-append (visit_all [] (parts t)) (t ∷ []))
 
 pub at-root : (t : Expr) → at (postorder t) (root t) ≡ t
 unfolding root
-at-root t = rw (order-last t) (at-end (visitAll [] (parts t)) t)
+at-root t = rw (order-last t) (at-end (visit_all [] (parts t)) t)

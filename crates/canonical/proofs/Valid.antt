@@ -12,9 +12,9 @@ use Rattle.terms.specs.Rules.{Good}
 use Rattle.terms.specs.Registers.{registers}
 use Rattle.pool.specs.Node.{Cell, cell_at, width_at, set_at}
 use Rattle.pool.proofs.Facts.{good-wide}
-use Rattle.pool.specs.Rules.{wideOk, widthBefore, setBefore, setRule, okCell, okNode, okPool, Valid}
+use Rattle.pool.specs.Rules.{wide_is_ok, width_before, set_before_block, set_rule, ok_cell, ok_node, ok_pool, Valid}
 use Rattle.canonical.specs.Order.{parts, place}
-use Rattle.canonical.specs.Words.{cellIn}
+use Rattle.canonical.specs.Words.{cell_in}
 use Rattle.canonical.proofs.Lists.{at_place}
 use Rattle.canonical.proofs.Trees.{All, at, Before, Closed}
 use Rattle.canonical.proofs.Good.{all-at}
@@ -26,14 +26,14 @@ infixr 40 ◌&◌
 ◌&◌ : {a b : Bool} → a ≡ true → b ≡ true → (a && b) ≡ true
 ◌&◌ {a} {b} p q = rw (p, q)
 
-wide_ok : (w : ℕ) → 0 < w → w ≤ 129 → wideOk w ≡ true
+wide_ok : (w : ℕ) → 0 < w → w ≤ 129 → wide_is_ok w ≡ true
 wide_ok w h g = le-leb 1 w h & le-leb w 129 g
 
 module _ (l : List Expr) (ws : List ℕ) (i : ℕ) (wides : (p : Expr) → place l p < i → width_at ws (place l p) ≡ width p) where
-  seen : (p : Expr) → place l p < i → widthBefore ws i (place l p) ≡ width p
+  seen : (p : Expr) → place l p < i → width_before ws i (place l p) ≡ width p
   seen p h = rw (lt-ltb (place l p) i h) (wides p h)
 
-  ok-cell : (t : Expr) → Good t → Before l i (parts t) → okCell ws i (cellIn l t) ≡ true
+  ok-cell : (t : Expr) → Good t → Before l i (parts t) → ok_cell ws i (cell_in l t) ≡ true
   unfolding Good width
   ok-cell (Var r) g b = rw (lt-ltb r 32 g)
   ok-cell (Const v w) g b =
@@ -97,10 +97,10 @@ module _ (l : List Expr) (ws : List ℕ) (i : ℕ) (wides : (p : Expr) → place
 
 -- and its set the rule of sets
 module _ (l : List Expr) (ws : List ℕ) (i : ℕ) (sets : (p : Expr) → place l p < i → set_at ws (place l p) ≡ registers p) where
-  named : (p : Expr) → place l p < i → registers p ≡ setBefore ws i (place l p)
+  named : (p : Expr) → place l p < i → registers p ≡ set_before_block ws i (place l p)
   named p h = rw (lt-ltb (place l p) i h) (sym (sets p h))
 
-  set-cell : (t : Expr) → Before l i (parts t) → registers t ≡ setRule ws i (cellIn l t)
+  set-cell : (t : Expr) → Before l i (parts t) → registers t ≡ set_rule ws i (cell_in l t)
   unfolding registers
   set-cell (Var r) b = refl
   set-cell (Const v w) b = refl
@@ -112,21 +112,21 @@ module _ (l : List Expr) (ws : List ℕ) (i : ℕ) (sets : (p : Expr) → place 
   set-cell (ZeroExtend a w) b = named a b.0
   set-cell (SignExtend a w) b = named a b.0
 
-module _ (l : List Expr) (c : Closed l) (g : All Good l) (ws : List ℕ) (cells : (i : ℕ) → i < length l → cell_at ws i ≡ cellIn l (at l i))
+module _ (l : List Expr) (c : Closed l) (g : All Good l) (ws : List ℕ) (cells : (i : ℕ) → i < length l → cell_at ws i ≡ cell_in l (at l i))
     (sets : (i : ℕ) → i < length l → set_at ws i ≡ registers (at l i)) where
   width-at : (i : ℕ) → i < length l → width_at ws i ≡ width (at l i)
   width-at i h = ap (λ (k : Cell). k.width) (cells i h) ∙ cell-width l (at l i)
 
-  ok_at : (i : ℕ) → i < length l → okNode ws i ≡ true
+  ok_at : (i : ℕ) → i < length l → ok_node ws i ≡ true
   ok_at i h =
-      subst (λ (k : Cell). okCell ws i k ≡ true) (sym (cells i h))
+      subst (λ (k : Cell). ok_cell ws i k ≡ true) (sym (cells i h))
       (ok-cell l ws i (λ p b. width-at (place l p) (omega arith) ∙ ap width (at_place l p (Var 0) (omega arith))) (at l i) (all-at Good l i g h) (c i h))
-      & eq-eqb (set_at ws i) (setRule ws i (cell_at ws i))
+      & eq-eqb (set_at ws i) (set_rule ws i (cell_at ws i))
       (sets i h
       ∙ set-cell l ws i (λ p b. sets (place l p) (omega arith) ∙ ap registers (at_place l p (Var 0) (omega arith))) (at l i) (c i h)
-      ∙ ap (setRule ws i) (sym (cells i h)))
+      ∙ ap (set_rule ws i) (sym (cells i h)))
 
   pub ok-all : (n : ℕ) → n ≤ length l → Valid ws n
-  unfolding okPool
+  unfolding ok_pool
   ok-all zero h = refl
   ok-all (suc n) h = ok-all n (omega arith) & ok_at n h

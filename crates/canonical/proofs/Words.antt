@@ -13,13 +13,13 @@ use Rattle.terms.specs.declared.CmpOp.TheVariants.{Eq, Ult, Slt}
 use Rattle.terms.specs.Expr.{Expr, Var, Const, Bv, Compare, Ite, Extract, Concat, ZeroExtend, SignExtend, width}
 use Rattle.terms.specs.Rules.{Good}
 use Rattle.terms.specs.Registers.{registers}
-use Rattle.pool.specs.Node.{Kind, bad, var, const, bv, compare, ite, extract, concat, zext, sext, kinds, kind_at, bvCode, compare_code, bv-kind, compare-kind, code_of, kindWord, Cell, decode, cell_at}
-use Rattle.pool.specs.Node.{kind_of, width_of, setOf, set_at, none}
-use Rattle.pool.specs.Unfold.{shape, earlier, unfoldAt}
+use Rattle.pool.specs.Node.{Kind, bad, var, const, bv, compare, ite, extract, concat, zext, sext, kinds, kind_at, bv_code, compare_code, bv_kind, compare_kind, code_of, kind_word, Cell, decode, cell_at}
+use Rattle.pool.specs.Node.{kind_of, width_of, set_of, set_at, none}
+use Rattle.pool.specs.Unfold.{shape, earlier, unfold_at}
 use Rattle.pool.proofs.Laws.{packed, packed-set, unfold-step}
 use Rattle.pool.proofs.Facts.{good-wide}
 use Rattle.canonical.specs.Order.{parts, place, postorder}
-use Rattle.canonical.specs.Words.{inner, cellIn, word0, word1, words_in, canonical}
+use Rattle.canonical.specs.Words.{inner, cell_in, word0, word1, words_in, canonical}
 use Rattle.canonical.proofs.Lists.{place-le, at_place}
 use Rattle.canonical.proofs.Trees.{All, at, Before, Closed, closed-order, root, order-length, at-root}
 use Rattle.canonical.proofs.Good.{good-order}
@@ -31,15 +31,15 @@ unfolding kind_at kinds
 kind-of-code bad = refl
 kind-of-code var = refl
 kind-of-code const = refl
-kind-of-code (bv o) = bv-kind o
-kind-of-code (compare o) = compare-kind o
+kind-of-code (bv o) = bv_kind o
+kind-of-code (compare o) = compare_kind o
 kind-of-code ite = refl
 kind-of-code extract = refl
 kind-of-code concat = refl
 kind-of-code zext = refl
 kind-of-code sext = refl
 
-bv-small : (o : BinOp) → bvCode o < 65536
+bv-small : (o : BinOp) → bv_code o < 65536
 bv-small Add = omega arith
 bv-small Sub = omega arith
 bv-small Mul = omega arith
@@ -70,7 +70,7 @@ code-small sext = omega arith
 -- ---- a node's words, read back
 
 -- word 0 is its three parts
-pub word-parts : (a : ℕ) → a ≡ kindWord (kind_of a) (width_of a) (setOf a)
+pub word-parts : (a : ℕ) → a ≡ kind_word (kind_of a) (width_of a) (set_of a)
 word-parts a = omega arith
 
 -- operands' numbers and the width fit their parts of a word
@@ -84,7 +84,7 @@ decoded k s f =
     packed (code_of k.kind) k.width s k.a k.b k.c k.x k.y (code-small k.kind) f.width_fits f.a-fits f.b-fits
     ∙ ap (λ κ. inner κ k.width k.a k.b k.c k.x k.y) (kind-of-code k.kind)
 
-pub cell-width : (l : List Expr) (t : Expr) → (cellIn l t).width ≡ width t
+pub cell-width : (l : List Expr) (t : Expr) → (cell_in l t).width ≡ width t
 unfolding width
 cell-width l (Var r) = refl
 cell-width l (Const v w) = refl
@@ -97,7 +97,7 @@ cell-width l (ZeroExtend a w) = refl
 cell-width l (SignExtend a w) = refl
 
 module _ (l : List Expr) (short : length l ≤ none) where
-  operands-fit : (t : Expr) → ((cellIn l t).a < 65536) × ((cellIn l t).b < 65536)
+  operands-fit : (t : Expr) → ((cell_in l t).a < 65536) × ((cell_in l t).b < 65536)
   operands-fit (Var r) = (omega arith, omega arith)
   operands-fit (Const v w) = (omega arith, omega arith)
   operands-fit (Bv o a b) = (omega (arith, place-le l a), omega (arith, place-le l b))
@@ -108,15 +108,15 @@ module _ (l : List Expr) (short : length l ≤ none) where
   operands-fit (ZeroExtend a w) = (omega (arith, place-le l a), omega arith)
   operands-fit (SignExtend a w) = (omega (arith, place-le l a), omega arith)
 
-  fits : (t : Expr) → Good t → Fits (cellIn l t)
+  fits : (t : Expr) → Good t → Fits (cell_in l t)
   fits t g =
       let o = operands-fit t in
       record { a-fits = o.0; b-fits = o.1; width_fits = omega (arith, cell-width l t, good-wide t g) }
 
-  pub cell-of : (ts : List Expr) → All Good ts → (i : ℕ) → i < length ts → cell_at (words_in l ts) i ≡ cellIn l (at ts i)
+  pub cell-of : (ts : List Expr) → All Good ts → (i : ℕ) → i < length ts → cell_at (words_in l ts) i ≡ cell_in l (at ts i)
   unfolding words_in
   cell-of [] g i h = absurd (omega arith)
-  cell-of (t ∷ ts) g zero h = decoded (cellIn l t) (registers t) (fits t g.0)
+  cell-of (t ∷ ts) g zero h = decoded (cell_in l t) (registers t) (fits t g.0)
   cell-of (t ∷ ts) g (suc i) h =
       let e0 : 4 * suc i ≡ suc (suc (suc (suc (4 * i)))) = omega arith in
       let e1 : 4 * suc i + 1 ≡ suc (suc (suc (suc (4 * i + 1)))) = omega arith in
@@ -129,10 +129,10 @@ module _ (l : List Expr) (short : length l ≤ none) where
   pub set-of : (ts : List Expr) → All Good ts → (i : ℕ) → i < length ts → set_at (words_in l ts) i ≡ registers (at ts i)
   unfolding words_in
   set-of [] g i h = absurd (omega arith)
-  set-of (t ∷ ts) g zero h = packed-set (code_of (cellIn l t).kind) (cellIn l t).width (registers t) (code-small (cellIn l t).kind) (fits t g.0).width_fits
+  set-of (t ∷ ts) g zero h = packed-set (code_of (cell_in l t).kind) (cell_in l t).width (registers t) (code-small (cell_in l t).kind) (fits t g.0).width_fits
   set-of (t ∷ ts) g (suc i) h =
       let e0 : 4 * suc i ≡ suc (suc (suc (suc (4 * i)))) = omega arith in
-      (λ j. setOf (get_or (words_in l (t ∷ ts)) (e0 j) 0)) ∙ set-of ts g.1 i (omega arith)
+      (λ j. set_of (get_or (words_in l (t ∷ ts)) (e0 j) 0)) ∙ set-of ts g.1 i (omega arith)
 
 pub words-length : (l ts : List Expr) → length (words_in l ts) ≡ 4 * length ts
 unfolding words_in
@@ -146,7 +146,7 @@ module _ (l : List Expr) (i : ℕ) (u : ℕ → Expr) (f : (p : Expr) → place 
   operand p h = rw (lt-ltb (place l p) i h) (f p h)
 
   shape-in : (t : Expr) → Before l i (parts t)
-      → (let k = cellIn l t in shape k (earlier (ltb k.a i) (u k.a)) (earlier (ltb k.b i) (u k.b)) (earlier (ltb k.c i) (u k.c))) ≡ t
+      → (let k = cell_in l t in shape k (earlier (ltb k.a i) (u k.a)) (earlier (ltb k.b i) (u k.b)) (earlier (ltb k.c i) (u k.c))) ≡ t
   shape-in (Var r) h = refl
   shape-in (Const v w) h =
       let e : v % 18446744073709551616 + 18446744073709551616 * (v / 18446744073709551616) ≡ v = omega arith in
@@ -161,16 +161,16 @@ module _ (l : List Expr) (i : ℕ) (u : ℕ → Expr) (f : (p : Expr) → place 
 
 -- ---- words whose nodes are those of a list of terms, each after its operands, unfold to the terms
 
-module _ (l : List Expr) (c : Closed l) (ws : List ℕ) (cells : (i : ℕ) → i < length l → cell_at ws i ≡ cellIn l (at l i)) where
-  unfolds-below : (f i : ℕ) → i < f → i < length l → unfoldAt ws i ≡ at l i
+module _ (l : List Expr) (c : Closed l) (ws : List ℕ) (cells : (i : ℕ) → i < length l → cell_at ws i ≡ cell_in l (at l i)) where
+  unfolds-below : (f i : ℕ) → i < f → i < length l → unfold_at ws i ≡ at l i
   unfolds-below zero i g h = absurd (omega arith)
   unfolds-below (suc f) i g h =
-      unfold-step ws i (cellIn l (at l i)) (cells i h)
-      ∙ shape-in l i (unfoldAt ws)
+      unfold-step ws i (cell_in l (at l i)) (cells i h)
+      ∙ shape-in l i (unfold_at ws)
       (λ p b. unfolds-below f (place l p) (omega arith) (omega arith) ∙ at_place l p (Var 0) (omega arith))
       (at l i) (c i h)
 
-  pub unfolds : (i : ℕ) → i < length l → unfoldAt ws i ≡ at l i
+  pub unfolds : (i : ℕ) → i < length l → unfold_at ws i ≡ at l i
   unfolds i h = unfolds-below (suc i) i (omega arith) h
 
 -- ---- theorems
@@ -180,14 +180,14 @@ abbrev pub Short : Expr → Type 0
 Short t = length (postorder t) ≤ none
 
 -- its node i unfolds to the i-th of the distinct subtrees
-pub canonical-unfolds : (t : Expr) → Good t → Short t → (i : ℕ) → i < length (postorder t) → unfoldAt (canonical t) i ≡ at (postorder t) i
+pub canonical-unfolds : (t : Expr) → Good t → Short t → (i : ℕ) → i < length (postorder t) → unfold_at (canonical t) i ≡ at (postorder t) i
 unfolding canonical
 canonical-unfolds t g s i h =
     let l = postorder t in
     unfolds l (closed-order t) (words_in l l) (cell-of l s l (good-order t g)) i h
 
 -- its last node unfolds to the term
-pub canonical-root : (t : Expr) → Good t → Short t → unfoldAt (canonical t) (root t) ≡ t
+pub canonical-root : (t : Expr) → Good t → Short t → unfold_at (canonical t) (root t) ≡ t
 canonical-root t g s = canonical-unfolds t g s (root t) (omega (arith, order-length t)) ∙ at-root t
 
 pub canonical-length : (t : Expr) → length (canonical t) ≡ 4 * length (postorder t)
@@ -198,4 +198,4 @@ canonical-length t = words-length (postorder t) (postorder t)
 pub injective : (s t : Expr) → Good s → Good t → Short s → Short t → canonical s ≡ canonical t → s ≡ t
 injective s t f g p q e =
     let n : root s ≡ root t = omega (arith, ap length e, canonical-length s, canonical-length t, order-length s, order-length t) in
-    sym (canonical-root s f p) ∙ (λ j. unfoldAt (e j) (n j)) ∙ canonical-root t g q
+    sym (canonical-root s f p) ∙ (λ j. unfold_at (e j) (n j)) ∙ canonical-root t g q

@@ -36,13 +36,13 @@ place (x ∷ l) t = elim (same x t) [ yes e ↦ 0 | no e ↦ suc (place l t) ]
 unfoldable pub add : List Expr → Expr → List Expr
 add l t = cond (ltb (place l t) (length l)) l (l ++ (t ∷ []))
 
-unfoldable pub addAll : List Expr → List Expr → List Expr
-addAll l [] = l
-addAll l (t ∷ ts) = addAll (add l t) ts
+unfoldable pub add_all : List Expr → List Expr → List Expr
+add_all l [] = l
+add_all l (t ∷ ts) = add_all (add l t) ts
 
 -- each distinct subtree once, where the walk first finishes it
 unfoldable pub postorder : Expr → List Expr
-postorder t = addAll [] (walk t)
+postorder t = add_all [] (walk t)
 
 -- t is in l; each of ts is
 abbrev pub In : List Expr → Expr → Type 0

@@ -5,46 +5,46 @@ use Rattle.terms.specs.declared.BinOp.{BinOp}
 use Rattle.terms.specs.declared.BinOp.TheVariants.{Add}
 use Rattle.terms.specs.declared.CmpOp.{CmpOp}
 use Rattle.terms.specs.declared.CmpOp.TheVariants.{Eq}
-use Rattle.terms.specs.Expr.{Expr, sameExpr}
-use Rattle.pool.specs.Node.{Kind, bad, var, const, bv, compare, ite, extract, concat, zext, sext, kind_at, bvCode, compare_code, bv-kind, compare-kind}
+use Rattle.terms.specs.Expr.{Expr, same_expr}
+use Rattle.pool.specs.Node.{Kind, bad, var, const, bv, compare, ite, extract, concat, zext, sext, kind_at, bv_code, compare_code, bv_kind, compare_kind}
 
-abbrev bvOf : Kind → BinOp
-bvOf bad = Add
-bvOf var = Add
-bvOf const = Add
-bvOf (bv o) = o
-bvOf (compare o) = Add
-bvOf ite = Add
-bvOf extract = Add
-bvOf concat = Add
-bvOf zext = Add
-bvOf sext = Add
+abbrev bv_of : Kind → BinOp
+bv_of bad = Add
+bv_of var = Add
+bv_of const = Add
+bv_of (bv o) = o
+bv_of (compare o) = Add
+bv_of ite = Add
+bv_of extract = Add
+bv_of concat = Add
+bv_of zext = Add
+bv_of sext = Add
 
-abbrev compareOf : Kind → CmpOp
-compareOf bad = Eq
-compareOf var = Eq
-compareOf const = Eq
-compareOf (bv o) = Eq
-compareOf (compare o) = o
-compareOf ite = Eq
-compareOf extract = Eq
-compareOf concat = Eq
-compareOf zext = Eq
-compareOf sext = Eq
+abbrev compare_of : Kind → CmpOp
+compare_of bad = Eq
+compare_of var = Eq
+compare_of const = Eq
+compare_of (bv o) = Eq
+compare_of (compare o) = o
+compare_of ite = Eq
+compare_of extract = Eq
+compare_of concat = Eq
+compare_of zext = Eq
+compare_of sext = Eq
 
-same-bv : Discrete BinOp
-same-bv o p =
-    elim (ℕ_discrete (bvCode o) (bvCode p)) [
-      | yes e ↦ yes (ap bvOf (sym (bv-kind o) ∙ ap kind_at e ∙ bv-kind p))
-      | no e ↦ no (λ q. e (ap bvCode q))
+same_bv : Discrete BinOp
+same_bv o p =
+    elim (ℕ_discrete (bv_code o) (bv_code p)) [
+      | yes e ↦ yes (ap bv_of (sym (bv_kind o) ∙ ap kind_at e ∙ bv_kind p))
+      | no e ↦ no (λ q. e (ap bv_code q))
     ]
 
-same-compare : Discrete CmpOp
-same-compare o p =
+same_compare : Discrete CmpOp
+same_compare o p =
     elim (ℕ_discrete (compare_code o) (compare_code p)) [
-      | yes e ↦ yes (ap compareOf (sym (compare-kind o) ∙ ap kind_at e ∙ compare-kind p))
+      | yes e ↦ yes (ap compare_of (sym (compare_kind o) ∙ ap kind_at e ∙ compare_kind p))
       | no e ↦ no (λ q. e (ap compare_code q))
     ]
 
 pub same : Discrete Expr
-same = sameExpr ℕ_discrete same-bv same-compare
+same = same_expr ℕ_discrete same_bv same_compare

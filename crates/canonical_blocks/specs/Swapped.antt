@@ -22,7 +22,7 @@ RefusedForRoomAlone =
     (old : List ℕ) (cs : List Instruction) (new : List ℕ) (a : BlockAnswer) → block.Answered old cs new a → a.number ≡ 0
     → (r : ℕ) → r < 32
     → (buffer out : List ℕ) (k : Canonised) → RegisterAnswered new a r buffer out k
-    → k.number ≡ canonise.roomNumber new (node_of a.map r) buffer
+    → k.number ≡ canonise.room_number new (node_of a.map r) buffer
 
 -- register r after one block and after another: with as many places lent both get the same number; and if the first is done, the second
 -- is done in as many places as that has nodes, with the same words

@@ -8,11 +8,11 @@ use lib.Dec.{ltb}
 use lib.ListN.{get_or}
 use lib.Pow.{mod-pow-add}
 use borrow.Author.Tests.{ltb-true, ltb-false, lt-ltb, le-ltb}
-use Rattle.pool.specs.Node.{kindNumber}
+use Rattle.pool.specs.Node.{kind_number}
 use Rattle.pool_fields.specs.Fields.{op_a, op_b, op_c}
-use Rattle.pool_operands.specs.Operands.{hasA, has_b, hasC}
+use Rattle.pool_operands.specs.Operands.{has_a, has_b, has_c}
 use Rattle.canonical_classes.specs.declared.Key.{Key}
-use Rattle.canonical_classes.specs.Key.{classIf, keyOf, operandsOf, way_of, row_of, next_of}
+use Rattle.canonical_classes.specs.Key.{class_if, key_of, operands_of, way_of, row_of, next_of}
 use Rattle.canonical_classes.specs.Class.{Comes, Once, Kept, Bounded}
 use Rattle.canonical_classes.proofs.Search.{bucket-less, way-less, next-first, next-later}
 
@@ -90,7 +90,7 @@ row-x k l h g = rw (le-ltb l 24 h, lt-ltb l 88 g)
 row-y : (k : Key) (l : ℕ) → 88 ≤ l → l < 152 → row_of k l ≡ k.y
 row-y k l h g = rw (le-ltb l 24 (omega arith), le-ltb l 88 h, lt-ltb l 152 g)
 
-row_operands : (k : Key) (l : ℕ) → 152 ≤ l → l < 216 → row_of k l ≡ operandsOf k
+row_operands : (k : Key) (l : ℕ) → 152 ≤ l → l < 216 → row_of k l ≡ operands_of k
 row_operands k l h g = rw (le-ltb l 24 (omega arith), le-ltb l 88 (omega arith), le-ltb l 152 h, lt-ltb l 216 g)
 
 row_word : (k : Key) (l : ℕ) → 216 ≤ l → l < 280 → row_of k l ≡ k.word
@@ -106,13 +106,13 @@ pub record Small (k : Key) : Type 0 where
   pub y-less : k.y < 18446744073709551616
 
 module _ (k : Key) (S : Small k) where
-  a_in : operandsOf k % 65536 ≡ k.a.0
+  a_in : operands_of k % 65536 ≡ k.a.0
   a_in = omega (arith, S.a-less)
 
-  b-in : operandsOf k / 65536 % 65536 ≡ k.b.0
+  b-in : operands_of k / 65536 % 65536 ≡ k.b.0
   b-in = omega (arith, S.a-less, S.b-less)
 
-  c-in : operandsOf k / 4294967296 ≡ k.c.0
+  c-in : operands_of k / 4294967296 ≡ k.c.0
   c-in = omega (arith, S.a-less, S.b-less)
 
 module _ (k k' : Key) (ways : (i : ℕ) → 0 < i → i < 280 → way_of k i ≡ way_of k' i) where
@@ -130,7 +130,7 @@ module _ (k k' : Key) (ways : (i : ℕ) → 0 < i → i < 280 → way_of k i ≡
   keys-agree S S' =
       let ex : k.x ≡ k'.x = part_same 24 _ _ refl (omega arith) (omega arith) (row-x k) (row-x k') S.x-less S'.x-less in
       let ey : k.y ≡ k'.y = part_same 88 _ _ refl (omega arith) (omega arith) (row-y k) (row-y k') S.y-less S'.y-less in
-      let eo : operandsOf k ≡ operandsOf k' = part_same 152 _ _ refl (omega arith) (omega arith) (row_operands k) (row_operands k')
+      let eo : operands_of k ≡ operands_of k' = part_same 152 _ _ refl (omega arith) (omega arith) (row_operands k) (row_operands k')
       (omega (arith, S.a-less, S.b-less, S.c-less)) (omega (arith, S'.a-less, S'.b-less, S'.c-less)) in
       let ew : k.word ≡ k'.word = part_same 216 _ _ refl (omega arith) (omega arith) (row_word k) (row_word k') S.word-less S'.word-less in
       let ea : k.a.0 ≡ k'.a.0 = sym (a_in k S) ∙ ap (λ (v : ℕ). v % 65536) eo ∙ a_in k' S' in
@@ -140,19 +140,19 @@ module _ (k k' : Key) (ways : (i : ℕ) → 0 < i → i < 280 → way_of k i ≡
 
 -- ---- the search
 
-small-if : (b : Bool) (class : List ℕ) (m : ℕ) → ((i : ℕ) → get_or class i 0 < 65536) → classIf b class m < 65536
+small-if : (b : Bool) (class : List ℕ) (m : ℕ) → ((i : ℕ) → get_or class i 0 < 65536) → class_if b class m < 65536
 small-if true class m h = h m
 small-if false class m h = omega arith
 
-key-small : (ws class : List ℕ) (m : ℕ) → ((i : ℕ) → get_or ws i 0 < 18446744073709551616) → ((i : ℕ) → get_or class i 0 < 65536) → Small (keyOf ws class m)
-unfolding keyOf
+key-small : (ws class : List ℕ) (m : ℕ) → ((i : ℕ) → get_or ws i 0 < 18446744073709551616) → ((i : ℕ) → get_or class i 0 < 65536) → Small (key_of ws class m)
+unfolding key_of
 key-small ws class m words shorts =
-    let kind = kindNumber ws m in
+    let kind = kind_number ws m in
     record {
       word-less = words (4 * m);
-      a-less = small-if (hasA kind) class (op_a ws m) shorts;
+      a-less = small-if (has_a kind) class (op_a ws m) shorts;
       b-less = small-if (has_b kind) class (op_b ws m) shorts;
-      c-less = small-if (hasC kind) class (op_c ws m) shorts;
+      c-less = small-if (has_c kind) class (op_c ws m) shorts;
       x-less = words (4 * m + 2);
       y-less = words (4 * m + 3);
     }
@@ -165,8 +165,8 @@ search-bounded ws n class slots words shorts K s level j c e other = go (ltb lev
     go : (t : Bool) → ltb level 280 ≡ t → level < 280
     go true h = ltb-true level 280 h
     go false h =
-        let k = keyOf ws class n in
-        let k' = keyOf ws class j in
+        let k = key_of ws class n in
+        let k' = key_of ws class j in
         let o = K.own s j e in
         let A = agree slots K.once k k' c o.1 in
         let l : 280 ≤ level = ltb-false level 280 h in

@@ -11,15 +11,15 @@ use borrow.Author.Tests.{eqb-true, eq-eqb, ne_eqb, ltb-true, ltb-false}
 use Rattle.facts.proofs.Tests.{and_both}
 use Rattle.canonical_classes.specs.declared.Key.{Key}
 use Rattle.pool.specs.declared.Node.{Node}
-use Rattle.pool.specs.Node.{word_at, kindNumber}
+use Rattle.pool.specs.Node.{word_at, kind_number}
 use Rattle.pool_fields.specs.Fields.{op_a, op_b, op_c}
-use Rattle.pool_operands.specs.Operands.{hasA, has_b, hasC}
-use Rattle.canonical_classes.specs.Key.{classIf, keyOf, sameKey, bucketOf, way_of, under, next_of}
+use Rattle.pool_operands.specs.Operands.{has_a, has_b, has_c}
+use Rattle.canonical_classes.specs.Key.{class_if, key_of, same_key, bucket_of, way_of, under, next_of}
 use Rattle.canonical_classes.specs.Class.{On, Comes, Holds, Low, Rises}
 
 -- ---- keys
 
-pub keys-same : (k l : Key) → sameKey k l ≡ true → k ≡ l
+pub keys-same : (k l : Key) → same_key k l ≡ true → k ≡ l
 keys-same k l h =
     let p5 = and_both _ _ h in
     let p4 = and_both _ _ p5.0 in
@@ -34,7 +34,7 @@ keys-same k l h =
     let e5 : k.y ≡ l.y = eqb-true _ _ p5.1 in
     λ i. record { word = e0 i; a = record { 0 = e1 i }; b = record { 0 = e2 i }; c = record { 0 = e3 i }; x = e4 i; y = e5 i }
 
-same_self : (k : Key) → sameKey k k ≡ true
+same_self : (k : Key) → same_key k k ≡ true
 same_self k =
     rw (
       eq-eqb k.word k.word refl,
@@ -45,29 +45,29 @@ same_self k =
       eq-eqb k.y k.y refl,
     )
 
-pub keys-differ : (k l : Key) → sameKey k l ≡ false → k ≡ l → ⊥
-keys-differ k l h e = false≢true (sym h ∙ ap (sameKey k) (sym e) ∙ same_self k)
+pub keys-differ : (k l : Key) → same_key k l ≡ false → k ≡ l → ⊥
+keys-differ k l h e = false≢true (sym h ∙ ap (same_key k) (sym e) ∙ same_self k)
 
 -- a key from its parts
-pub key-made : (ws class : List ℕ) (n kind a b c : ℕ) (ca cb cc : Node) (x y : ℕ) (p q r : Bool) → kind ≡ kindNumber ws n → p ≡ hasA kind → q ≡ has_b kind → r ≡ hasC kind
+pub key-made : (ws class : List ℕ) (n kind a b c : ℕ) (ca cb cc : Node) (x y : ℕ) (p q r : Bool) → kind ≡ kind_number ws n → p ≡ has_a kind → q ≡ has_b kind → r ≡ has_c kind
     → a ≡ op_a ws n → b ≡ op_b ws n → c ≡ op_c ws n
-    → ca.0 ≡ classIf p class a → cb.0 ≡ classIf q class b → cc.0 ≡ classIf r class c
+    → ca.0 ≡ class_if p class a → cb.0 ≡ class_if q class b → cc.0 ≡ class_if r class c
     → x ≡ word_at ws n 2 → y ≡ word_at ws n 3
-    → ◌≡◌ {A = Key} (record { word = get_or ws (4 * n) 0; a = ca; b = cb; c = cc; x = x; y = y }) (keyOf ws class n)
-unfolding keyOf
+    → ◌≡◌ {A = Key} (record { word = get_or ws (4 * n) 0; a = ca; b = cb; c = cc; x = x; y = y }) (key_of ws class n)
+unfolding key_of
 key-made ws class n kind a b c ca cb cc x y p q r ek ep eq er ea eb ec fa fb fc ex ey =
-    let hp : p ≡ hasA (kindNumber ws n) = ep ∙ ap hasA ek in
-    let hq : q ≡ has_b (kindNumber ws n) = eq ∙ ap has_b ek in
-    let hr : r ≡ hasC (kindNumber ws n) = er ∙ ap hasC ek in
-    let ga = fa ∙ (λ i. classIf (hp i) class (ea i)) in
-    let gb = fb ∙ (λ i. classIf (hq i) class (eb i)) in
-    let gc = fc ∙ (λ i. classIf (hr i) class (ec i)) in
+    let hp : p ≡ has_a (kind_number ws n) = ep ∙ ap has_a ek in
+    let hq : q ≡ has_b (kind_number ws n) = eq ∙ ap has_b ek in
+    let hr : r ≡ has_c (kind_number ws n) = er ∙ ap has_c ek in
+    let ga = fa ∙ (λ i. class_if (hp i) class (ea i)) in
+    let gb = fb ∙ (λ i. class_if (hq i) class (eb i)) in
+    let gc = fc ∙ (λ i. class_if (hr i) class (ec i)) in
     λ i. record { word = get_or ws (4 * n) 0; a = record { 0 = ga i }; b = record { 0 = gb i }; c = record { 0 = gc i }; x = ex i; y = ey i }
 
 -- ---- the slots of a key
 
-pub bucket-less : (k : Key) → bucketOf k < 65536
-unfolding bucketOf
+pub bucket-less : (k : Key) → bucket_of k < 65536
+unfolding bucket_of
 bucket-less k = omega arith
 
 pub way-less : (k : Key) (level : ℕ) → way_of k level < 2
@@ -119,16 +119,16 @@ comes-less slots n low k (Comes.on {t = t} {l = l} {m = m} c d e z) = omega (ari
 pub record Searching (ws class slots : List ℕ) (k : Key) (slot level : ℕ) : Type 0 where
   pub deeper : 0 < get_or slots slot 0 → level ≤ get_or slots slot 0
   pub comes : Comes slots k slot level
-  pub left : (j : ℕ) → On slots k (bucketOf k) 0 j → keyOf ws class j ≡ k → On slots k slot level j
-  pub back : (new : List ℕ) → Holds slots new → (j : ℕ) → On new k slot level j → On new k (bucketOf k) 0 j
+  pub left : (j : ℕ) → On slots k (bucket_of k) 0 j → key_of ws class j ≡ k → On slots k slot level j
+  pub back : (new : List ℕ) → Holds slots new → (j : ℕ) → On new k slot level j → On new k (bucket_of k) 0 j
 
-pub search-first : (ws class slots : List ℕ) (k : Key) → Searching ws class slots k (bucketOf k) 0
+pub search-first : (ws class slots : List ℕ) (k : Key) → Searching ws class slots k (bucket_of k) 0
 search-first ws class slots k =
     record { deeper = λ p. omega arith; comes = Comes.start refl refl; left = λ j o e. o; back = λ new g j o. o }
 
 module _ (ws class slots : List ℕ) (k : Key) where
   -- past node m, which has another key
-  pub search-next : Rises slots → (slot level m : ℕ) → get_or slots slot 0 ≡ suc m → sameKey (keyOf ws class m) k ≡ false
+  pub search-next : Rises slots → (slot level m : ℕ) → get_or slots slot 0 ≡ suc m → same_key (key_of ws class m) k ≡ false
       → Searching ws class slots k slot level
       → Searching ws class slots k (next_of k m level) (level + 1)
   search-next rises slot level m e d S =
@@ -137,7 +137,7 @@ module _ (ws class slots : List ℕ) (k : Key) where
         deeper = λ p. deep (ltb 0 level) refl p;
         comes = Comes.on S.comes e refl z;
         left = λ j o f.
-            rw z (on-next slots k slot level m j e (S.left j o f) (λ q. keys-differ (keyOf ws class m) k d (ap (keyOf ws class) (sym q) ∙ f)));
+            rw z (on-next slots k slot level m j e (S.left j o f) (λ q. keys-differ (key_of ws class m) k d (ap (key_of ws class) (sym q) ∙ f)));
         back = λ new g j o. S.back new g j (On.there (g slot m e) (rw z at o));
       }
     where
@@ -145,7 +145,7 @@ module _ (ws class slots : List ℕ) (k : Key) where
       deep true h p = omega (arith, next-rises slots rises k m level (ltb-true 0 level h) p, S.deeper (omega (arith, e)), e)
       deep false h p = omega (arith, ltb-false 0 level h, p)
 
-  pub search-none : (slot level : ℕ) → get_or slots slot 0 ≡ 0 → Searching ws class slots k slot level → (j : ℕ) → On slots k (bucketOf k) 0 j → keyOf ws class j ≡ k → ⊥
+  pub search-none : (slot level : ℕ) → get_or slots slot 0 ≡ 0 → Searching ws class slots k slot level → (j : ℕ) → On slots k (bucket_of k) 0 j → key_of ws class j ≡ k → ⊥
   search-none slot level z S j o e = on-free slots k slot level j z (S.left j o e)
 
 -- what falls: from the first table to the second, and then links rise, of which there are no more than 65,535
@@ -153,8 +153,8 @@ abbrev ahead : ℕ → ℕ
 ahead zero = 0
 ahead (suc m) = 65536 - m
 
-abbrev pub toGo : (level link : ℕ) → ℕ
-toGo level link = 65537 * (1 - level) + ahead link
+abbrev pub to_go : (level link : ℕ) → ℕ
+to_go level link = 65537 * (1 - level) + ahead link
 
 ahead-most : (link : ℕ) → ahead link ≤ 65536
 ahead-most zero = omega arith
@@ -165,6 +165,6 @@ ahead-less zero next h g f = absurd (omega arith)
 ahead-less (suc m) zero h g f = omega arith
 ahead-less (suc m) (suc p) h g f = omega (arith, f (omega arith))
 
-pub falls : (level link next : ℕ) → 0 < link → link ≤ 65535 → (0 < level → 0 < next → link < next) → toGo (level + 1) next < toGo level link
+pub falls : (level link next : ℕ) → 0 < link → link ≤ 65535 → (0 < level → 0 < next → link < next) → to_go (level + 1) next < to_go level link
 falls zero link next h g f = omega (arith, ahead-most next)
 falls (suc level) link next h g f = omega (arith, ahead-less link next h g (f (omega arith)))

@@ -24,25 +24,25 @@ set_back a b i x h = let e : i ≡ length a + (i - length a) = omega arith in ap
 
 module _ (first second ways : List ℕ) (L : Laid first second ways) where
   pub first-at : (s : ℕ) → s < 65536 → get_or (slots_of first second ways) s 0 ≡ get_or first s 0
-  first-at s h = get_or-append first (second ++ ways) 0 s (omega (arith, L.first-long))
+  first-at s h = get_or-append first (second ++ ways) 0 s (omega (arith, L.first_long))
 
   pub second_at : (s : ℕ) → 65536 ≤ s → s < 131072 → get_or (slots_of first second ways) s 0 ≡ get_or second (s - 65536) 0
   second_at s l h =
-      at_back first (second ++ ways) s (omega (arith, L.first-long))
-      ∙ ap (λ (k : ℕ). get_or (second ++ ways) (s - k) 0) L.first-long
-      ∙ get_or-append second ways 0 (s - 65536) (omega (arith, L.second-long))
+      at_back first (second ++ ways) s (omega (arith, L.first_long))
+      ∙ ap (λ (k : ℕ). get_or (second ++ ways) (s - k) 0) L.first_long
+      ∙ get_or-append second ways 0 (s - 65536) (omega (arith, L.second_long))
 
   pub way_at : (s : ℕ) → 131072 ≤ s → get_or (slots_of first second ways) s 0 ≡ get_or ways (s - 131072) 0
   way_at s l =
-      let e : s - 65536 - length second ≡ s - 131072 = omega (arith, L.second-long) in
-      at_back first (second ++ ways) s (omega (arith, L.first-long))
-      ∙ ap (λ (k : ℕ). get_or (second ++ ways) (s - k) 0) L.first-long
-      ∙ at_back second ways (s - 65536) (omega (arith, L.second-long))
+      let e : s - 65536 - length second ≡ s - 131072 = omega (arith, L.second_long) in
+      at_back first (second ++ ways) s (omega (arith, L.first_long))
+      ∙ ap (λ (k : ℕ). get_or (second ++ ways) (s - k) 0) L.first_long
+      ∙ at_back second ways (s - 65536) (omega (arith, L.second_long))
       ∙ ap (λ (k : ℕ). get_or ways k 0) e
 
-  pub slots-long : length (slots_of first second ways) ≡ 262144
-  slots-long =
-      omega (arith, length-append first (second ++ ways), length-append second ways, L.first-long, L.second-long, L.ways-long)
+  pub slots_long : length (slots_of first second ways) ≡ 262144
+  slots_long =
+      omega (arith, length-append first (second ++ ways), length-append second ways, L.first_long, L.second_long, L.ways_long)
 
   pub slots-empty : Empty first → Empty second → Empty ways → Empty (slots_of first second ways)
   slots-empty f g h s = go (ltb s 65536) refl (ltb s 131072) refl
@@ -57,28 +57,28 @@ module _ (first second ways : List ℕ) (L : Laid first second ways) where
   pub linked-first : (s n : ℕ) → s < 65536 → Linked first second ways s n (set first s (n + 1)) second ways
   linked-first s n h =
       record {
-        laid = record { first-long = simp length-set L.first-long; second-long = L.second-long; ways-long = L.ways-long };
-        is = sym (set-append_left first (second ++ ways) s (n + 1) (omega (arith, L.first-long)));
+        laid = record { first_long = simp length-set L.first_long; second_long = L.second_long; ways_long = L.ways_long };
+        is = sym (set-append_left first (second ++ ways) s (n + 1) (omega (arith, L.first_long)));
       }
 
   pub linked-second : (s n : ℕ) → 65536 ≤ s → s < 131072 → Linked first second ways s n first (set second (s - 65536) (n + 1)) ways
   linked-second s n l h =
-      let e = set_back first (second ++ ways) s (n + 1) (omega (arith, L.first-long)) in
-      let d = set-append_left second ways (s - 65536) (n + 1) (omega (arith, L.second-long)) in
+      let e = set_back first (second ++ ways) s (n + 1) (omega (arith, L.first_long)) in
+      let d = set-append_left second ways (s - 65536) (n + 1) (omega (arith, L.second_long)) in
       record {
-        laid = record { first-long = L.first-long; second-long = simp length-set L.second-long; ways-long = L.ways-long };
-        is = sym (e ∙ ap (λ (k : ℕ). first ++ set (second ++ ways) (s - k) (n + 1)) L.first-long ∙ ap (λ (l : List ℕ). first ++ l) d);
+        laid = record { first_long = L.first_long; second_long = simp length-set L.second_long; ways_long = L.ways_long };
+        is = sym (e ∙ ap (λ (k : ℕ). first ++ set (second ++ ways) (s - k) (n + 1)) L.first_long ∙ ap (λ (l : List ℕ). first ++ l) d);
       }
 
   pub linked-way : (s n : ℕ) → 131072 ≤ s → Linked first second ways s n first second (set ways (s - 131072) (n + 1))
   linked-way s n l =
-      let e = set_back first (second ++ ways) s (n + 1) (omega (arith, L.first-long)) in
-      let d = set_back second ways (s - 65536) (n + 1) (omega (arith, L.second-long)) in
-      let i : s - 65536 - length second ≡ s - 131072 = omega (arith, L.second-long) in
+      let e = set_back first (second ++ ways) s (n + 1) (omega (arith, L.first_long)) in
+      let d = set_back second ways (s - 65536) (n + 1) (omega (arith, L.second_long)) in
+      let i : s - 65536 - length second ≡ s - 131072 = omega (arith, L.second_long) in
       record {
-        laid = record { first-long = L.first-long; second-long = L.second-long; ways-long = simp length-set L.ways-long };
+        laid = record { first_long = L.first_long; second_long = L.second_long; ways_long = simp length-set L.ways_long };
         is = sym
             (e
-            ∙ ap (λ (k : ℕ). first ++ set (second ++ ways) (s - k) (n + 1)) L.first-long
+            ∙ ap (λ (k : ℕ). first ++ set (second ++ ways) (s - k) (n + 1)) L.first_long
             ∙ ap (λ (l : List ℕ). first ++ l) (d ∙ ap (λ (k : ℕ). second ++ set ways k (n + 1)) i));
       }

@@ -9,14 +9,14 @@ use lib.Dec.{ltb, eqb}
 use lib.ListN.{length, get_or, set, length-set}
 use lib.Seq.{get_or-set_same, get_or-set_other}
 use borrow.Author.Tests.{ltb-true, ltb-false, eqb-true, eqb-false}
-use Rattle.pool.specs.Node.{cell_at, kindNumber}
-use Rattle.pool.specs.Rules.{Valid, okPool, okNode}
+use Rattle.pool.specs.Node.{cell_at, kind_number}
+use Rattle.pool.specs.Rules.{Valid, ok_pool, ok_node}
 use Rattle.facts.proofs.Tests.{and_both}
-use Rattle.pool.specs.Unfold.{unfoldAt}
+use Rattle.pool.specs.Unfold.{unfold_at}
 use Rattle.canonical_classes.specs.declared.Key.{Key}
 use Rattle.canonical_classes.specs.declared.Place.{Place}
-use Rattle.pool_operands.specs.Operands.{hasA, has_b, hasC}
-use Rattle.canonical_classes.specs.Key.{classIf, keyOf, bucketOf, under}
+use Rattle.pool_operands.specs.Operands.{has_a, has_b, has_c}
+use Rattle.canonical_classes.specs.Key.{class_if, key_of, bucket_of, under}
 use Rattle.canonical_classes.specs.Class.{Classes, Empty, On, Reached, Once, Low, Holds, Found, Long, Kept}
 use Rattle.canonical_classes.proofs.Search.{on-holds, comes-holds}
 use Rattle.canonical_classes.proofs.Keys.{node-read, key-tree, tree-key}
@@ -24,8 +24,8 @@ use Rattle.canonical_classes.proofs.Keys.{node-read, key-tree, tree-key}
 pub kept-first : (ws class slots : List ℕ) → Long class → length slots ≡ 262144 → Empty slots → Kept ws 0 class slots
 kept-first ws class slots lc ls e =
     record {
-      class-long = lc;
-      slots-long = ls;
+      class_long = lc;
+      slots_long = ls;
       classes = record { first = λ m h. absurd (omega arith); tree = λ m h. absurd (omega arith); one = λ m p h. absurd (omega arith) };
       low = λ s. omega (arith, e s);
       rises = λ m w l h. absurd (omega (arith, h, e (under m w)));
@@ -42,7 +42,7 @@ by_last P n p f m h = go (ltb m n) refl
     go true e = f m (ltb-true m n e)
     go false e = let g : n ≤ m = ltb-false m n e in subst P (omega arith) p
 
-if-same : (b : Bool) (c d : List ℕ) (p : ℕ) → (b ≡ true → get_or c p 0 ≡ get_or d p 0) → classIf b c p ≡ classIf b d p
+if-same : (b : Bool) (c d : List ℕ) (p : ℕ) → (b ≡ true → get_or c p 0 ≡ get_or d p 0) → class_if b c p ≡ class_if b d p
 if-same true c d p h = h refl
 if-same false c d p h = refl
 
@@ -65,39 +65,39 @@ once-set slots t n room low once s u m =
 module _ (ws : List ℕ) (count : ℕ) (v : Valid ws count) (words : (i : ℕ) → get_or ws i 0 < 18446744073709551616) (count≤ : count ≤ 65535) where
   module _ (n : ℕ) (here : n < count) (class slots : List ℕ) (K : Kept ws n class slots) where
     -- what is at n does not matter to the keys up to n
-    key-stays : (x m : ℕ) → m ≤ n → keyOf ws (set class n x) m ≡ keyOf ws class m
-    unfolding keyOf
+    key-stays : (x m : ℕ) → m ≤ n → key_of ws (set class n x) m ≡ key_of ws class m
+    unfolding key_of
     key-stays x m h =
         let r = node-read ws count v words m (omega arith) in
         let k = cell_at ws m in
-        let fa = if-same (hasA (kindNumber ws m)) (set class n x) class k.a
+        let fa = if-same (has_a (kind_number ws m)) (set class n x) class k.a
         (λ e. let l : k.a < m = r.less.a-less (rw r.code at e) in get_or-set_other class n k.a x 0 (omega arith)) in
-        let fb = if-same (has_b (kindNumber ws m)) (set class n x) class k.b
+        let fb = if-same (has_b (kind_number ws m)) (set class n x) class k.b
         (λ e. let l : k.b < m = r.less.b-less (rw r.code at e) in get_or-set_other class n k.b x 0 (omega arith)) in
-        let fc = if-same (hasC (kindNumber ws m)) (set class n x) class k.c
+        let fc = if-same (has_c (kind_number ws m)) (set class n x) class k.c
         (λ e. let l : k.c < m = r.less.c-less (rw r.code at e) in get_or-set_other class n k.c x 0 (omega arith)) in
         λ i. record { word = get_or ws (4 * m) 0; a = record { 0 = fa i }; b = record { 0 = fb i }; c = record { 0 = fc i }; x = k.x; y = k.y }
 
     at_n : (x : ℕ) → get_or (set class n x) n 0 ≡ x
-    at_n x = get_or-set_same class n x 0 (omega (arith, K.class-long))
+    at_n x = get_or-set_same class n x 0 (omega (arith, K.class_long))
 
     at-m : (x m : ℕ) → m < n → get_or (set class n x) m 0 ≡ get_or class m 0
     at-m x m h = get_or-set_other class n m x 0 (omega arith)
 
     -- classes after node n has got one, q, of the same tree
-    classes-more : (q : ℕ) → q ≤ n → (q < n → get_or class q 0 ≡ q) → unfoldAt ws q ≡ unfoldAt ws n
-        → ((p : ℕ) → p < n → unfoldAt ws p ≡ unfoldAt ws n → get_or class p 0 ≡ q)
+    classes-more : (q : ℕ) → q ≤ n → (q < n → get_or class q 0 ≡ q) → unfold_at ws q ≡ unfold_at ws n
+        → ((p : ℕ) → p < n → unfold_at ws p ≡ unfold_at ws n → get_or class p 0 ≡ q)
         → Classes ws (n + 1) (set class n q)
     classes-more q le own same one =
         let c = set class n q in
         record {
           first = by_last (λ m. get_or c m 0 ≤ m) n (rw (at_n q) le) (λ m l. rw (at-m q m l) (K.classes.first m l));
-          tree = by_last (λ m. unfoldAt ws (get_or c m 0) ≡ unfoldAt ws m) n (rw (at_n q) same) (λ m l. rw (at-m q m l) (K.classes.tree m l));
+          tree = by_last (λ m. unfold_at ws (get_or c m 0) ≡ unfold_at ws m) n (rw (at_n q) same) (λ m l. rw (at-m q m l) (K.classes.tree m l));
           one = λ m p h g.
-              by_last (λ m. (p : ℕ) → p < n + 1 → unfoldAt ws m ≡ unfoldAt ws p → get_or c m 0 ≡ get_or c p 0) n
-              (by_last (λ p. unfoldAt ws n ≡ unfoldAt ws p → get_or c n 0 ≡ get_or c p 0) n (λ e. refl) (λ p l e. rw (at_n q, at-m q p l) (sym (one p l (sym e)))))
+              by_last (λ m. (p : ℕ) → p < n + 1 → unfold_at ws m ≡ unfold_at ws p → get_or c m 0 ≡ get_or c p 0) n
+              (by_last (λ p. unfold_at ws n ≡ unfold_at ws p → get_or c n 0 ≡ get_or c p 0) n (λ e. refl) (λ p l e. rw (at_n q, at-m q p l) (sym (one p l (sym e)))))
               (λ m k.
-              by_last (λ p. unfoldAt ws m ≡ unfoldAt ws p → get_or c m 0 ≡ get_or c p 0) n (λ e. rw (at_n q, at-m q m k) (one m k e))
+              by_last (λ p. unfold_at ws m ≡ unfold_at ws p → get_or c m 0 ≡ get_or c p 0) n (λ e. rw (at_n q, at-m q m k) (one m k e))
               (λ p l e. rw (at-m q m k, at-m q p l) (K.classes.one m p k l e)))
               m h p g;
         }
@@ -107,14 +107,14 @@ module _ (ws : List ℕ) (count : ℕ) (v : Valid ws count) (words : (i : ℕ) �
     own-class p h = K.classes.one (get_or class p 0) p (omega (arith, K.classes.first p h)) h (K.classes.tree p h)
 
     -- a tree that is known
-    pub kept-old : (q : ℕ) → q < n → keyOf ws class q ≡ keyOf ws class n → Kept ws (n + 1) (set class n (get_or class q 0)) slots
+    pub kept-old : (q : ℕ) → q < n → key_of ws class q ≡ key_of ws class n → Kept ws (n + 1) (set class n (get_or class q 0)) slots
     kept-old q h e =
         let c = get_or class q 0 in
         let le : c ≤ q = K.classes.first q h in
-        let same : unfoldAt ws q ≡ unfoldAt ws n = key-tree ws count v words n class K.classes q n (omega arith) here (omega arith) (omega arith) e in
+        let same : unfold_at ws q ≡ unfold_at ws n = key-tree ws count v words n class K.classes q n (omega arith) here (omega arith) (omega arith) e in
         record {
-          class-long = simp length-set K.class-long;
-          slots-long = K.slots-long;
+          class_long = simp length-set K.class_long;
+          slots_long = K.slots_long;
           classes = classes-more c (omega arith) (λ g. own-class q h) (K.classes.tree q h ∙ same)
               (λ p g f. K.classes.one p q g h (f ∙ sym same));
           low = λ s. omega (arith, K.low s);
@@ -122,7 +122,7 @@ module _ (ws : List ℕ) (count : ℕ) (v : Valid ws count) (words : (i : ℕ) �
           once = K.once;
           own = λ s m f.
               subst (λ (k : Key). Reached slots k s) (sym (key-stays c m (omega (arith, f, K.low s)))) (K.own s m f);
-          ways = by_last (λ m. get_or (set class n c) m 0 ≡ m → let k = keyOf ws (set class n c) m in On slots k (bucketOf k) 0 m) n
+          ways = by_last (λ m. get_or (set class n c) m 0 ≡ m → let k = key_of ws (set class n c) m in On slots k (bucket_of k) 0 m) n
               (λ f. absurd (omega (arith, f, at_n c)))
               (λ m l f. rw (key-stays c m (omega arith)) (K.ways m l (sym (at-m c m l) ∙ f)));
         }
@@ -132,37 +132,37 @@ module _ (ws : List ℕ) (count : ℕ) (v : Valid ws count) (words : (i : ℕ) �
     kept_new r z F =
         let t = r.slot in
         let slots' = set slots t (n + 1) in
-        let room : t < length slots = omega (arith, K.slots-long, F.slot-less) in
+        let room : t < length slots = omega (arith, K.slots_long, F.slot_less) in
         let holds : Holds slots slots' = λ s m e.
         by-test (λ x. x ≡ suc m) s t slots (n + 1) room (λ q. absurd (omega (arith, e, F.free z, ap (λ (i : ℕ). get_or slots i 0) q))) e in
-        let fresh : (p : ℕ) → p < n → unfoldAt ws p ≡ unfoldAt ws n → ⊥ = λ p l e.
+        let fresh : (p : ℕ) → p < n → unfold_at ws p ≡ unfold_at ws n → ⊥ = λ p l e.
         let q = get_or class p 0 in
         let lq : q ≤ p = K.classes.first p l in
-        let kq : keyOf ws class q ≡ keyOf ws class n =
+        let kq : key_of ws class q ≡ key_of ws class n =
         tree-key ws count v words n class K.classes q n (omega arith) here (omega arith) (omega arith) (K.classes.tree p l ∙ e) in
         F.missed z q (rw (← kq) (K.ways q (omega arith) (own-class p l))) kq in
-        let comes : (s m : ℕ) → m ≤ n → Reached slots (keyOf ws class m) s → Reached slots' (keyOf ws (set class n n) m) s = λ s m l r.
-        rw (key-stays n m l) (r.0, comes-holds slots slots' (keyOf ws class m) holds r.1) in
+        let comes : (s m : ℕ) → m ≤ n → Reached slots (key_of ws class m) s → Reached slots' (key_of ws (set class n n) m) s = λ s m l r.
+        rw (key-stays n m l) (r.0, comes-holds slots slots' (key_of ws class m) holds r.1) in
         record {
-          class-long = simp length-set K.class-long;
-          slots-long = simp length-set K.slots-long;
+          class_long = simp length-set K.class_long;
+          slots_long = simp length-set K.slots_long;
           classes = classes-more n (omega arith) (λ g. absurd (omega arith)) refl (λ p g f. absurd (fresh p g f));
           low = λ s. by-test (λ x. x ≤ n + 1) s t slots (n + 1) room (λ e. omega arith) (omega (arith, K.low s));
           rises = λ m w l.
-              by-test (λ x. 0 < x → m + 1 < x) (under m w) t slots (n + 1) room (λ e h. omega (arith, e, F.slot-less)) (K.rises m w l);
+              by-test (λ x. 0 < x → m + 1 < x) (under m w) t slots (n + 1) room (λ e h. omega (arith, e, F.slot_less)) (K.rises m w l);
           once = once-set slots t n room K.low K.once;
           own = λ s m.
-              by-test (λ x. x ≡ suc m → Reached slots' (keyOf ws (set class n n) m) s) s t slots (n + 1) room
+              by-test (λ x. x ≡ suc m → Reached slots' (key_of ws (set class n n) m) s) s t slots (n + 1) room
               (λ e d. let q : m ≡ n = omega (arith, d) in rw (e, q) (comes t n (omega arith) (F.comes z))) (λ d. comes s m (omega (arith, d, K.low s)) (K.own s m d));
-          ways = by_last (λ m. get_or (set class n n) m 0 ≡ m → let k = keyOf ws (set class n n) m in On slots' k (bucketOf k) 0 m) n
+          ways = by_last (λ m. get_or (set class n n) m 0 ≡ m → let k = key_of ws (set class n n) m in On slots' k (bucket_of k) 0 m) n
               (λ f. rw (key-stays n n (omega arith)) (F.leads z slots' holds (get_or-set_same slots t (n + 1) 0 room ∙ add-one n)))
-              (λ m l f. rw (key-stays n m (omega arith)) (on-holds slots slots' (keyOf ws class m) holds (K.ways m l (sym (at-m n m l) ∙ f))));
+              (λ m l f. rw (key-stays n m (omega arith)) (on-holds slots slots' (key_of ws class m) holds (K.ways m l (sym (at-m n m l) ∙ f))));
         }
 
 pub valid-le : (ws : List ℕ) (n k : ℕ) → n ≤ k → Valid ws k → Valid ws n
-unfolding okPool
+unfolding ok_pool
 valid-le ws n zero h v = let e : n ≡ 0 = omega arith in rw e v
-valid-le ws n (suc k) h v = go (λ l. valid-le ws n k l (and_both (okPool ws k) (okNode ws k) v).0) (ltb n (suc k)) refl
+valid-le ws n (suc k) h v = go (λ l. valid-le ws n k l (and_both (ok_pool ws k) (ok_node ws k) v).0) (ltb n (suc k)) refl
   where
     go : (n ≤ k → Valid ws n) → (t : Bool) → ltb n (suc k) ≡ t → Valid ws n
     go f true e = f (omega (arith, ltb-true n (suc k) e))

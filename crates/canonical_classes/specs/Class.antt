@@ -1,15 +1,15 @@
 -- The class of a node: the first node with the same tree; and the slots by which the first nodes are found.
 use Rattle.std.specs.Prelude.{List, ◌++◌, ◌≡◌, ℕ, suc, ◌+◌, ◌-◌, ◌*◌, ◌≤◌, ◌<◌, length, get_or, set}
-use Rattle.pool.specs.Unfold.{unfoldAt}
+use Rattle.pool.specs.Unfold.{unfold_at}
 use Rattle.canonical_classes.specs.declared.Key.{Key}
 use Rattle.canonical_classes.specs.declared.Place.{Place}
-use Rattle.canonical_classes.specs.Key.{keyOf, bucketOf, under, next_of}
+use Rattle.canonical_classes.specs.Key.{key_of, bucket_of, under, next_of}
 
 -- the classes of the nodes below n
 pub record Classes (ws : List ℕ) (n : ℕ) (class : List ℕ) : Type 0 where
   pub first : (m : ℕ) → m < n → get_or class m 0 ≤ m
-  pub tree : (m : ℕ) → m < n → unfoldAt ws (get_or class m 0) ≡ unfoldAt ws m
-  pub one : (m p : ℕ) → m < n → p < n → unfoldAt ws m ≡ unfoldAt ws p → get_or class m 0 ≡ get_or class p 0
+  pub tree : (m : ℕ) → m < n → unfold_at ws (get_or class m 0) ≡ unfold_at ws m
+  pub one : (m p : ℕ) → m < n → p < n → unfold_at ws m ≡ unfold_at ws p → get_or class m 0 ≡ get_or class p 0
 
 -- a slot has a link: 0, or one more than a node. Each table has 65,536 slots, and each node two: the search for a key goes from its bucket in the
 -- first table to its bucket in the second, and on from a node with another key by the next bit
@@ -23,7 +23,7 @@ pub data On (slots : List ℕ) (k : Key) : (s level j : ℕ) → Type 0 where
 
 -- the search for the key k comes to slot s
 pub data Comes (slots : List ℕ) (k : Key) : (s level : ℕ) → Type 0 where
-  start : {s level : ℕ} → s ≡ bucketOf k → level ≡ 0 → Comes slots k s level
+  start : {s level : ℕ} → s ≡ bucket_of k → level ≡ 0 → Comes slots k s level
   on : {t l m s level : ℕ} → Comes slots k t l → get_or slots t 0 ≡ suc m → s ≡ next_of k m l → level ≡ suc l → Comes slots k s level
 
 abbrev pub Reached : List ℕ → Key → ℕ → Type 0
@@ -52,12 +52,12 @@ Holds slots new = (s m : ℕ) → get_or slots s 0 ≡ suc m → get_or new s 0 
 -- the answer of the search for the key of node n: a node that has it, or none on the way; then the slot is free, and with a link to n the way
 -- leads to n
 pub record Found (ws class slots : List ℕ) (n : ℕ) (r : Place) : Type 0 where
-  pub found : 0 < r.link → (r.link ≤ n) × (keyOf ws class (r.link - 1) ≡ keyOf ws class n)
-  pub missed : r.link ≡ 0 → let k = keyOf ws class n in (j : ℕ) → On slots k (bucketOf k) 0 j → keyOf ws class j ≡ k → ⊥
+  pub found : 0 < r.link → (r.link ≤ n) × (key_of ws class (r.link - 1) ≡ key_of ws class n)
+  pub missed : r.link ≡ 0 → let k = key_of ws class n in (j : ℕ) → On slots k (bucket_of k) 0 j → key_of ws class j ≡ k → ⊥
   pub free : r.link ≡ 0 → get_or slots r.slot 0 ≡ 0
-  pub slot-less : r.slot < 131072 + 2 * n
-  pub comes : r.link ≡ 0 → Reached slots (keyOf ws class n) r.slot
-  pub leads : r.link ≡ 0 → let k = keyOf ws class n in (new : List ℕ) → Holds slots new → get_or new r.slot 0 ≡ suc n → On new k (bucketOf k) 0 n
+  pub slot_less : r.slot < 131072 + 2 * n
+  pub comes : r.link ≡ 0 → Reached slots (key_of ws class n) r.slot
+  pub leads : r.link ≡ 0 → let k = key_of ws class n in (new : List ℕ) → Holds slots new → get_or new r.slot 0 ≡ suc n → On new k (bucket_of k) 0 n
 
 -- a place for each number
 abbrev pub Long : List ℕ → Type 0
@@ -65,9 +65,9 @@ Long l = length l ≡ 65536
 
 -- both tables, and two slots per node
 pub record Laid (first second ways : List ℕ) : Type 0 where
-  pub first-long : Long first
-  pub second-long : Long second
-  pub ways-long : length ways ≡ 131072
+  pub first_long : Long first
+  pub second_long : Long second
+  pub ways_long : length ways ≡ 131072
 
 -- slot s has got the link to node n
 pub record Linked (first second ways : List ℕ) (s n : ℕ) (first' second' ways' : List ℕ) : Type 0 where
@@ -76,17 +76,17 @@ pub record Linked (first second ways : List ℕ) (s n : ℕ) (first' second' way
 
 -- the classes of the nodes below n, and each node that is the first of its class on the way of its key; each node with a link has one, in a slot of its own key
 pub record Kept (ws : List ℕ) (n : ℕ) (class slots : List ℕ) : Type 0 where
-  pub class-long : Long class
-  pub slots-long : length slots ≡ 262144
+  pub class_long : Long class
+  pub slots_long : length slots ≡ 262144
   pub classes : Classes ws n class
   pub low : Low slots n
   pub rises : Rises slots
   pub once : Once slots
-  pub own : (s m : ℕ) → get_or slots s 0 ≡ suc m → Reached slots (keyOf ws class m) s
-  pub ways : (m : ℕ) → m < n → get_or class m 0 ≡ m → let k = keyOf ws class m in On slots k (bucketOf k) 0 m
+  pub own : (s m : ℕ) → get_or slots s 0 ≡ suc m → Reached slots (key_of ws class m) s
+  pub ways : (m : ℕ) → m < n → get_or class m 0 ≡ m → let k = key_of ws class m in On slots k (bucket_of k) 0 m
 
 -- the search for the key of node n meets no more than 281 nodes: one that has another key is met at a level below 280
 abbrev pub Bounded : (ws : List ℕ) (n : ℕ) (class slots : List ℕ) → Type 0
 Bounded ws n class slots =
-    let k = keyOf ws class n in
-    (s level j : ℕ) → Comes slots k s level → get_or slots s 0 ≡ suc j → (keyOf ws class j ≡ k → ⊥) → level < 280
+    let k = key_of ws class n in
+    (s level j : ℕ) → Comes slots k s level → get_or slots s 0 ≡ suc j → (key_of ws class j ≡ k → ⊥) → level < 280

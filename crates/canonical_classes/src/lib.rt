@@ -2,7 +2,7 @@
 ghost use Rattle.std.specs.Prelude.{◌≡◌, ◌+◌, ◌*◌, ◌≤◌, ◌<◌, length, get_or};
 ghost use Rattle.pool.specs.Rules.{Valid};
 ghost use Rattle.pool_fields.specs.Fields.{op_c};
-ghost use Rattle.canonical_classes.specs.Key.{classIf, keyOf, sameKey, mixOf, bucketOf, otherMixOf, spread_of, row_of, way_of, next_of};
+ghost use Rattle.canonical_classes.specs.Key.{class_if, key_of, same_key, mix_of, bucket_of, other_mix_of, spread_of, row_of, way_of, next_of};
 ghost use Rattle.canonical_classes.specs.Class.{Empty, Low, Rises, Found, Classes, Long, Laid, Linked, Kept, slots_of};
 
 use pool::Node;
@@ -11,7 +11,7 @@ use pool_fields::{first, high, low, second, third};
 use pool_operands::{has_a, has_b, has_c};
 
 // A node's word 0, the classes of its operands, node 0 for an operand that its kind has not, and its words 2 and 3.
-#[derive(Drop)]
+#[derive(Clone, Copy)]
 pub struct Key {
     pub word: u64,
     pub a: Node,
@@ -39,7 +39,7 @@ pub fn node_at(array: &[u16; 65536], m: Node) -> Node
 // The class of the node m, node 0 if there is no such operand.
 fn class_if(there: bool, class: &[u16; 65536], m: Node) -> Node
     requires { m.0 < 65536 }
-    ensures { (result.0 ≡ classIf there class.now m.0) × (result.0 < 65536) }
+    ensures { (result.0 ≡ class_if there class.now m.0) × (result.0 < 65536) }
 {
     if there {
         return node_at(class, m);
@@ -49,7 +49,7 @@ fn class_if(there: bool, class: &[u16; 65536], m: Node) -> Node
 
 fn key_of(pool: &[u64], class: &[u16; 65536], n: Node) -> Key
     requires { (4 * n.0 + 3 < length pool.now) × (op_c pool.now n.0 < 65536) }
-    ensures { (result ≡ keyOf pool.now class.now n.0) × (result.a.0 < 65536) × (result.b.0 < 65536) × (result.c.0 < 65536) }
+    ensures { (result ≡ key_of pool.now class.now n.0) × (result.a.0 < 65536) × (result.b.0 < 65536) × (result.c.0 < 65536) }
 {
     let kind = kind_of(pool, n);
     Key {
@@ -63,7 +63,7 @@ fn key_of(pool: &[u64], class: &[u16; 65536], n: Node) -> Key
 }
 
 fn same(k: Key, l: Key) -> bool
-    ensures { result ≡ sameKey k l }
+    ensures { result ≡ same_key k l }
 {
     (k.word == l.word)
         & (k.a.0 == l.a.0)
@@ -75,7 +75,7 @@ fn same(k: Key, l: Key) -> bool
 
 // Spreads a number's bits.
 fn mix(x: u64) -> u64
-    ensures { (result ≡ mixOf x) × (result < 2305843009213693952) }
+    ensures { (result ≡ mix_of x) × (result < 2305843009213693952) }
 {
     x % 4294967296 * 227832187 + x / 4294967296 * 251658257
 }
@@ -83,7 +83,7 @@ fn mix(x: u64) -> u64
 // A number below 65,536 that goes by the key. 4611686018427387904 is 2^62.
 fn bucket(k: Key) -> usize
     requires { (k.a.0 < 65536) × (k.b.0 < 65536) × (k.c.0 < 65536) }
-    ensures { (result ≡ bucketOf k) × (result < 65536) }
+    ensures { (result ≡ bucket_of k) × (result < 65536) }
 {
     let h = mix(mix(k.word) + operands_word(k.a, k.b, k.c));
     let g = mix(h + k.x % 4611686018427387904);
@@ -91,7 +91,7 @@ fn bucket(k: Key) -> usize
 }
 
 fn other_mix(x: u64) -> u64
-    ensures { (result ≡ otherMixOf x) × (result < 2305843009213693952) }
+    ensures { (result ≡ other_mix_of x) × (result < 2305843009213693952) }
 {
     x % 4294967296 * 198491317 + x / 4294967296 * 217645199
 }
@@ -182,7 +182,7 @@ fn set_link(
 }
 
 // A link, 0 or one more than a node, and its slot.
-#[derive(Drop)]
+#[derive(Clone, Copy)]
 pub struct Place {
     pub link: usize,
     pub slot: usize,

@@ -6,7 +6,7 @@ use native.Mathlib.Omega.{arith}
 use lib.ListN.{length, get_or, set, length-set}
 use lib.Seq.{get_or-set_same}
 use Rattle.terms.specs.Expr.{Expr}
-use Rattle.pool.specs.Unfold.{unfoldAt}
+use Rattle.pool.specs.Unfold.{unfold_at}
 use Rattle.canonical.specs.Order.{postorder}
 use Rattle.canonical.proofs.Trees.{visit}
 use Rattle.canonical_classes.specs.Class.{Classes, Long}
@@ -21,9 +21,9 @@ started ws class root C small number order stack ln lo ls f =
     let le : r ≤ root = C.first root (omega arith) in
     let e : get_or (set stack 0 r) 0 0 ≡ r = get_or-set_same stack 0 r 0 (omega (arith, ls)) in
     record {
-      number-long = ln;
-      order-long = lo;
-      stack-long = simp length-set ls;
+      number_long = ln;
+      order_long = lo;
+      stack_long = simp length-set ls;
       few = omega (arith, none-all number (root + 1) (λ m h. f m (omega arith)));
       done = λ m h s. absurd (s (f m (omega arith)));
       node = λ j h. absurd (omega arith);
@@ -32,7 +32,7 @@ started ws class root C small number order stack ln lo ls f =
       waits = λ i h.
           let z : i ≡ 0 = omega arith in
           rw (z, e) (C.one r root (omega arith) (omega arith) (C.tree root (omega arith)), f r (omega arith));
-      left = ap (λ (x : ℕ). visit [] (unfoldAt ws x)) e ∙ ap (visit []) (C.tree root (omega arith));
+      left = ap (λ (x : ℕ). visit [] (unfold_at ws x)) e ∙ ap (visit []) (C.tree root (omega arith));
     }
 
 pub ended : (ws class : List ℕ) (root : ℕ) (number order : List ℕ) (k : ℕ) (stack : List ℕ) → Walking ws class root number order k stack 0 → Numbered ws class root number order k

@@ -9,20 +9,20 @@ use lib.ListN.{length, get_or, set, length-append, get_or-append}
 use lib.Seq.{get_or-set_same, get_or-set_other}
 use borrow.Author.Tests.{eq-eqb, ne_eqb, eqb-true, eqb-false, ltb-true, ltb-false}
 use Rattle.terms.specs.Expr.{Expr, Var}
-use Rattle.pool.specs.Node.{kindNumber, none}
+use Rattle.pool.specs.Node.{kind_number, none}
 use Rattle.pool_fields.specs.Fields.{op_a, op_b, op_c}
-use Rattle.pool.specs.Unfold.{unfoldAt}
-use Rattle.pool_operands.specs.Operands.{hasA, has_b, hasC}
-use Rattle.canonical.specs.Order.{walk, addAll}
+use Rattle.pool.specs.Unfold.{unfold_at}
+use Rattle.pool_operands.specs.Operands.{has_a, has_b, has_c}
+use Rattle.canonical.specs.Order.{walk, add_all}
 use Rattle.canonical.proofs.Trees.{at}
-use Rattle.canonical_order.specs.Walk.{pick, classA, classB, classC, nextOpen, listed, pending, unnumbered}
+use Rattle.canonical_order.specs.Walk.{pick, class_a, class_b, class_c, next_open, listed, pending, unnumbered}
 
 -- ---- listed
 
 pub listed-length : (ws order : List ℕ) (k : ℕ) → length (listed ws order k) ≡ k
 unfolding listed
 listed-length ws order zero = refl
-listed-length ws order (suc k) = omega (arith, length-append (listed ws order k) (unfoldAt ws (get_or order k 0) ∷ []), listed-length ws order k)
+listed-length ws order (suc k) = omega (arith, length-append (listed ws order k) (unfold_at ws (get_or order k 0) ∷ []), listed-length ws order k)
 
 pub listed_same : (ws o p : List ℕ) (k : ℕ) → ((j : ℕ) → j < k → get_or o j 0 ≡ get_or p j 0) → listed ws o k ≡ listed ws p k
 unfolding listed
@@ -30,14 +30,14 @@ listed_same ws o p zero f = refl
 listed_same ws o p (suc k) f =
     let e : get_or o k 0 ≡ get_or p k 0 = f k (omega arith) in
     let r : listed ws o k ≡ listed ws p k = listed_same ws o p k (λ j h. f j (omega arith)) in
-    λ i. r i ++ (unfoldAt ws (e i) ∷ [])
+    λ i. r i ++ (unfold_at ws (e i) ∷ [])
 
 at_last : (l : List Expr) (t : Expr) (k : ℕ) → length l ≡ k → at (l ++ (t ∷ [])) k ≡ t
 at_last [] t k h = rw (sym h) refl
 at_last (x ∷ l) t zero h = absurd (omega arith)
 at_last (x ∷ l) t (suc k) h = at_last l t k (omega arith)
 
-pub listed_at : (ws order : List ℕ) (k j : ℕ) → j < k → at (listed ws order k) j ≡ unfoldAt ws (get_or order j 0)
+pub listed_at : (ws order : List ℕ) (k j : ℕ) → j < k → at (listed ws order k) j ≡ unfold_at ws (get_or order j 0)
 unfolding listed
 listed_at ws order zero j h = absurd (omega arith)
 listed_at ws order (suc k) j h = go (λ l. listed_at ws order k j l) (ltb j k) refl
@@ -45,15 +45,15 @@ listed_at ws order (suc k) j h = go (λ l. listed_at ws order k j l) (ltb j k) r
     L : List Expr
     L = listed ws order k
 
-    go : (j < k → at (listed ws order k) j ≡ unfoldAt ws (get_or order j 0)) → (t : Bool) → ltb j k ≡ t → at (listed ws order k ++ (unfoldAt ws (get_or order k 0) ∷ [])) j ≡ unfoldAt ws
+    go : (j < k → at (listed ws order k) j ≡ unfold_at ws (get_or order j 0)) → (t : Bool) → ltb j k ≡ t → at (listed ws order k ++ (unfold_at ws (get_or order k 0) ∷ [])) j ≡ unfold_at ws
         (get_or order j 0)
     go f true e =
         let g : j < k = ltb-true j k e in
-        get_or-append (listed ws order k) (unfoldAt ws (get_or order k 0) ∷ []) (Var 0) j (omega (arith, listed-length ws order k)) ∙ f g
+        get_or-append (listed ws order k) (unfold_at ws (get_or order k 0) ∷ []) (Var 0) j (omega (arith, listed-length ws order k)) ∙ f g
     go f false e =
         let g : k ≤ j = ltb-false j k e in
         let q : j ≡ k = omega arith in
-        rw q (at_last (listed ws order k) (unfoldAt ws (get_or order k 0)) k (listed-length ws order k))
+        rw q (at_last (listed ws order k) (unfold_at ws (get_or order k 0)) k (listed-length ws order k))
 
 -- ---- pending
 
@@ -61,8 +61,8 @@ pub pending-same : (ws s t : List ℕ) (d : ℕ) (l : List Expr) → ((i : ℕ) 
 unfolding pending
 pending-same ws s t zero l f = refl
 pending-same ws s t (suc d) l f =
-    ap (λ (n : ℕ). pending ws s d (addAll l (walk (unfoldAt ws n)))) (f d (omega arith))
-    ∙ pending-same ws s t d (addAll l (walk (unfoldAt ws (get_or t d 0)))) (λ i h. f i (omega arith))
+    ap (λ (n : ℕ). pending ws s d (add_all l (walk (unfold_at ws n)))) (f d (omega arith))
+    ∙ pending-same ws s t d (add_all l (walk (unfold_at ws (get_or t d 0)))) (λ i h. f i (omega arith))
 
 -- ---- without a number
 
@@ -112,7 +112,7 @@ none-some number (suc n) m h e = go (λ g. none-some number n m g e) (eqb m n) r
     go r false q = let p : m ≡ n → ⊥ = eqb-false m n q in omega (arith, r (omega arith))
 
 -- ---- the first operand without a number, from its parts
-pub open_made : (ws class number : List ℕ) (n kind : ℕ) (p q r : Bool) (a b c ca cb cc w x y z : ℕ) → kind ≡ kindNumber ws n → p ≡ hasA kind → q ≡ has_b kind → r ≡ hasC kind
+pub open_made : (ws class number : List ℕ) (n kind : ℕ) (p q r : Bool) (a b c ca cb cc w x y z : ℕ) → kind ≡ kind_number ws n → p ≡ has_a kind → q ≡ has_b kind → r ≡ has_c kind
     → a ≡ op_a ws n
     → b ≡ op_b ws n
     → c ≡ op_c ws n
@@ -123,13 +123,13 @@ pub open_made : (ws class number : List ℕ) (n kind : ℕ) (p q r : Bool) (a b 
     → x ≡ pick r cc number w
     → y ≡ pick q cb number x
     → z ≡ pick p ca number y
-    → z ≡ nextOpen ws class number n
-unfolding nextOpen
+    → z ≡ next_open ws class number n
+unfolding next_open
 open_made ws class number n kind p q r a b c ca cb cc w x y z ek ep eq er ea eb ec ga gb gc ew ex ey ez =
-    let ha : p ≡ hasA (kindNumber ws n) = ep ∙ ap hasA ek in
-    let hb : q ≡ has_b (kindNumber ws n) = eq ∙ ap has_b ek in
-    let hc : r ≡ hasC (kindNumber ws n) = er ∙ ap hasC ek in
-    let fa : ca ≡ classA ws class n = ga ∙ (λ i. get_or class (ea i) 0) in
-    let fb : cb ≡ classB ws class n = gb ∙ (λ i. get_or class (eb i) 0) in
-    let fc : cc ≡ classC ws class n = gc ∙ (λ i. get_or class (ec i) 0) in
+    let ha : p ≡ has_a (kind_number ws n) = ep ∙ ap has_a ek in
+    let hb : q ≡ has_b (kind_number ws n) = eq ∙ ap has_b ek in
+    let hc : r ≡ has_c (kind_number ws n) = er ∙ ap has_c ek in
+    let fa : ca ≡ class_a ws class n = ga ∙ (λ i. get_or class (ea i) 0) in
+    let fb : cb ≡ class_b ws class n = gb ∙ (λ i. get_or class (eb i) 0) in
+    let fc : cc ≡ class_c ws class n = gc ∙ (λ i. get_or class (ec i) 0) in
     ez ∙ (λ i. pick (ha i) (fa i) number ((ey ∙ (λ i. pick (hb i) (fb i) number ((ex ∙ (λ i. pick (hc i) (fc i) number (ew i))) i))) i))

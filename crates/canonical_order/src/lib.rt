@@ -3,7 +3,7 @@ ghost use Rattle.std.specs.Prelude.{◌≡◌, ◌+◌, ◌*◌, ◌≤◌, ◌<
 ghost use Rattle.pool.specs.Rules.{Valid};
 ghost use Rattle.pool_fields.specs.Fields.{op_c};
 ghost use Rattle.canonical_classes.specs.Class.{Classes, Long};
-ghost use Rattle.canonical_order.specs.Walk.{pick, nextOpen, AllNone, Walking, Stepped, Numbered};
+ghost use Rattle.canonical_order.specs.Walk.{pick, next_open, AllNone, Walking, Stepped, Numbered};
 
 use canonical_classes::{node_at, wide};
 use pool::Node;
@@ -25,7 +25,7 @@ fn pick(there: bool, m: Node, number: &[u16; 65536], rest: Node) -> Node
 // The first operand's class of node n that has no number yet; none if each has one.
 fn next_open(pool: &[u64], class: &[u16; 65536], number: &[u16; 65536], n: Node) -> Node
     requires { (4 * n.0 + 3 < length pool.now) × (op_c pool.now n.0 < 65536) }
-    ensures { result.0 ≡ nextOpen pool.now class.now number.now n.0 }
+    ensures { result.0 ≡ next_open pool.now class.now number.now n.0 }
 {
     let kind = kind_of(pool, n);
     let c = pick(
@@ -39,7 +39,7 @@ fn next_open(pool: &[u64], class: &[u16; 65536], number: &[u16; 65536], n: Node)
 }
 
 // Where the walk is: nodes with a number, nodes that wait for an operand.
-#[derive(Drop)]
+#[derive(Clone, Copy)]
 pub struct State {
     pub count: usize,
     pub depth: usize,

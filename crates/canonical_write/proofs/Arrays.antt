@@ -9,13 +9,13 @@ use lib.ListN.{length, get_or, replicate, length-replicate, get_or-replicate}
 use borrow.Author.Tests.{lt-ltb, le-leb, lt-leb, leb-true}
 use Rattle.pool.specs.Node.{places}
 use Rattle.facts.proofs.Tests.{and_both}
-use Rattle.pool.specs.Rules.{poolOk, okPool, nodeNumber, Valid}
+use Rattle.pool.specs.Rules.{pool_ok, ok_pool, node_number, Valid}
 use Rattle.pool_check.proofs.Number.{first-refusal}
 use Rattle.canonical_classes.proofs.Steps.{valid-le}
 use Rattle.canonical_classes.specs.Class.{Long, Empty}
 use Rattle.canonical_order.specs.Walk.{AllNone}
 use Rattle.canonical_write.specs.declared.Canonised.{Canonised}
-use Rattle.canonical_write.specs.Canonise.{treesAt, roomNumber, canoniseNumber, Written, RootAnswered, Answered}
+use Rattle.canonical_write.specs.Canonise.{trees_at, room_number, canonise_number, Written, RootAnswered, Answered}
 
 zero-at : (n i : ℕ) → ◌≡◌ {A = ℕ} (get_or (replicate n 0) i 0) 0
 zero-at zero i = refl
@@ -29,9 +29,9 @@ pub nones-are : (n : ℕ) → n ≡ 65536 → Long (replicate n 65535) × AllNon
 nones-are n e = (length-replicate n 65535 ∙ e, λ m h. get_or-replicate n m 65535 0 (omega arith))
 
 -- past the first two refusals
-pub passed : (ws : List ℕ) (count root : ℕ) → poolOk ws count ≡ true → root < count → Valid ws (root + 1) × (4 * (root + 1) ≤ length ws) × (root < 65535)
+pub passed : (ws : List ℕ) (count root : ℕ) → pool_ok ws count ≡ true → root < count → Valid ws (root + 1) × (4 * (root + 1) ≤ length ws) × (root < 65535)
 passed ws count root e h =
-    let p = and_both (leb count (places ws)) (okPool ws count) e in
+    let p = and_both (leb count (places ws)) (ok_pool ws count) e in
     let l : count ≤ places ws = leb-true count (places ws) p.0 in
     (valid-le ws (root + 1) count (omega arith) p.1, omega arith, omega arith)
 
@@ -41,20 +41,20 @@ abbrev made : ℕ → ℕ → Canonised
 made number count = record { number = number; count = count }
 
 module _ (ws : List ℕ) (root : ℕ) (old : List ℕ) where
-  pub no_room : places old < treesAt ws root → RootAnswered ws root old old (made 6 0)
+  pub no_room : places old < trees_at ws root → RootAnswered ws root old old (made 6 0)
   no_room g = record { number = rw (lt-leb _ _ g); refused = λ f. (refl, refl); done = λ f. absurd (omega arith) }
 
-  pub all-written : (k : ℕ) → k ≡ treesAt ws root → k ≤ places old → (new : List ℕ) → Written ws root k old new → RootAnswered ws root old new (made 0 k)
+  pub all-written : (k : ℕ) → k ≡ trees_at ws root → k ≤ places old → (new : List ℕ) → Written ws root k old new → RootAnswered ws root old new (made 0 k)
   all-written k q g new w =
-      record { number = rw (le-leb (treesAt ws root) (places old) (omega (arith, q))); refused = λ f. absurd (f refl); done = λ f. (q, w) }
+      record { number = rw (le-leb (trees_at ws root) (places old) (omega (arith, q))); refused = λ f. absurd (f refl); done = λ f. (q, w) }
 
 module _ (ws : List ℕ) (count root : ℕ) (old : List ℕ) where
-  pub bad-node : {k : ℕ} → k ≡ nodeNumber ws count root 0 → 0 < k → Answered ws count root old old (made k 0)
-  unfolding canoniseNumber
+  pub bad-node : {k : ℕ} → k ≡ node_number ws count root 0 → 0 < k → Answered ws count root old old (made k 0)
+  unfolding canonise_number
   bad-node {k} e h =
-      let r : 0 < nodeNumber ws count root 0 = rw e at h in
-      record { number = e ∙ first-refusal ws count root (roomNumber ws root old) r; refused = λ f. (refl, refl); done = λ f. absurd (omega (arith, f, h)) }
+      let r : 0 < node_number ws count root 0 = rw e at h in
+      record { number = e ∙ first-refusal ws count root (room_number ws root old) r; refused = λ f. (refl, refl); done = λ f. absurd (omega (arith, f, h)) }
 
-  pub root-answered : poolOk ws count ≡ true → root < count → {new : List ℕ} {a : Canonised} → RootAnswered ws root old new a → Answered ws count root old new a
-  unfolding canoniseNumber
+  pub root-answered : pool_ok ws count ≡ true → root < count → {new : List ℕ} {a : Canonised} → RootAnswered ws root old new a → Answered ws count root old new a
+  unfolding canonise_number
   root-answered e h A = record { number = A.number ∙ sym (rw (e, lt-ltb root count h)); refused = A.refused; done = A.done }

@@ -8,27 +8,27 @@ use lib.Dec.{ltb}
 use lib.ListN.{length, get_or, length-set}
 use Rattle.terms.specs.Expr.{Expr, Var, Const, Bv, Compare, Ite, Extract, Concat, ZeroExtend, SignExtend}
 use Rattle.terms.specs.Registers.{registers}
-use Rattle.pool.specs.Node.{Kind, bad, var, const, bv, compare, ite, extract, concat, zext, sext, kindWord, operand_word, code_of, Cell, cell_at, width_at, kindNumber, word_at, writeNode}
+use Rattle.pool.specs.Node.{Kind, bad, var, const, bv, compare, ite, extract, concat, zext, sext, kind_word, operand_word, code_of, Cell, cell_at, width_at, kind_number, word_at, write_node}
 use Rattle.pool_fields.specs.Fields.{op_a, op_b, op_c}
 use Rattle.pool.specs.Rules.{Valid}
-use Rattle.pool.specs.Unfold.{shape_of, unfoldAt}
+use Rattle.pool.specs.Unfold.{shape_of, unfold_at}
 use Rattle.canonical.specs.Order.{place, postorder}
-use Rattle.canonical.specs.Words.{cellIn, word0, word1, words_in, canonical}
+use Rattle.canonical.specs.Words.{cell_in, word0, word1, words_in, canonical}
 use Rattle.canonical.proofs.Trees.{at}
 use Rattle.canonical.proofs.Words.{cell-width, word-parts}
 use Rattle.pool_operands.proofs.ByKind.{bv-a, bv-b, bv-c, cmp-a, cmp-b, cmp-c}
-use Rattle.pool_operands.specs.Operands.{hasA, has_b, hasC}
+use Rattle.pool_operands.specs.Operands.{has_a, has_b, has_c}
 use Rattle.canonical_classes.specs.Class.{Classes}
-use Rattle.canonical_classes.proofs.Keys.{NodeRead, node-read, kindIn}
+use Rattle.canonical_classes.proofs.Keys.{NodeRead, node-read, kind_in}
 use Rattle.pool_operands.proofs.Written.{other, f0, f1, f2, f3, four}
 use Rattle.canonical_order.specs.Walk.{Set, Done, Numbered}
 use Rattle.canonical_order.proofs.Lists.{listed_at}
-use Rattle.canonical_write.specs.Canonise.{numberIf, newOperands, OneMore, Written}
+use Rattle.canonical_write.specs.Canonise.{number_if, new_operands, OneMore, Written}
 use borrow.Author.Tests.{ltb-false, ltb-true}
 
 -- ---- the parts of a cell that do not go by the list
 
-kind-any : (l : List Expr) (t : Expr) → (cellIn l t).kind ≡ (cellIn [] t).kind
+kind-any : (l : List Expr) (t : Expr) → (cell_in l t).kind ≡ (cell_in [] t).kind
 kind-any l (Var r) = refl
 kind-any l (Const v w) = refl
 kind-any l (Bv o a b) = refl
@@ -39,7 +39,7 @@ kind-any l (Concat a b) = refl
 kind-any l (ZeroExtend a w) = refl
 kind-any l (SignExtend a w) = refl
 
-x-any : (l : List Expr) (t : Expr) → (cellIn l t).x ≡ (cellIn [] t).x
+x-any : (l : List Expr) (t : Expr) → (cell_in l t).x ≡ (cell_in [] t).x
 x-any l (Var r) = refl
 x-any l (Const v w) = refl
 x-any l (Bv o a b) = refl
@@ -50,7 +50,7 @@ x-any l (Concat a b) = refl
 x-any l (ZeroExtend a w) = refl
 x-any l (SignExtend a w) = refl
 
-y-any : (l : List Expr) (t : Expr) → (cellIn l t).y ≡ (cellIn [] t).y
+y-any : (l : List Expr) (t : Expr) → (cell_in l t).y ≡ (cell_in [] t).y
 y-any l (Var r) = refl
 y-any l (Const v w) = refl
 y-any l (Bv o a b) = refl
@@ -62,16 +62,16 @@ y-any l (ZeroExtend a w) = refl
 y-any l (SignExtend a w) = refl
 
 -- the operands' places
-abbrev ifAt : Bool → ℕ → ℕ
-ifAt b x = cond b x 0
+abbrev if_at : Bool → ℕ → ℕ
+if_at b x = cond b x 0
 
 operands_of : (l : List Expr) (κ : Kind) (k : Cell) (A B C : Expr)
-    → word1 (cellIn l (shape_of κ k A B C)) ≡ operand_word (ifAt (hasA (code_of κ)) (place l A)) (ifAt (has_b (code_of κ)) (place l B)) (ifAt (hasC (code_of κ)) (place l C))
+    → word1 (cell_in l (shape_of κ k A B C)) ≡ operand_word (if_at (has_a (code_of κ)) (place l A)) (if_at (has_b (code_of κ)) (place l B)) (if_at (has_c (code_of κ)) (place l C))
 operands_of l bad k A B C = refl
 operands_of l var k A B C = refl
 operands_of l const k A B C = refl
-operands_of l (bv o) k A B C = λ i. operand_word (ifAt (sym (bv-a o) i) (place l A)) (ifAt (sym (bv-b o) i) (place l B)) (ifAt (sym (bv-c o) i) (place l C))
-operands_of l (compare o) k A B C = λ i. operand_word (ifAt (sym (cmp-a o) i) (place l A)) (ifAt (sym (cmp-b o) i) (place l B)) (ifAt (sym (cmp-c o) i) (place l C))
+operands_of l (bv o) k A B C = λ i. operand_word (if_at (sym (bv-a o) i) (place l A)) (if_at (sym (bv-b o) i) (place l B)) (if_at (sym (bv-c o) i) (place l C))
+operands_of l (compare o) k A B C = λ i. operand_word (if_at (sym (cmp-a o) i) (place l A)) (if_at (sym (cmp-b o) i) (place l B)) (if_at (sym (cmp-c o) i) (place l C))
 operands_of l ite k A B C = refl
 operands_of l extract k A B C = refl
 operands_of l concat k A B C = refl
@@ -86,7 +86,7 @@ pub record NodeWords (ws : List ℕ) (n : ℕ) (k : Cell) (s : ℕ) : Type 0 whe
   pub w2 : get_or ws (4 * n + 2) 0 ≡ k.x
   pub w3 : get_or ws (4 * n + 3) 0 ≡ k.y
 
-pub words_of : (l ts : List Expr) (i : ℕ) → i < length ts → NodeWords (words_in l ts) i (cellIn l (at ts i)) (registers (at ts i))
+pub words_of : (l ts : List Expr) (i : ℕ) → i < length ts → NodeWords (words_in l ts) i (cell_in l (at ts i)) (registers (at ts i))
 unfolding words_in
 words_of l [] i h = absurd (omega arith)
 words_of l (t ∷ ts) zero h = record { w0 = refl; w1 = refl; w2 = refl; w3 = refl }
@@ -109,12 +109,12 @@ module _ (ws class : List ℕ) (root : ℕ) (v : Valid ws (root + 1)) (bounded :
   n = get_or order j 0
 
   abbrev L : List Expr
-  L = postorder (unfoldAt ws root)
+  L = postorder (unfold_at ws root)
 
   n-le : n ≤ root
   n-le = (N.node j h).0
 
-  tree_is : at L j ≡ unfoldAt ws n
+  tree_is : at L j ≡ unfold_at ws n
   tree_is = ap (λ (l : List Expr). at l j) (sym N.terms) ∙ listed_at ws order k j h
 
   done : Done ws class number L n
@@ -124,63 +124,63 @@ module _ (ws class : List ℕ) (root : ℕ) (v : Valid ws (root + 1)) (bounded :
   read = node-read ws (root + 1) v bounded n (omega (arith, n-le))
 
   -- an operand's number is its tree's place
-  operand : (m : ℕ) → m < n → Set number (get_or class m 0) → get_or number (get_or class m 0) 0 ≡ place L (unfoldAt ws m)
+  operand : (m : ℕ) → m < n → Set number (get_or class m 0) → get_or number (get_or class m 0) 0 ≡ place L (unfold_at ws m)
   operand m g s =
       (N.done (get_or class m 0) (omega (arith, C.first m (omega (arith, n-le)), n-le)) s).number_is ∙ ap (place L) (C.tree m (omega (arith, n-le)))
 
-  if-same : (b : Bool) (x y : ℕ) → (b ≡ true → x ≡ y) → ifAt b x ≡ ifAt b y
+  if-same : (b : Bool) (x y : ℕ) → (b ≡ true → x ≡ y) → if_at b x ≡ if_at b y
   if-same true x y f = f refl
   if-same false x y f = refl
 
-  new-operands : newOperands ws class number n ≡ word1 (cellIn L (at L j))
-  unfolding newOperands
+  new-operands : new_operands ws class number n ≡ word1 (cell_in L (at L j))
+  unfolding new_operands
   new-operands =
       let c = cell_at ws n in
-      let kn = kindNumber ws n in
-      let code : (f : ℕ → Bool) → f kn ≡ true → f (code_of (kindIn ws n)) ≡ true = λ f e. rw (← read.code) e in
-      let ea : ifAt (hasA kn) (get_or number (get_or class c.a 0) 0) ≡ ifAt (hasA kn) (place L (unfoldAt ws c.a)) =
-      if-same (hasA kn) _ _ (λ e. operand c.a (read.less.a-less (code hasA e)) (done.ready.a-set e)) in
-      let eb : ifAt (has_b kn) (get_or number (get_or class c.b 0) 0) ≡ ifAt (has_b kn) (place L (unfoldAt ws c.b)) =
-      if-same (has_b kn) _ _ (λ e. operand c.b (read.less.b-less (code has_b e)) (done.ready.b-set e)) in
-      let ec : ifAt (hasC kn) (get_or number (get_or class c.c 0) 0) ≡ ifAt (hasC kn) (place L (unfoldAt ws c.c)) =
-      if-same (hasC kn) _ _ (λ e. operand c.c (read.less.c-less (code hasC e)) (done.ready.c-set e)) in
+      let kn = kind_number ws n in
+      let code : (f : ℕ → Bool) → f kn ≡ true → f (code_of (kind_in ws n)) ≡ true = λ f e. rw (← read.code) e in
+      let ea : if_at (has_a kn) (get_or number (get_or class c.a 0) 0) ≡ if_at (has_a kn) (place L (unfold_at ws c.a)) =
+      if-same (has_a kn) _ _ (λ e. operand c.a (read.less.a-less (code has_a e)) (done.ready.a_set e)) in
+      let eb : if_at (has_b kn) (get_or number (get_or class c.b 0) 0) ≡ if_at (has_b kn) (place L (unfold_at ws c.b)) =
+      if-same (has_b kn) _ _ (λ e. operand c.b (read.less.b-less (code has_b e)) (done.ready.b_set e)) in
+      let ec : if_at (has_c kn) (get_or number (get_or class c.c 0) 0) ≡ if_at (has_c kn) (place L (unfold_at ws c.c)) =
+      if-same (has_c kn) _ _ (λ e. operand c.c (read.less.c-less (code has_c e)) (done.ready.c_set e)) in
       (λ i. operand_word (ea i) (eb i) (ec i))
-      ∙ ap (λ (z : ℕ). operand_word (ifAt (hasA z) (place L (unfoldAt ws c.a))) (ifAt (has_b z) (place L (unfoldAt ws c.b))) (ifAt (hasC z) (place L (unfoldAt ws c.c)))) read.code
-      ∙ sym (operands_of L (kindIn ws n) c (unfoldAt ws c.a) (unfoldAt ws c.b) (unfoldAt ws c.c))
-      ∙ ap (λ (t : Expr). word1 (cellIn L t)) (sym read.tree ∙ sym tree_is)
+      ∙ ap (λ (z : ℕ). operand_word (if_at (has_a z) (place L (unfold_at ws c.a))) (if_at (has_b z) (place L (unfold_at ws c.b))) (if_at (has_c z) (place L (unfold_at ws c.c)))) read.code
+      ∙ sym (operands_of L (kind_in ws n) c (unfold_at ws c.a) (unfold_at ws c.b) (unfold_at ws c.c))
+      ∙ ap (λ (t : Expr). word1 (cell_in L t)) (sym read.tree ∙ sym tree_is)
 
-  new-word0 : get_or ws (4 * n) 0 ≡ word0 (cellIn L (at L j)) (registers (at L j))
+  new-word0 : get_or ws (4 * n) 0 ≡ word0 (cell_in L (at L j)) (registers (at L j))
   new-word0 =
-      let t = unfoldAt ws n in
-      let e : kindNumber ws n ≡ code_of (cellIn L t).kind =
+      let t = unfold_at ws n in
+      let e : kind_number ws n ≡ code_of (cell_in L t).kind =
       read.code ∙ ap code_of (read.kind-is ∙ sym (kind-any L t)) in
-      let w : width_at ws n ≡ (cellIn L t).width = sym read.wide_is ∙ sym (cell-width L t) in
-      word-parts (get_or ws (4 * n) 0) ∙ (λ i. kindWord (e i) (w i) (read.set_is i)) ∙ ap (λ (s : Expr). word0 (cellIn L s) (registers s)) (sym tree_is)
+      let w : width_at ws n ≡ (cell_in L t).width = sym read.wide_is ∙ sym (cell-width L t) in
+      word-parts (get_or ws (4 * n) 0) ∙ (λ i. kind_word (e i) (w i) (read.set_is i)) ∙ ap (λ (s : Expr). word0 (cell_in L s) (registers s)) (sym tree_is)
 
-  new-word2 : word_at ws n 2 ≡ (cellIn L (at L j)).x
-  new-word2 = read.x-is ∙ sym (x-any L (unfoldAt ws n)) ∙ ap (λ (s : Expr). (cellIn L s).x) (sym tree_is)
+  new-word2 : word_at ws n 2 ≡ (cell_in L (at L j)).x
+  new-word2 = read.x-is ∙ sym (x-any L (unfold_at ws n)) ∙ ap (λ (s : Expr). (cell_in L s).x) (sym tree_is)
 
-  new-word3 : word_at ws n 3 ≡ (cellIn L (at L j)).y
-  new-word3 = read.y-is ∙ sym (y-any L (unfoldAt ws n)) ∙ ap (λ (s : Expr). (cellIn L s).y) (sym tree_is)
+  new-word3 : word_at ws n 3 ≡ (cell_in L (at L j)).y
+  new-word3 = read.y-is ∙ sym (y-any L (unfold_at ws n)) ∙ ap (λ (s : Expr). (cell_in L s).y) (sym tree_is)
 
-  pub new-words : let c = cellIn L (at L j) in (get_or ws (4 * n) 0 ≡ word0 c (registers (at L j))) × (newOperands ws class number n ≡ word1 c) × (word_at ws n 2 ≡ c.x) × (word_at ws n 3 ≡ c.y)
+  pub new-words : let c = cell_in L (at L j) in (get_or ws (4 * n) 0 ≡ word0 c (registers (at L j))) × (new_operands ws class number n ≡ word1 c) × (word_at ws n 2 ≡ c.x) × (word_at ws n 3 ≡ c.y)
   new-words = (new-word0, new-operands, new-word2, new-word3)
 
 -- ---- four words written
 
 -- the four words of the canonical pool's node j, written there
-pub one_more : (ws : List ℕ) (root j : ℕ) (old new : List ℕ) (w0 w1 x y : ℕ) → j < length (postorder (unfoldAt ws root)) → 4 * (j + 1) ≤ length old → new ≡ writeNode old j w0 w1 x y
-    → (let L = postorder (unfoldAt ws root) in let c = cellIn L (at L j) in (w0 ≡ word0 c (registers (at L j))) × (w1 ≡ word1 c) × (x ≡ c.x) × (y ≡ c.y))
+pub one_more : (ws : List ℕ) (root j : ℕ) (old new : List ℕ) (w0 w1 x y : ℕ) → j < length (postorder (unfold_at ws root)) → 4 * (j + 1) ≤ length old → new ≡ write_node old j w0 w1 x y
+    → (let L = postorder (unfold_at ws root) in let c = cell_in L (at L j) in (w0 ≡ word0 c (registers (at L j))) × (w1 ≡ word1 c) × (x ≡ c.x) × (y ≡ c.y))
     → OneMore ws root j old new
 unfolding canonical
 one_more ws root j old new w0 w1 x y h room e q =
-    let L = postorder (unfoldAt ws root) in
+    let L = postorder (unfold_at ws root) in
     let r = words_of L L j h in
-    let at_new : (i : ℕ) → get_or new i 0 ≡ get_or (writeNode old j w0 w1 x y) i 0 = λ i. ap (λ (l : List ℕ). get_or l i 0) e in
+    let at_new : (i : ℕ) → get_or new i 0 ≡ get_or (write_node old j w0 w1 x y) i 0 = λ i. ap (λ (l : List ℕ). get_or l i 0) e in
     let zero_is : 4 * j + 0 ≡ 4 * j = omega arith in
     record {
       long = ap length e ∙ simp length-set;
-      word = λ i g. four P (at_new (4 * j + 0) ∙ ap (λ (z : ℕ). get_or (writeNode old j w0 w1 x y) z 0) zero_is ∙ f0 old j w0 w1 x y room ∙ q.0 ∙ sym r.w0)
+      word = λ i g. four P (at_new (4 * j + 0) ∙ ap (λ (z : ℕ). get_or (write_node old j w0 w1 x y) z 0) zero_is ∙ f0 old j w0 w1 x y room ∙ q.0 ∙ sym r.w0)
           (at_new (4 * j + 1) ∙ f1 old j w0 w1 x y room ∙ q.1 ∙ sym r.w1) (at_new (4 * j + 2) ∙ f2 old j w0 w1 x y room ∙ q.2 ∙ sym r.w2)
           (at_new (4 * j + 3) ∙ f3 old j w0 w1 x y room ∙ q.3 ∙ sym r.w3) i g;
       before = λ i g. at_new i ∙ other old j w0 w1 x y room i (λ z. omega arith) (λ z. omega arith) (λ z. omega arith) (λ z. omega arith);
@@ -188,7 +188,7 @@ one_more ws root j old new w0 w1 x y h room e q =
     }
   where
     P : ℕ → Type 0
-    P i = get_or new (4 * j + i) 0 ≡ get_or (words_in (postorder (unfoldAt ws root)) (postorder (unfoldAt ws root))) (4 * j + i) 0
+    P i = get_or new (4 * j + i) 0 ≡ get_or (words_in (postorder (unfold_at ws root)) (postorder (unfold_at ws root))) (4 * j + i) 0
 
 pub written_none : (ws : List ℕ) (root : ℕ) (old : List ℕ) → Written ws root 0 old old
 written_none ws root old = record { long = refl; words = λ n r h. absurd (omega arith); past = λ i h. refl }
@@ -201,7 +201,7 @@ written-more ws root j old mid new W O =
       past = λ i h. O.past i h ∙ W.past i (omega arith);
     }
   where
-    go : (n r : ℕ) → n < j + 1 → r < 4 → (t : Bool) → ltb n j ≡ t → get_or new (4 * n + r) 0 ≡ get_or (canonical (unfoldAt ws root)) (4 * n + r) 0
+    go : (n r : ℕ) → n < j + 1 → r < 4 → (t : Bool) → ltb n j ≡ t → get_or new (4 * n + r) 0 ≡ get_or (canonical (unfold_at ws root)) (4 * n + r) 0
     go n r h g true e = let l : n < j = ltb-true n j e in O.before (4 * n + r) (omega arith) ∙ W.words n r l g
     go n r h g false e =
         let l : j ≤ n = ltb-false n j e in
@@ -209,20 +209,20 @@ written-more ws root j old mid new W O =
         rw q (O.word r g)
 
 -- word 1 from its parts
-pub operands-made : (ws class number : List ℕ) (n kind : ℕ) (p q r : Bool) (a b c x y z : ℕ) → kind ≡ kindNumber ws n → p ≡ hasA kind → q ≡ has_b kind → r ≡ hasC kind
+pub operands-made : (ws class number : List ℕ) (n kind : ℕ) (p q r : Bool) (a b c x y z : ℕ) → kind ≡ kind_number ws n → p ≡ has_a kind → q ≡ has_b kind → r ≡ has_c kind
     → a ≡ op_a ws n
     → b ≡ op_b ws n
     → c ≡ op_c ws n
-    → x ≡ numberIf p class number a
-    → y ≡ numberIf q class number b
-    → z ≡ numberIf r class number c
-    → operand_word x y z ≡ newOperands ws class number n
-unfolding newOperands
+    → x ≡ number_if p class number a
+    → y ≡ number_if q class number b
+    → z ≡ number_if r class number c
+    → operand_word x y z ≡ new_operands ws class number n
+unfolding new_operands
 operands-made ws class number n kind p q r a b c x y z ek ep eq er ea eb ec fx fy fz =
-    let hp : p ≡ hasA (kindNumber ws n) = ep ∙ ap hasA ek in
-    let hq : q ≡ has_b (kindNumber ws n) = eq ∙ ap has_b ek in
-    let hr : r ≡ hasC (kindNumber ws n) = er ∙ ap hasC ek in
-    let gx = fx ∙ (λ i. numberIf (hp i) class number (ea i)) in
-    let gy = fy ∙ (λ i. numberIf (hq i) class number (eb i)) in
-    let gz = fz ∙ (λ i. numberIf (hr i) class number (ec i)) in
+    let hp : p ≡ has_a (kind_number ws n) = ep ∙ ap has_a ek in
+    let hq : q ≡ has_b (kind_number ws n) = eq ∙ ap has_b ek in
+    let hr : r ≡ has_c (kind_number ws n) = er ∙ ap has_c ek in
+    let gx = fx ∙ (λ i. number_if (hp i) class number (ea i)) in
+    let gy = fy ∙ (λ i. number_if (hq i) class number (eb i)) in
+    let gz = fz ∙ (λ i. number_if (hr i) class number (ec i)) in
     λ i. operand_word (gx i) (gy i) (gz i)

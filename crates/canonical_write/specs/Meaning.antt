@@ -1,8 +1,8 @@
 -- What a canonical pool means (document 02, S-13): the theorems, of any answers that the contract allows. proofs/Meaning.antt proves them.
 use Rattle.std.specs.Prelude.{true, List, ◌↔◌, ◌≡◌, ℕ, ◌-◌, ◌*◌, ◌≤◌, ◌<◌, get_or}
 use Rattle.pool.specs.Node.{places}
-use Rattle.pool.specs.Rules.{poolOk}
-use Rattle.pool.specs.Unfold.{unfoldAt}
+use Rattle.pool.specs.Rules.{pool_ok}
+use Rattle.pool.specs.Unfold.{unfold_at}
 use Rattle.canonical_write.specs.declared.Canonised.{Canonised}
 use Rattle.canonical_write.specs.Canonise.{Answered}
 
@@ -16,15 +16,15 @@ SameWords new new' a a' = (a.count ≡ a'.count) × ((i : ℕ) → i < 4 * a.cou
 
 -- two roots give equal words exactly when they unfold to the same tree
 abbrev pub SameWordsForSameTrees : Type 0
-SameWordsForSameTrees = OfRoot (λ ws root new a. OfRoot (λ ws' root' new' a'. SameWords new new' a a' ↔ (unfoldAt ws root ≡ unfoldAt ws' root')))
+SameWordsForSameTrees = OfRoot (λ ws root new a. OfRoot (λ ws' root' new' a'. SameWords new new' a a' ↔ (unfold_at ws root ≡ unfold_at ws' root')))
 
 -- the last node unfolds to the root's tree
 abbrev pub LastIsRoot : Type 0
-LastIsRoot = OfRoot (λ ws root new a. unfoldAt new (a.count - 1) ≡ unfoldAt ws root)
+LastIsRoot = OfRoot (λ ws root new a. unfold_at new (a.count - 1) ≡ unfold_at ws root)
 
 -- the canonical pool passes the check
 abbrev pub CanonicalPasses : Type 0
-CanonicalPasses = OfRoot (λ ws root new a. poolOk new a.count ≡ true)
+CanonicalPasses = OfRoot (λ ws root new a. pool_ok new a.count ≡ true)
 
 -- canonising its last node again changes nothing: with as much room it is done, and the words are the same
 abbrev pub AgainTheSame : Type 0

@@ -4,7 +4,7 @@ ghost use Rattle.pool.specs.Rules.{Valid};
 ghost use Rattle.pool_fields.specs.Fields.{op_c};
 ghost use Rattle.canonical_classes.specs.Class.{Classes, Long, Empty};
 ghost use Rattle.canonical_order.specs.Walk.{AllNone, Numbered};
-ghost use Rattle.canonical_write.specs.Canonise.{Answered, RootAnswered, Written, OneMore, numberIf, newOperands};
+ghost use Rattle.canonical_write.specs.Canonise.{Answered, RootAnswered, Written, OneMore, number_if, new_operands};
 
 use canonical_classes::{classes, node_at};
 use canonical_order::walk;
@@ -15,7 +15,7 @@ use pool_fields::{first, high, low, second, third};
 use pool_operands::{has_a, has_b, has_c};
 
 // The number of document 02, and how many nodes are written.
-#[derive(Drop)]
+#[derive(Clone, Copy)]
 pub struct Canonised {
     pub number: u64,
     pub count: usize,
@@ -24,7 +24,7 @@ pub struct Canonised {
 // The operand m under its new number, node 0 if there is none.
 fn number_if(there: bool, class: &[u16; 65536], number: &[u16; 65536], m: Node) -> Node
     requires { m.0 < 65536 }
-    ensures { (result.0 ≡ numberIf there class.now number.now m.0) × (result.0 < 65536) }
+    ensures { (result.0 ≡ number_if there class.now number.now m.0) × (result.0 < 65536) }
 {
     if there {
         return node_at(number, node_at(class, m));
@@ -35,7 +35,7 @@ fn number_if(there: bool, class: &[u16; 65536], number: &[u16; 65536], m: Node) 
 // Word 1 of a node, with the new numbers of its operands.
 fn new_operands(pool: &[u64], class: &[u16; 65536], number: &[u16; 65536], n: Node) -> u64
     requires { (4 * n.0 + 3 < length pool.now) × (op_c pool.now n.0 < 65536) }
-    ensures { result ≡ newOperands pool.now class.now number.now n.0 }
+    ensures { result ≡ new_operands pool.now class.now number.now n.0 }
 {
     let kind = kind_of(pool, n);
     let a = number_if(has_a(kind), class, number, first(pool, n));

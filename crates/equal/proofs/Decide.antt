@@ -10,12 +10,12 @@ use borrow.Author.Tests.{eqb-true, lt-ltb}
 use Rattle.facts.specs.Refuse.{unless}
 use Rattle.facts.proofs.Tests.{and_both}
 use Rattle.gates.specs.Graph.{inputs, truth}
-use Rattle.gates.specs.Grow.{literalOf}
+use Rattle.gates.specs.Grow.{literal_of}
 use Rattle.gates.proofs.Truth.{false-truth}
 use Rattle.gates_question.specs.Question.{Asks}
 use Rattle.gates_question.specs.declared.Asked.{Asked}
 use Rattle.gates_question.specs.Question as question
-use Rattle.refutation.specs.Refutation.{refusedStep}
+use Rattle.refutation.specs.Refutation.{refused_step}
 use Rattle.refutation_check.specs.declared.Checked.{Checked}
 use Rattle.refutation_check.specs.Answer as check
 use Rattle.refutation_check.proofs.Answers.{accepted-is-false}
@@ -45,19 +45,19 @@ module _ {ws ws' g : List ℕ} {a b hi lo count l : ℕ} (asks : Asks ws a ws' b
 
   module _ {refutation : List ℕ} {marks starts : ℕ} {k : Checked} (c : check.Answered g count l refutation marks starts k) where
     abbrev memory : Bool
-    memory = leb (literalOf count) marks && ltb (length refutation / 2) starts
+    memory = leb (literal_of count) marks && ltb (length refutation / 2) starts
 
     abbrev empty : Bool
     empty = eqb l 0 && eqb (length refutation) 0
 
     abbrev good : Bool
-    good = eqb (refusedStep g count l refutation) 0
+    good = eqb (refused_step g count l refutation) 0
 
     number_of : k.number ≡ unless memory 6 (unless good 14 0)
     number_of = c.number_is ∙ rw (asks.good, lt-ltb (l / 2) (inputs + count) (omega (arith, asks.under)))
 
-    step_of : k.step ≡ cond (eqb k.number 14) (refusedStep g count l refutation) 0
-    step_of = c.step_is ∙ ap (λ (n : ℕ). cond (eqb n 14) (refusedStep g count l refutation) 0) (sym c.number_is)
+    step_of : k.step ≡ cond (eqb k.number 14) (refused_step g count l refutation) 0
+    step_of = c.step_is ∙ ap (λ (n : ℕ). cond (eqb n 14) (refused_step g count l refutation) 0) (sym c.number_is)
 
     pub decided : (empty ≡ true → k.number ≡ 14 → ⊥) → Decided g count l refutation marks starts k
     decided h =

@@ -2,7 +2,7 @@
 -- a start and the records, and nothing of a pool or of gates.
 use Rattle.std.specs.Prelude.{Bool, not, List, ◌≡◌, ℕ, ◌-◌, ◌%◌, ◌^◌, ◌<◌, eqb}
 use Rattle.neon.specs.declared.Instruction.{Instruction}
-use Rattle.neon.specs.Run.{armRun}
+use Rattle.neon.specs.Run.{arm_run}
 use Rattle.block_map.specs.Map.{node_of}
 use Rattle.block.specs.declared.BlockAnswer.{BlockAnswer}
 use Rattle.block.specs.Block as block
@@ -20,8 +20,8 @@ use Rattle.equal.specs.Equal as equal
 -- a pool, its count and the node of register q after an accepted block: as `lower_block` left them, as `lower_block_saturation` did, or as
 -- `canonise` made of these
 pub data Lowered (cs : List Instruction) (q : ℕ) : List ℕ → ℕ → ℕ → Type 0 where
-  by-block : (old new : List ℕ) (a : BlockAnswer) → block.Answered old cs new a → a.number ≡ 0 → Lowered cs q new a.map.count (node_of a.map q)
-  by-saturation : (old new : List ℕ) (a : SaturationAnswer) → flagged.Answered old cs new a → a.number ≡ 0
+  by_block : (old new : List ℕ) (a : BlockAnswer) → block.Answered old cs new a → a.number ≡ 0 → Lowered cs q new a.map.count (node_of a.map q)
+  by_saturation : (old new : List ℕ) (a : SaturationAnswer) → flagged.Answered old cs new a → a.number ≡ 0
       → Lowered cs q new a.map.count (node_of a.map q)
   canonical : (ws : List ℕ) (count node : ℕ) → Lowered cs q ws count node
       → (old new : List ℕ) (k : Canonised) → canonise.Answered ws count node old new k → k.number ≡ 0
@@ -40,7 +40,7 @@ LiteralIsOfRegisters =
     OfTwo (λ cs q cs' q' ws n x ws' m y.
     (hi lo : ℕ) (g g' table table' bits bits' : List ℕ) (r : Asked) → Answered ws n x ws' m y hi lo g g' table table' bits bits' r → r.number ≡ 0
     → (start : ℕ → ℕ) → Start start
-    → truth start g' r.literal ≡ not (eqb (bits_of hi lo (armRun cs start q)) (bits_of hi lo (armRun cs' start q'))))
+    → truth start g' r.literal ≡ not (eqb (bits_of hi lo (arm_run cs start q)) (bits_of hi lo (arm_run cs' start q'))))
 
 -- a refutation of the literal for bits hi to lo was accepted
 pub record Accepted (ws : List ℕ) (n x : ℕ) (ws' : List ℕ) (m y hi lo : ℕ) : Type 0 where
@@ -61,16 +61,16 @@ pub record Accepted (ws : List ℕ) (n x : ℕ) (ws' : List ℕ) (m y hi lo : �
 abbrev pub EqualBits : Type 0
 EqualBits =
     OfTwo (λ cs q cs' q' ws n x ws' m y.
-    (hi lo : ℕ) → Accepted ws n x ws' m y hi lo → (start : ℕ → ℕ) → Start start → bits_of hi lo (armRun cs start q) ≡ bits_of hi lo (armRun cs' start q'))
+    (hi lo : ℕ) → Accepted ws n x ws' m y hi lo → (start : ℕ → ℕ) → Start start → bits_of hi lo (arm_run cs start q) ≡ bits_of hi lo (arm_run cs' start q'))
 
 -- for bits 127 to 0, the registers are
 abbrev pub EqualRegisters : Type 0
 EqualRegisters =
     OfTwo (λ cs q cs' q' ws n x ws' m y.
-    Accepted ws n x ws' m y 127 0 → (start : ℕ → ℕ) → Start start → armRun cs start q ≡ armRun cs' start q')
+    Accepted ws n x ws' m y 127 0 → (start : ℕ → ℕ) → Start start → arm_run cs start q ≡ arm_run cs' start q')
 
 -- for bits 63 to 0, their low halves are
 abbrev pub EqualLowHalves : Type 0
 EqualLowHalves =
     OfTwo (λ cs q cs' q' ws n x ws' m y.
-    Accepted ws n x ws' m y 63 0 → (start : ℕ → ℕ) → Start start → armRun cs start q % 2 ^ 64 ≡ armRun cs' start q' % 2 ^ 64)
+    Accepted ws n x ws' m y 63 0 → (start : ℕ → ℕ) → Start start → arm_run cs start q % 2 ^ 64 ≡ arm_run cs' start q' % 2 ^ 64)

@@ -1,26 +1,26 @@
 -- What asking for a term's value answers (document 02, S-6): 1, 5, 11, the first in order.
 use Rattle.std.specs.Prelude.{List, ◌≡◌, ℕ, ◌≤◌, leb}
-use Rattle.facts.specs.Refuse.{byNumber, unless}
-use Rattle.pool.specs.Rules.{nodeNumber}
+use Rattle.facts.specs.Refuse.{by_number, unless}
+use Rattle.pool.specs.Rules.{node_number}
 use Rattle.wide.specs.Number.{words}
 use Rattle.evaluate.specs.declared.Evaluated.{Evaluated}
-use Rattle.evaluate.specs.Visits.{value_at, visitsAt}
+use Rattle.evaluate.specs.Visits.{value_at, visits_at}
 
 -- 11 if the definition's visits are more than the allowance
-abbrev pub evaluateNumber : List ℕ → List ℕ → (count n allowance : ℕ) → ℕ
-evaluateNumber ws regs count n allowance = nodeNumber ws count n (unless (leb (visitsAt ws regs n) allowance) 11 0)
+abbrev pub evaluate_number : List ℕ → List ℕ → (count n allowance : ℕ) → ℕ
+evaluate_number ws regs count n allowance = node_number ws count n (unless (leb (visits_at ws regs n) allowance) 11 0)
 
-abbrev pub noValue : ℕ → Evaluated
-noValue number = record { number = number; low = 0; high = 0; top = 0; visits = 0 }
+abbrev pub no_value : ℕ → Evaluated
+no_value number = record { number = number; low = 0; high = 0; top = 0; visits = 0 }
 
 abbrev pub found : Evaluated → ℕ
 found r = words r.low r.high r.top
 
 -- count nodes of the words ws are in use, n is the node, the words regs hold the start
 pub record Answered (ws regs : List ℕ) (count n allowance : ℕ) (r : Evaluated) : Type 0 where
-  pub number_is : r.number ≡ evaluateNumber ws regs count n allowance
-  pub value-is : found r ≡ byNumber (evaluateNumber ws regs count n allowance) (value_at ws regs n)
-  pub visits-is : r.visits ≡ byNumber (evaluateNumber ws regs count n allowance) (visitsAt ws regs n)
+  pub number_is : r.number ≡ evaluate_number ws regs count n allowance
+  pub value_is : found r ≡ by_number (evaluate_number ws regs count n allowance) (value_at ws regs n)
+  pub visits_is : r.visits ≡ by_number (evaluate_number ws regs count n allowance) (visits_at ws regs n)
 
 -- a larger allowance never alters a value once given, nor the visits made
 abbrev pub MoreVisits : Type 0

@@ -2,8 +2,8 @@
 use Rattle.std.specs.Prelude.{List, ℕ, suc, ◌+◌}
 use Rattle.terms.specs.Expr.{Expr, Var, Const, Bv, Compare, Ite, Extract, Concat, ZeroExtend, SignExtend}
 use Rattle.terms.specs.Value.{value, ite}
-use Rattle.pool.specs.Unfold.{unfoldAt}
-use Rattle.wide.specs.Registers.{registersOf}
+use Rattle.pool.specs.Unfold.{unfold_at}
+use Rattle.wide.specs.Registers.{registers_of}
 
 -- each visit counts one, to a shared node too: of an Ite the condition and the chosen arm are visited, of any other term all operands
 unfoldable pub visits : (ℕ → ℕ) → Expr → ℕ
@@ -19,7 +19,7 @@ visits r (SignExtend a w) = suc (visits r a)
 
 -- of node n, at the start that 64 words hold
 unfoldable pub value_at : List ℕ → List ℕ → ℕ → ℕ
-value_at ws regs n = value (registersOf regs) (unfoldAt ws n)
+value_at ws regs n = value (registers_of regs) (unfold_at ws n)
 
-unfoldable pub visitsAt : List ℕ → List ℕ → ℕ → ℕ
-visitsAt ws regs n = visits (registersOf regs) (unfoldAt ws n)
+unfoldable pub visits_at : List ℕ → List ℕ → ℕ → ℕ
+visits_at ws regs n = visits (registers_of regs) (unfold_at ws n)

@@ -1,13 +1,13 @@
 // The value of a pool's node at a start, with a number of visits that may be made.
 ghost use Rattle.std.specs.Prelude.{◌≡◌, false, ◌≤◌, ◌<◌};
-ghost use Rattle.pool.specs.Node.{kindNumber, kind_at};
+ghost use Rattle.pool.specs.Node.{kind_number, kind_at};
 ghost use Rattle.terms.specs.Value.{bit as bit_of};
 ghost use Rattle.pool_fields.specs.Fields.{op_a, op_b};
 ghost use Rattle.text_parts.specs.Text.{Ready, single};
 ghost use Rattle.wide.specs.Number.{num};
-ghost use Rattle.evaluate.specs.Answer.{noValue, Answered};
+ghost use Rattle.evaluate.specs.Answer.{no_value, Answered};
 ghost use Rattle.evaluate.specs.Visits.{value_at};
-ghost use Rattle.evaluate.specs.Step.{held, Visited, nodeValue, OperandsOf, OperandsAt, appliedAt, InWords};
+ghost use Rattle.evaluate.specs.Step.{held, Visited, node_value, OperandsOf, OperandsAt, applied_at, InWords};
 
 use pool::words::{Kind, kind_of, width_of};
 use pool::{Bit, Node};
@@ -57,7 +57,7 @@ fn bit(b: bool) -> Wide
 
 // The value of a Var or a Const.
 fn leaf(p: &[u64], n: Node, start: &[u64; 64]) -> Wide
-    requires { Ready p.now n.0 × (kindNumber p.now n.0 < 3) }
+    requires { Ready p.now n.0 × (kind_number p.now n.0 < 3) }
     ensures { num result ≡ value_at p.now start.now n.0 }
 {
     if kind_of(p, n) == Kind::VAR {
@@ -78,7 +78,7 @@ fn leaf(p: &[u64], n: Node, start: &[u64; 64]) -> Wide
 // The value of a node from its operands' values a and b: wa and wb are their widths, w is its own, x and y are words 2 and 3.
 fn apply(k: u64, a: Wide, b: Wide, wa: u64, wb: u64, w: u64, x: u64, y: u64) -> Wide
     requires { OperandsOf (kind_at k) wa wb w x y (num a) (num b) × (3 ≤ k) × (k < 20) × (k ≡ 15 → ⊥) }
-    ensures { num result ≡ nodeValue (kind_at k) wa wb w x y (num a) (num b) }
+    ensures { num result ≡ node_value (kind_at k) wa wb w x y (num a) (num b) }
 {
     match k {
         Kind::ADD => bv_add(a, b, wa),
@@ -102,9 +102,9 @@ fn apply(k: u64, a: Wide, b: Wide, wa: u64, wb: u64, w: u64, x: u64, y: u64) -> 
 
 // The value of a node with operands that is no Ite, from their values a and b.
 fn applied(p: &[u64], n: Node, k: u64, a: Wide, b: Wide) -> Wide
-    requires ready { Ready p.now n.0 × (k ≡ kindNumber p.now n.0) × (3 ≤ k) × (k ≡ 15 → ⊥) }
+    requires ready { Ready p.now n.0 × (k ≡ kind_number p.now n.0) × (3 ≤ k) × (k ≡ 15 → ⊥) }
     requires operands_at { OperandsAt p.now n.0 (num a) (num b) }
-    ensures { num result ≡ appliedAt p.now n.0 (num a) (num b) }
+    ensures { num result ≡ applied_at p.now n.0 (num a) (num b) }
 {
     let wa = width_of(p, first(p, n));
     let w = width_of(p, n);
@@ -119,9 +119,9 @@ fn applied(p: &[u64], n: Node, k: u64, a: Wide, b: Wide) -> Wide
 
 // The value of a node that is no Ite, from its operands' values in a and b, to a.
 fn combine(p: &&[u64], n: Node, start: &[u64; 64], a: &mut [u64; 3], b: &[u64; 3])
-    requires ready { Ready p.now.now n.0 × (kindNumber p.now.now n.0 ≡ 15 → ⊥) × InWords start.now }
-    requires a_value { 3 ≤ kindNumber p.now.now n.0 → held a.old ≡ value_at p.now.now start.now (op_a p.now.now n.0) }
-    requires b_value { 3 ≤ kindNumber p.now.now n.0 → single (kindNumber p.now.now n.0) ≡ false → held b.now ≡ value_at p.now.now start.now (op_b p.now.now n.0) }
+    requires ready { Ready p.now.now n.0 × (kind_number p.now.now n.0 ≡ 15 → ⊥) × InWords start.now }
+    requires a_value { 3 ≤ kind_number p.now.now n.0 → held a.old ≡ value_at p.now.now start.now (op_a p.now.now n.0) }
+    requires b_value { 3 ≤ kind_number p.now.now n.0 → single (kind_number p.now.now n.0) ≡ false → held b.now ≡ value_at p.now.now start.now (op_b p.now.now n.0) }
     ensures { held a.new ≡ value_at p.now.now start.now n.0 }
 {
     let k = kind_of(*p, n);
@@ -181,7 +181,7 @@ fn words_of(s: &[u64]) -> u64
 }
 
 // A number of document 02, the value in three words, the lowest first, and the visits made.
-#[derive(Drop)]
+#[derive(Clone, Copy)]
 pub struct Evaluated {
     pub number: u64,
     pub low: u64,
@@ -191,7 +191,7 @@ pub struct Evaluated {
 }
 
 fn refused(number: u64) -> Evaluated
-    ensures { result ≡ noValue number }
+    ensures { result ≡ no_value number }
 {
     Evaluated {
         number,

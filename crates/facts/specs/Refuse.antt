@@ -6,11 +6,11 @@ abbrev pub unless : Bool → ℕ → ℕ → ℕ
 unless holds k rest = cond holds rest k
 
 -- what comes back beside a number: 0 with a refusal
-abbrev pub byNumber : (number x : ℕ) → ℕ
-byNumber zero x = x
-byNumber (suc k) x = 0
+abbrev pub by_number : (number x : ℕ) → ℕ
+by_number zero x = x
+by_number (suc k) x = 0
 
 -- what was written and the old after it; a refusal writes nothing
-abbrev pub listBy : (number : ℕ) (new old : List ℕ) → List ℕ
-listBy zero new old = new ++ drop (length new) old
-listBy (suc k) new old = old
+abbrev pub list_by : (number : ℕ) (new old : List ℕ) → List ℕ
+list_by zero new old = new ++ drop (length new) old
+list_by (suc k) new old = old

@@ -2,19 +2,19 @@
 use Rattle.std.specs.Prelude.{List, [], ◌∷◌, ◌++◌, ◌≡◌, ℕ, ◌+◌, ◌≤◌}
 use Rattle.neon.specs.declared.Instruction.{Instruction}
 use Rattle.neon.specs.Refusal.{reserve, AllLegal}
-use Rattle.line_output.specs.Answer.{roomNumber, written}
-use Rattle.line.specs.Line.{recordText}
+use Rattle.line_output.specs.Answer.{room_number, written}
+use Rattle.line.specs.Line.{record_text}
 use Rattle.line.specs.Output.{output}
 use Rattle.line_records.specs.Line.{lines}
 use Rattle.forms_list.specs.Forms.{forms}
 
 -- 0 and the text of register d; 9 exactly when that text passes 65,536 bytes
-abbrev pub answerTo : Instruction → List ℕ
-answerTo c = written (roomNumber (recordText c)) (recordText c)
+abbrev pub answer_to : Instruction → List ℕ
+answer_to c = written (room_number (record_text c)) (record_text c)
 
 unfoldable pub answers : List Instruction → List ℕ
 answers [] = []
-answers (c ∷ cs) = answerTo c ++ answers cs
+answers (c ∷ cs) = answer_to c ++ answers cs
 
 -- legal records, in columns: these are the answers, if the pool has room for a block of one
 abbrev pub LegalAnswered : Type 0

@@ -5,28 +5,28 @@ use mathlib.Core.List.{[]}
 use Prim.Native.Nat.{ℕ, ◌≤◌, ◌<◌}
 use native.Mathlib.Omega.{arith}
 use borrow.Author.Tests.{le-leb}
-use Rattle.neon.specs.Op.{Op, opAt, arrangementAt, isArrangement, laneBits}
-use Rattle.neon.specs.Form.{hasForm, hasSecond, least, most, formCodeAt}
+use Rattle.neon.specs.Op.{Op, op_at, arrangement_at, is_arrangement, bits_of_lane}
+use Rattle.neon.specs.Form.{has_form, has_second, least, most, form_code_at}
 use Rattle.neon_form.proofs.Parts.{without}
 use Rattle.text_series.specs.Series.{up_to}
 use Rattle.forms_list.specs.Forms.{second_of}
-use Rattle.forms_list.specs.Texts.{immediatesText, arrangementText}
+use Rattle.forms_list.specs.Texts.{immediates_text, arrangement_text}
 
 no-form : (a b : Bool) → a ≡ true → (a && b) ≡ false → b ≡ false
 no-form true b h e = e
 no-form false b h e = absurd (let z : ◌≡◌ {A = ℕ} 0 1 = cc in omega arith)
 
-pub nothing : (k a : ℕ) → 1 ≤ k → k ≤ 67 → a ≤ 6 → formCodeAt k a ≡ 0 → arrangementText k a ≡ []
-unfolding arrangementText up_to
-nothing k a l h g e = rw (no-form (isArrangement a) (hasForm (opAt k) (arrangementAt a)) (le-leb a 6 g) (without k a l h e))
+pub nothing : (k a : ℕ) → 1 ≤ k → k ≤ 67 → a ≤ 6 → form_code_at k a ≡ 0 → arrangement_text k a ≡ []
+unfolding arrangement_text up_to
+nothing k a l h g e = rw (no-form (is_arrangement a) (has_form (op_at k) (arrangement_at a)) (le-leb a 6 g) (without k a l h e))
 
-pub rows : (k a : ℕ) → hasForm (opAt k) (arrangementAt a) ≡ true
-    → immediatesText k a (least (opAt k)) (most (opAt k) (laneBits (arrangementAt a))) (second_of (opAt k)) ≡ arrangementText k a
-unfolding arrangementText immediatesText
+pub rows : (k a : ℕ) → has_form (op_at k) (arrangement_at a) ≡ true
+    → immediates_text k a (least (op_at k)) (most (op_at k) (bits_of_lane (arrangement_at a))) (second_of (op_at k)) ≡ arrangement_text k a
+unfolding arrangement_text immediates_text
 rows k a h = rw h
 
 pub second-small : (o : Op) → second_of o < 10000
-second-small o = go (hasSecond o)
+second-small o = go (has_second o)
   where
     go : (b : Bool) → cond b 2 0 < 10000
     go true = omega arith

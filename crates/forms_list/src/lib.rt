@@ -4,7 +4,7 @@ ghost use Rattle.text_digits.specs.Writing.{Room, Wrote};
 ghost use Rattle.neon_form.specs.Code.{OfCode};
 ghost use Rattle.line_records.specs.Line.{lines};
 ghost use Rattle.forms_list.specs.Forms.{second_of, forms};
-ghost use Rattle.forms_list.specs.Texts.{immediatesText, arrangementText, operationText, formsText};
+ghost use Rattle.forms_list.specs.Texts.{immediates_text, arrangement_text, operation_text, forms_text};
 
 use line_records::put_line;
 use neon::form_code;
@@ -31,8 +31,8 @@ fn put_immediates(
     at: usize,
 ) -> usize
     requires operation_bound { (operation < 10000) × (arrangement < 10000) × (most < 10000) × (m < 10000) }
-    requires room { Room buf.old at (immediatesText operation arrangement least most m) }
-    ensures { Wrote buf.old at (immediatesText operation arrangement least most m) result buf.new }
+    requires room { Room buf.old at (immediates_text operation arrangement least most m) }
+    ensures { Wrote buf.old at (immediates_text operation arrangement least most m) result buf.new }
 {
     let mut i = least;
     let mut end = at;
@@ -46,8 +46,8 @@ fn put_immediates(
 // Writes the lines of an operation at an arrangement.
 fn put_arrangement(operation: u64, arrangement: u64, buf: &mut [u8], at: usize) -> usize
     requires le_operation { (1 ≤ operation) × (operation ≤ 67) × (arrangement ≤ 6) }
-    requires room { Room buf.old at (arrangementText operation arrangement) }
-    ensures { Wrote buf.old at (arrangementText operation arrangement) result buf.new }
+    requires room { Room buf.old at (arrangement_text operation arrangement) }
+    ensures { Wrote buf.old at (arrangement_text operation arrangement) result buf.new }
 {
     let code = form_code(operation, arrangement);
     if code == 0 {
@@ -61,8 +61,8 @@ fn put_arrangement(operation: u64, arrangement: u64, buf: &mut [u8], at: usize) 
 // Writes the lines of an operation.
 fn put_operation(operation: u64, buf: &mut [u8], at: usize) -> usize
     requires le_operation { (1 ≤ operation) × (operation ≤ 67) }
-    requires room { Room buf.old at (operationText operation) }
-    ensures { Wrote buf.old at (operationText operation) result buf.new }
+    requires room { Room buf.old at (operation_text operation) }
+    ensures { Wrote buf.old at (operation_text operation) result buf.new }
 {
     let mut arrangement = 0;
     let mut end = at;
@@ -75,8 +75,8 @@ fn put_operation(operation: u64, buf: &mut [u8], at: usize) -> usize
 
 // Writes the lines of all operations.
 fn put_forms(buf: &mut [u8], at: usize) -> usize
-    requires { Room buf.old at formsText }
-    ensures { Wrote buf.old at formsText result buf.new }
+    requires { Room buf.old at forms_text }
+    ensures { Wrote buf.old at forms_text result buf.new }
 {
     let mut operation = 0;
     let mut end = at;

@@ -13,20 +13,20 @@ abbrev pub inverted : ℕ → Bool
 inverted l = eqb (l % 2) 1
 
 -- word k of a graph: the two literals of gate k
-abbrev pub gateWord : (a b : ℕ) → ℕ
-gateWord a b = a + 4294967296 * b
+abbrev pub gate_word : (a b : ℕ) → ℕ
+gate_word a b = a + 4294967296 * b
 
 abbrev pub left_of : ℕ → ℕ
 left_of w = w % 4294967296
 
-abbrev pub rightOf : ℕ → ℕ
-rightOf w = w / 4294967296
+abbrev pub right_of : ℕ → ℕ
+right_of w = w / 4294967296
 
 abbrev pub left_at : List ℕ → ℕ → ℕ
 left_at g k = left_of (get_or g k 0)
 
-abbrev pub rightAt : List ℕ → ℕ → ℕ
-rightAt g k = rightOf (get_or g k 0)
+abbrev pub right_at : List ℕ → ℕ → ℕ
+right_at g k = right_of (get_or g k 0)
 
 -- x, inverted if i
 abbrev pub flip : Bool → Bool → Bool
@@ -34,9 +34,9 @@ flip true x = not x
 flip false x = x
 
 -- the constant and the registers' bits at a start
-unfoldable pub inputTruth : (ℕ → ℕ) → ℕ → Bool
-inputTruth start zero = false
-inputTruth start (suc v) = eqb (start (v / 128) / 2 ^ (v % 128) % 2) 1
+unfoldable pub input_truth : (ℕ → ℕ) → ℕ → Bool
+input_truth start zero = false
+input_truth start (suc v) = eqb (start (v / 128) / 2 ^ (v % 128) % 2) 1
 
 -- an operand comes before its gate; one that does not is false
 abbrev pub earlier : Bool → Bool → Bool
@@ -44,30 +44,30 @@ earlier true x = x
 earlier false x = false
 
 -- the truth of a variable at a start, at most f gates deep
-unfoldable pub variableTo : ℕ → (ℕ → ℕ) → List ℕ → ℕ → Bool
-variableTo zero start g v = false
-variableTo (suc f) start g v =
+unfoldable pub variable_to : ℕ → (ℕ → ℕ) → List ℕ → ℕ → Bool
+variable_to zero start g v = false
+variable_to (suc f) start g v =
     let a = left_at g (v - inputs) in
-    let b = rightAt g (v - inputs) in
-    cond (ltb v inputs) (inputTruth start v)
-    (flip (inverted a) (earlier (ltb (variable a) v) (variableTo f start g (variable a)))
-    && flip (inverted b) (earlier (ltb (variable b) v) (variableTo f start g (variable b))))
+    let b = right_at g (v - inputs) in
+    cond (ltb v inputs) (input_truth start v)
+    (flip (inverted a) (earlier (ltb (variable a) v) (variable_to f start g (variable a)))
+    && flip (inverted b) (earlier (ltb (variable b) v) (variable_to f start g (variable b))))
 
 -- operands have smaller variables, so v + 1 levels are enough
-unfoldable pub variableTruth : (ℕ → ℕ) → List ℕ → ℕ → Bool
-variableTruth start g v = variableTo (suc v) start g v
+unfoldable pub variable_truth : (ℕ → ℕ) → List ℕ → ℕ → Bool
+variable_truth start g v = variable_to (suc v) start g v
 
 -- the truth of a literal at a start
 abbrev pub truth : (ℕ → ℕ) → List ℕ → ℕ → Bool
-truth start g l = flip (inverted l) (variableTruth start g (variable l))
+truth start g l = flip (inverted l) (variable_truth start g (variable l))
 
 -- both literals of each of the first `count` gates come before it, and the graph has so many words
-abbrev pub gateOk : List ℕ → ℕ → Bool
-gateOk g k = ltb (variable (left_at g k)) (inputs + k) && ltb (variable (rightAt g k)) (inputs + k)
+abbrev pub gate_ok : List ℕ → ℕ → Bool
+gate_ok g k = ltb (variable (left_at g k)) (inputs + k) && ltb (variable (right_at g k)) (inputs + k)
 
-unfoldable pub gatesOk : List ℕ → ℕ → Bool
-gatesOk g zero = true
-gatesOk g (suc k) = gatesOk g k && gateOk g k
+unfoldable pub gates_ok : List ℕ → ℕ → Bool
+gates_ok g zero = true
+gates_ok g (suc k) = gates_ok g k && gate_ok g k
 
-unfoldable pub graphOk : List ℕ → ℕ → Bool
-graphOk g count = ltb count (suc (length g)) && gatesOk g count
+unfoldable pub graph_ok : List ℕ → ℕ → Bool
+graph_ok g count = ltb count (suc (length g)) && gates_ok g count

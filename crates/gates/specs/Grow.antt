@@ -1,10 +1,10 @@
 -- A graph that grows by gates: what is kept, and what a builder of a literal says.
 use Rattle.std.specs.Prelude.{Bool, true, List, ◌≡◌, ℕ, ◌+◌, ◌-◌, ◌*◌, ◌/◌, ◌%◌, ◌≤◌, ◌<◌, length, get_or}
-use Rattle.gates.specs.Graph.{inputs, truth, gatesOk}
+use Rattle.gates.specs.Graph.{inputs, truth, gates_ok}
 
 -- the literal of gate k, and the other literal of a variable
-abbrev pub literalOf : ℕ → ℕ
-literalOf k = 2 * (inputs + k)
+abbrev pub literal_of : ℕ → ℕ
+literal_of k = 2 * (inputs + k)
 
 abbrev pub negated : ℕ → ℕ
 negated l = l / 2 * 2 + (1 - l % 2)
@@ -23,7 +23,7 @@ pub record Grown (old : List ℕ) (k : ℕ) (new : List ℕ) (k' : ℕ) : Type 0
   pub long : length new ≡ length old
   pub more : k ≤ k'
   pub kept : (i : ℕ) → i < k → get_or new i 0 ≡ get_or old i 0
-  pub valid : gatesOk old k ≡ true → gatesOk new k' ≡ true
+  pub valid : gates_ok old k ≡ true → gates_ok new k' ≡ true
 
 -- a builder of at most m gates: its answer r is a literal whose truth at every start is f of it
 pub record Builds (old : List ℕ) (k : ℕ) (new : List ℕ) (r k' m : ℕ) (f : (ℕ → ℕ) → Bool) : Type 0 where

@@ -1,7 +1,7 @@
 // And-inverter graphs: the gates that the bits of terms are made of. specs/ has what a literal means.
 
 // A literal of a graph: twice a variable's number, plus 1 if it is inverted.
-#[derive(Drop)]
+#[derive(Clone, Copy)]
 pub struct Literal(pub u64);
 
 impl Literal {

@@ -7,8 +7,8 @@ use native.Mathlib.Omega.{arith}
 use lib.Dec.{eqb}
 use lib.ListN.{length, get_or}
 use borrow.Author.Tests.{eqb-true, eqb-false}
-use Rattle.gates.specs.Graph.{truth, gateWord}
-use Rattle.gates.specs.Grow.{Room, Builds, Under, negated, literalOf}
+use Rattle.gates.specs.Graph.{truth, gate_word}
+use Rattle.gates.specs.Grow.{Room, Builds, Under, negated, literal_of}
 use Rattle.gates.proofs.Truth.{false-truth, true-truth}
 use Rattle.gates.proofs.Laws.{Is, is-itself, negated-truth, gate-is, stays}
 use Rattle.gates_build.specs.Find.{Finds}
@@ -49,7 +49,7 @@ module _ (g : List ℕ) (k a b : ℕ) where
             (ap (λ (x : Bool). truth start g a && x) (negated-truth start g a) ∙ and-not_self (truth start g a));
       }))
 
-  pub with-found : (r : ℕ) → k ≤ 2147479551 → a ≤ b → Under b k → r < k → Finds g k (gateWord a b) b r → Builds g k g (literalOf r) k 1 (Both g a b)
+  pub with-found : (r : ℕ) → k ≤ 2147479551 → a ≤ b → Under b k → r < k → Finds g k (gate_word a b) b r → Builds g k g (literal_of r) k 1 (Both g a b)
   with-found r small le u h f =
       stays
       (record {

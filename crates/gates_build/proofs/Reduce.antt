@@ -8,7 +8,7 @@ use native.Mathlib.Omega.{arith}
 use lib.Dec.{eqb}
 use lib.ListN.{length, get_or}
 use borrow.Author.Tests.{eqb-true, eq-eqb, ne_eqb}
-use Rattle.gates.specs.Graph.{inputs, left_at, rightAt, flip, inverted, variableTruth, truth}
+use Rattle.gates.specs.Graph.{inputs, left_at, right_at, flip, inverted, variable_truth, truth}
 use Rattle.gates.specs.Grow.{Builds, Under, negated}
 use Rattle.gates.proofs.Truth.{gate-truth, false-truth, true-truth}
 use Rattle.gates.proofs.Laws.{negated-truth, by-another}
@@ -172,8 +172,8 @@ module _ {b x y : ℕ} where
         }
 
 -- a literal of a gate that comes after its operands
-pub gate-of-word : {g : List ℕ} {k b : ℕ} → Under b k → inputs ≤ b / 2 → left_at g (b / 2 - inputs) / 2 < b / 2 → rightAt g (b / 2 - inputs) / 2 < b / 2
-    → GateOf g k b (left_at g (b / 2 - inputs)) (rightAt g (b / 2 - inputs))
+pub gate-of-word : {g : List ℕ} {k b : ℕ} → Under b k → inputs ≤ b / 2 → left_at g (b / 2 - inputs) / 2 < b / 2 → right_at g (b / 2 - inputs) / 2 < b / 2
+    → GateOf g k b (left_at g (b / 2 - inputs)) (right_at g (b / 2 - inputs))
 gate-of-word {g} {k} {b} u l left right =
     let j = b / 2 - inputs in
     let whole : b / 2 ≡ inputs + j = omega (arith, l) in
@@ -182,7 +182,7 @@ gate-of-word {g} {k} {b} u l left right =
       left = omega (arith, u, left);
       right = omega (arith, u, right);
       is = λ start.
-          ap (λ (v : ℕ). flip (inverted b) (variableTruth start g v)) whole
+          ap (λ (v : ℕ). flip (inverted b) (variable_truth start g v)) whole
           ∙ ap (flip (inverted b)) (gate-truth start g j (omega (arith, whole, left)) (omega (arith, whole, right)));
     }
 

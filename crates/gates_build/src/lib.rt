@@ -1,13 +1,13 @@
 // Gates made one by one. Constants and operands of operands are folded, operands are in order, and a gate that is there already is found again.
 ghost use Rattle.std.specs.Prelude.{◌≡◌, not, ◌&&◌, ◌||◌, ◌+◌, ◌*◌, ◌/◌, ◌%◌, ◌-◌, ◌≤◌, ◌<◌, length, get_or};
-ghost use Rattle.gates.specs.Graph.{truth, gateWord};
+ghost use Rattle.gates.specs.Graph.{truth, gate_word};
 ghost use Rattle.gates_build.specs.Find.{Finds};
 ghost use Rattle.gates_build.specs.Reduce.{Ordered, Same, Absorbs};
 ghost use Rattle.gates_build.specs.Adds.{HalfAdds, FullAdds, differ, most, choose};
-ghost use Rattle.gates.specs.Grow.{Room, Builds, Under, negated, literalOf};
+ghost use Rattle.gates.specs.Grow.{Room, Builds, Under, negated, literal_of};
 
 // A literal that was built, and the count of gates after it.
-#[derive(Drop)]
+#[derive(Clone, Copy)]
 pub struct Made {
     pub literal: u64,
     pub count: usize,
@@ -149,7 +149,7 @@ fn and_ordered(graph: &mut [u64], count: usize, table: &mut [u64], a: u64, b: u6
 }
 
 // Two literals, the smaller one first.
-#[derive(Drop)]
+#[derive(Clone, Copy)]
 struct Pair {
     first: u64,
     second: u64,
@@ -278,7 +278,7 @@ pub fn or(graph: &mut [u64], count: usize, table: &mut [u64], a: u64, b: u64) ->
 }
 
 // The sum of bits: its carry and its lowest bit, and the count of gates after them.
-#[derive(Drop)]
+#[derive(Clone, Copy)]
 pub struct Sum {
     pub carry: u64,
     pub bit: u64,

@@ -99,10 +99,10 @@ copy-word {bits = bits} {from = from} le p word = word-by (puts_word (λ j. get_
 
 -- two operands before the word that is made
 pub first_of : {bits : List ℕ} {a b out w k : ℕ} → out + w ≤ length bits → Two bits a b out w k → Operand bits a out w k
-first_of le t = record { apart = inl t.first; inside = omega (arith, le, t.first); low = t.low-a }
+first_of le t = record { apart = inl t.first; inside = omega (arith, le, t.first); low = t.low_a }
 
 pub second-of : {bits : List ℕ} {a b out w k : ℕ} → out + w ≤ length bits → Two bits a b out w k → Operand bits b out w k
-second-of le t = record { apart = inl t.second; inside = omega (arith, le, t.second); low = t.low-b }
+second-of le t = record { apart = inl t.second; inside = omega (arith, le, t.second); low = t.low_b }
 
 -- ---- words side by side, and parts of words
 

@@ -10,7 +10,7 @@ use borrow.Author.Tests.{eqb-true, eqb-false}
 use Rattle.terms.specs.Value.{bit}
 use lib.Arith.{digits_div, sub-sub_self}
 use lib.Pow.{pow-add, pow_pos, pow_mono, shr-shr, shl-shr, mod-pow-add, ones_split, high_ones, shr_lt}
-use Rattle.gates_circuits.specs.Shift.{moved, movedIf, filledWith}
+use Rattle.gates_circuits.specs.Shift.{moved, moved_if, filled_with}
 
 mod_times : (x y p : ℕ) → x % p * y % p ≡ x * y % p
 mod_times x y p =
@@ -31,7 +31,7 @@ moved_more false true w n t s =
 moved_more false false w n t s = shr-shr n t s
 
 -- as far as the width or farther
-pub moved-far : (left filled : Bool) (w n t : ℕ) → n < 2 ^ w → w ≤ t → (left ≡ true → filled ≡ false) → moved left filled w n t ≡ filledWith filled w
+pub moved-far : (left filled : Bool) (w n t : ℕ) → n < 2 ^ w → w ≤ t → (left ≡ true → filled ≡ false) → moved left filled w n t ≡ filled_with filled w
 moved-far true filled w n t l h e =
     let d : t ≡ (t - w) + w = omega arith in
     rw (e refl) (ap (λ (x : ℕ). n * 2 ^ x % 2 ^ w) d ∙ rw (pow-add 2 (t - w) w, sym (mul_assoc n (2 ^ (t - w)) (2 ^ w)))
@@ -83,14 +83,14 @@ ones-parts n s m l =
     ∙ ap (λ (x : ℕ). (2 ^ (m + s) - 1) - x) (sym (inverted-high n s m l))
 
 -- down, by parts: what comes in is above the high bits
-pub right-parts : (filled : Bool) (n s w : ℕ) → n < 2 ^ w → s ≤ w → filledWith filled s * 2 ^ (w - s) + n / 2 ^ s ≡ moved false filled w n s
+pub right-parts : (filled : Bool) (n s w : ℕ) → n < 2 ^ w → s ≤ w → filled_with filled s * 2 ^ (w - s) + n / 2 ^ s ≡ moved false filled w n s
 right-parts false n s w l h = omega arith
 right-parts true n s w l h =
     let e : w ≡ (w - s) + s = omega arith in
     ones-parts n s (w - s) (subst (λ (x : ℕ). n < 2 ^ x) e l) ∙ ap (λ (x : ℕ). (2 ^ x - 1) - ((2 ^ x - 1) - n) / 2 ^ s) (sym e)
 
 -- one bit more of the amount
-pub moved-bit : (c left filled : Bool) (w n t s : ℕ) → movedIf c left filled w (moved left filled w n t) s ≡ moved left filled w n (t + bit c * s)
+pub moved-bit : (c left filled : Bool) (w n t s : ℕ) → moved_if c left filled w (moved left filled w n t) s ≡ moved left filled w n (t + bit c * s)
 moved-bit true left filled w n t s = moved_more left filled w n t s ∙ ap (λ (x : ℕ). moved left filled w n (t + x)) (sym (one-mul s))
 moved-bit false left filled w n t s = ap (moved left filled w n) (omega arith)
 
@@ -100,12 +100,12 @@ far-enough (suc q) p r t n e = omega (arith, suc-mul q p)
 
 -- the low bits of the amount, if the others are 0; else all is moved away
 pub moved_all : (left filled : Bool) (w n t i : ℕ) → n < 2 ^ w → w ≤ 2 ^ i → (left ≡ true → filled ≡ false)
-    → cond (eqb (t / 2 ^ i) 0) (moved left filled w n (t % 2 ^ i)) (filledWith filled w) ≡ moved left filled w n t
+    → cond (eqb (t / 2 ^ i) 0) (moved left filled w n (t % 2 ^ i)) (filled_with filled w) ≡ moved left filled w n t
 moved_all left filled w n t i l h e = go (eqb (t / 2 ^ i) 0) refl
   where
     whole : t / 2 ^ i * 2 ^ i + t % 2 ^ i ≡ t
     whole = div-add-mod' t (2 ^ i)
 
-    go : (b : Bool) → eqb (t / 2 ^ i) 0 ≡ b → cond b (moved left filled w n (t % 2 ^ i)) (filledWith filled w) ≡ moved left filled w n t
+    go : (b : Bool) → eqb (t / 2 ^ i) 0 ≡ b → cond b (moved left filled w n (t % 2 ^ i)) (filled_with filled w) ≡ moved left filled w n t
     go true z = ap (moved left filled w n) (sym (ap (λ (x : ℕ). x * 2 ^ i + t % 2 ^ i) (eqb-true (t / 2 ^ i) 0 z) ∙ omega arith) ∙ whole)
     go false z = sym (moved-far left filled w n t l (omega (arith, h, far-enough (t / 2 ^ i) (2 ^ i) (t % 2 ^ i) t (eqb-false (t / 2 ^ i) 0 z) whole)) e)

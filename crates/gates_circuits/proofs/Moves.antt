@@ -11,20 +11,20 @@ use Rattle.gates.proofs.Truth.{false-truth}
 use Rattle.gates_words.specs.Number.{sum, number}
 use Rattle.gates_words.specs.Words.{Low, Puts, Writes}
 use Rattle.gates.proofs.Laws.{grown-same}
-use Rattle.gates_words.specs.Bitwise.{iteOf}
+use Rattle.gates_words.specs.Bitwise.{ite_of}
 use Rattle.gates_words.proofs.Sums.{sum-not, sum-none}
 use Rattle.gates_circuits.specs.Makes.{From, Word, Makes}
-use Rattle.gates_circuits.specs.Shift.{moved, movedIf, filledWith, Keeps, Moves}
+use Rattle.gates_circuits.specs.Shift.{moved, moved_if, filled_with, Keeps, Moves}
 use Rattle.gates_circuits.proofs.Laws
 use Rattle.gates_circuits.proofs.Moved.{left-parts, right-parts}
 
-sum-filled : (b : Bool) (w : ℕ) → sum (λ j. b) w ≡ filledWith b w
+sum-filled : (b : Bool) (w : ℕ) → sum (λ j. b) w ≡ filled_with b w
 sum-filled true w = omega (arith, sum-not (λ j. false) w, sum-none (λ j. false) w (λ j l. refl))
 sum-filled false w = sum-none (λ j. false) w (λ j l. refl)
 
 -- one literal w times
 pub fill-word : {g bits new : List ℕ} {k out w l : ℕ} → out + w ≤ length bits → Under l k → Puts bits new out w (λ j. l)
-    → Word g k new out w (λ start. filledWith (truth start g l) w)
+    → Word g k new out w (λ start. filled_with (truth start g l) w)
 fill-word {g} {w = w} {l} le u p = Laws.word-by (Laws.puts_word (λ j. l) le p (λ j d. u)) (λ start. sum-filled (truth start g l) w)
 
 module _ {bits mid new : List ℕ} {out s w : ℕ} (h : s ≤ w) (le : out + 2 * w ≤ length bits) where
@@ -39,7 +39,7 @@ module _ {bits mid new : List ℕ} {out s w : ℕ} (h : s ≤ w) (le : out + 2 *
             let low = Laws.word_kept (fill-word {g = g} {k = k} (omega arith) (omega arith) p) (omega arith)
             (Laws.puts-from g k (λ j. get_or mid (out + j) 0) q) in
             Laws.word-by (Laws.word_wide (omega arith) (Laws.word-join low high))
-            (λ start. ap (λ (b : Bool). f start % 2 ^ (w - s) * 2 ^ s + filledWith b s) (false-truth start g) ∙ left-parts (f start) s w h);
+            (λ start. ap (λ (b : Bool). f start % 2 ^ (w - s) * 2 ^ s + filled_with b s) (false-truth start g) ∙ left-parts (f start) s w h);
       }
 
   pub right-made : {l : ℕ} → Puts bits mid (out + w) (w - s) (λ j. get_or bits (out + s + j) 0) → Puts mid new (out + w + (w - s)) s (λ j. l)
@@ -72,13 +72,13 @@ module _ {g bits mid : List ℕ} {k out s w l : ℕ} {left : Bool} (le : out + 2
   moved_word = mv.moves u there
 
   pub stage-made : {h new : List ℕ} {n : ℕ} (c : ℕ)
-      → Writes g k mid h n new out w (3 * w) (λ start. iteOf (truth start g c) (number start g mid (out + w) w) (number start g mid out w))
-      → Makes g k bits h n new out w (3 * w) (λ start. movedIf (truth start g c) left (truth start g l) w (number start g bits out w) s)
+      → Writes g k mid h n new out w (3 * w) (λ start. ite_of (truth start g c) (number start g mid (out + w) w) (number start g mid out w))
+      → Makes g k bits h n new out w (3 * w) (λ start. moved_if (truth start g c) left (truth start g l) w (number start g bits out w) s)
   stage-made c e =
       record {
         goes = Laws.from-most (omega arith) (Laws.from-trans (Laws.from-lower (omega arith) keeps-from) (omega arith) (Laws.run-from e.run));
         word = Laws.word-by (Laws.writes-word (omega (arith, le, mv.keeps.size)) e)
-            (λ start i. iteOf (truth start g c) (moved_word.is start i) (stays-word.is start i));
+            (λ start i. ite_of (truth start g c) (moved_word.is start i) (stays-word.is start i));
       }
 
 -- up and down, by the flag

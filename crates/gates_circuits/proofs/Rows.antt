@@ -20,14 +20,14 @@ use Rattle.gates_words.specs.Words.{Low, Puts, Writes}
 use Rattle.gates_words.specs.Adds.{Adds}
 use Rattle.gates_words.proofs.Sums.{sum-next, sum_lt}
 use Rattle.gates_circuits.specs.Makes.{From, Word, Makes, Two}
-use Rattle.gates_circuits.specs.Shift.{filledWith}
+use Rattle.gates_circuits.specs.Shift.{filled_with}
 use Rattle.gates_circuits.proofs.Laws
 use Rattle.gates_circuits.proofs.Moves.{fill-word}
 use Rattle.gates_circuits.proofs.Sum.{adds-word}
 
 -- ---- numbers
 
-masked : (c : Bool) (x n : ℕ) → bit_and (x % 2 ^ n) (filledWith c n) ≡ bit c * (x % 2 ^ n)
+masked : (c : Bool) (x n : ℕ) → bit_and (x % 2 ^ n) (filled_with c n) ≡ bit c * (x % 2 ^ n)
 masked true x n = and_mask (x % 2 ^ n) n ∙ mod-mod x (2 ^ n) ∙ sym (one-mul (x % 2 ^ n))
 masked false x n = and_zero_r (x % 2 ^ n) ∙ sym (zero-mul (x % 2 ^ n))
 
@@ -66,7 +66,7 @@ module _ {g bits mid : List ℕ} {k out w : ℕ} (a l j : ℕ) (le : out + 2 * w
   low_word =
       Laws.word_low (w - j) j (Laws.word_wide (omega arith) (Laws.word_kept (Laws.word-there bits a w (omega arith) lw) (omega arith) fill_step))
 
-  pub mask_word : Word g k mid (out + w) (w - j) (λ start. filledWith (truth start g l) (w - j))
+  pub mask_word : Word g k mid (out + w) (w - j) (λ start. filled_with (truth start g l) (w - j))
   mask_word = fill-word (omega arith) u p
 
   out-word : Word g k mid out w (λ start. number start g bits out w)
@@ -133,10 +133,10 @@ rows_none g k bits a b out w m le low =
 module _ {g bits h new : List ℕ} {k n out w m : ℕ} (a b j : ℕ) (le : out + 2 * w ≤ length bits) (two : Two bits a b out w k)
     (e : RowsTo g k bits h n new a b out w j m) where
   pub first-still : Word h n new a w (λ start. number start g bits a w)
-  first-still = Laws.word_kept (Laws.word-there bits a w (omega (arith, le, two.first)) two.low-a) two.first e.goes
+  first-still = Laws.word_kept (Laws.word-there bits a w (omega (arith, le, two.first)) two.low_a) two.first e.goes
 
   second-still : Word h n new b w (λ start. number start g bits b w)
-  second-still = Laws.word_kept (Laws.word-there bits b w (omega (arith, le, two.second)) two.low-b) two.second e.goes
+  second-still = Laws.word_kept (Laws.word-there bits b w (omega (arith, le, two.second)) two.low_b) two.second e.goes
 
   pub bit-low : j < w → Under (get_or new (b + j) 0) n
   bit-low l = second-still.low j l
@@ -153,7 +153,7 @@ module _ {g bits h new : List ℕ} {k n out w m : ℕ} (a b j : ℕ) (le : out +
             let y = number start g bits a w in
             let t : truth start h c ≡ bit_at start g bits b j =
             ap (truth start h) (ec ∙ e.goes.before (b + j) (omega (arith, two.second, l))) ∙ same_truth start g h k (get_or bits (b + j) 0)
-            e.goes.grown.kept (two.low-b j l) in
+            e.goes.grown.kept (two.low_b j l) in
             (λ i. (e.word.is start i + bit (t i) * first-still.is start i * 2 ^ j) % 2 ^ w)
             ∙ next_row (bit_at start g bits b j) x y (number start g bits b j) (2 ^ j) (2 ^ w)
             ∙ ap (λ (z : ℕ). (x + y * z) % 2 ^ w) (sym (sum-next (bit_at start g bits b) j)));
@@ -171,16 +171,16 @@ module _ (g : List ℕ) {bits mid : List ℕ} {k a b out w : ℕ} (le : out + 2 
   zero-step = Laws.puts-from g k (λ i. 0) p
 
   pub nothing : Word g k mid out w (λ start. 0)
-  nothing = Laws.word-by (fill-word (omega arith) (omega arith) p) (λ start. ap (λ (t : Bool). filledWith t w) (false-truth start g))
+  nothing = Laws.word-by (fill-word (omega arith) (omega arith) p) (λ start. ap (λ (t : Bool). filled_with t w) (false-truth start g))
 
   first-there : Word g k mid a w (λ start. number start g bits a w)
-  first-there = Laws.word_kept (Laws.word-there bits a w (omega (arith, le, two.first)) two.low-a) two.first zero-step
+  first-there = Laws.word_kept (Laws.word-there bits a w (omega (arith, le, two.first)) two.low_a) two.first zero-step
 
   second-there : Word g k mid b w (λ start. number start g bits b w)
-  second-there = Laws.word_kept (Laws.word-there bits b w (omega (arith, le, two.second)) two.low-b) two.second zero-step
+  second-there = Laws.word_kept (Laws.word-there bits b w (omega (arith, le, two.second)) two.low_b) two.second zero-step
 
   pub two-there : Two mid a b out w k
-  two-there = record { first = two.first; second = two.second; low-a = first-there.low; low-b = second-there.low }
+  two-there = record { first = two.first; second = two.second; low_a = first-there.low; low_b = second-there.low }
 
   pub product-made : {h new : List ℕ} {n : ℕ} → RowsTo g k mid h n new a b out w w (10 * w * w)
       → Makes g k bits h n new out w (10 * w * w) (λ start. bvmul w (number start g bits a w) (number start g bits b w))
@@ -195,7 +195,7 @@ module _ (g : List ℕ) {bits mid : List ℕ} {k a b out w : ℕ} (le : out + 2 
       }
 
 pub two-swapped : {bits : List ℕ} {a b out w k : ℕ} → Two bits a b out w k → Two bits b a out w k
-two-swapped t = record { first = t.second; second = t.first; low-a = t.low-b; low-b = t.low-a }
+two-swapped t = record { first = t.second; second = t.first; low_a = t.low_b; low_b = t.low_a }
 
 pub product-swapped : {g bits h new : List ℕ} {k n out w m : ℕ} (a b : ℕ)
     → Makes g k bits h n new out w m (λ start. bvmul w (number start g bits b w) (number start g bits a w))

@@ -16,7 +16,7 @@ use Rattle.gates_words.specs.Number.{bit_at, number}
 use Rattle.gates_words.specs.Words.{Low, Puts}
 use Rattle.gates_words.proofs.Sums.{sum_lt, sum_top}
 use Rattle.gates_circuits.specs.Makes.{From, Word, Makes, Two}
-use Rattle.gates_circuits.specs.Shift.{moved, filledWith, Stages}
+use Rattle.gates_circuits.specs.Shift.{moved, filled_with, Stages}
 use Rattle.gates_circuits.proofs.Laws
 use Rattle.gates_circuits.proofs.Moved.{moved_all}
 
@@ -26,10 +26,10 @@ module _ {g bits mid : List ℕ} {k a b out w : ℕ} (le : out + 2 * w ≤ lengt
   copy_step = Laws.puts-from g k (λ j. get_or bits (a + j) 0) p
 
   pub copied : Word g k mid out w (λ start. number start g bits a w)
-  copied = Laws.copy-word (omega arith) p (Laws.word-there bits a w (omega (arith, le, two.first)) two.low-a)
+  copied = Laws.copy-word (omega arith) p (Laws.word-there bits a w (omega (arith, le, two.first)) two.low_a)
 
   pub amount : Word g k mid b w (λ start. number start g bits b w)
-  amount = Laws.word_kept (Laws.word-there bits b w (omega (arith, le, two.second)) two.low-b) two.second copy_step
+  amount = Laws.word_kept (Laws.word-there bits b w (omega (arith, le, two.second)) two.low_b) two.second copy_step
 
   module _ {h new : List ℕ} {n i : ℕ} (left : Bool) (l : ℕ) (s : Stages g k mid h n new left l b out w i) where
     amount-low : Word g k mid b i (λ start. number start g bits b w % 2 ^ i)
@@ -40,7 +40,7 @@ module _ {g bits mid : List ℕ} {k a b out w : ℕ} (le : out + 2 * w ≤ lengt
 
     pub shift_made : {j end : List ℕ} {r : ℕ} → Under l k → (left ≡ true → l ≡ 0)
         → Makes h n new j r end out w (7 * w) (λ start. cond (eqb (number start h new (b + i) (w - i)) 0) (number start h new out w)
-        (filledWith (truth start h l) w))
+        (filled_with (truth start h l) w))
         → Makes g k bits j r end out w (31 * w) (λ start. moved left (truth start g l) w (number start g bits a w) (number start g bits b w))
     shift_made u z e =
         record {
@@ -50,7 +50,7 @@ module _ {g bits mid : List ℕ} {k a b out w : ℕ} (le : out + 2 * w ≤ lengt
               (λ t.
               cond (eqb (amount-high.is start t) 0)
               ((s.makes.word.is start ∙ (λ v. moved left (truth start g l) w (copied.is start v) (amount-low.is start v))) t)
-              (filledWith (same_truth start g h k l s.makes.goes.grown.kept u t) w))
+              (filled_with (same_truth start g h k l s.makes.goes.grown.kept u t) w))
               ∙ moved_all left (truth start g l) w (number start g bits a w) (number start g bits b w) i (sum_lt (bit_at start g bits a) w) s.far
               (λ q. ap (truth start g) (z q) ∙ false-truth start g));
         }

@@ -18,10 +18,10 @@ use Rattle.gates.proofs.Truth.{same_truth, false-truth}
 use Rattle.gates.proofs.Laws.{grown-same}
 use Rattle.gates_words.specs.Number.{sum, bit_at, number}
 use Rattle.gates_words.specs.Words.{Low, Reads, Puts, Writes}
-use Rattle.gates_words.specs.Bitwise.{iteOf}
+use Rattle.gates_words.specs.Bitwise.{ite_of}
 use Rattle.gates_words.proofs.Sums.{sum-next, sum_lt}
 use Rattle.gates_circuits.specs.Makes.{From, Word, Makes}
-use Rattle.gates_circuits.specs.Shift.{moved, movedIf, filledWith, Stages}
+use Rattle.gates_circuits.specs.Shift.{moved, moved_if, filled_with, Stages}
 use Rattle.gates_circuits.proofs.Laws
 use Rattle.gates_circuits.proofs.Moved.{moved_none, moved-bit}
 use Rattle.gates_circuits.proofs.Moves.{fill-word}
@@ -45,7 +45,7 @@ stages-none g k bits left l b out w m le low e =
 
 pub stages-more : {g bits h new h' new' : List ℕ} {k n n' : ℕ} (left : Bool) (l b : ℕ) {out w i m m' all s c : ℕ} → MovedTo g k bits h n new left l b out w i m
     → b + w ≤ out → Low bits b w k → Under l k → i < w → s ≡ 2 ^ i → c ≡ get_or new (b + i) 0
-    → Makes h n new h' n' new' out w m' (λ start. movedIf (truth start h c) left (truth start h l) w (number start h new out w) s) → m + m' ≤ all
+    → Makes h n new h' n' new' out w m' (λ start. moved_if (truth start h c) left (truth start h l) w (number start h new out w) s) → m + m' ≤ all
     → MovedTo g k bits h' n' new' left l b out w (i + 1) all
 stages-more {g} {bits} {h} {new} {k = k} left l b {out} {w} {i} {c = c} e lb low u li es ec d le =
     record {
@@ -54,7 +54,7 @@ stages-more {g} {bits} {h} {new} {k = k} left l b {out} {w} {i} {c = c} e lb low
           (λ start.
           let ct : truth start h c ≡ bit_at start g bits b i =
           ap (truth start h) (ec ∙ e.goes.before (b + i) (omega arith)) ∙ same_truth start g h k (get_or bits (b + i) 0) e.goes.grown.kept (low i li) in
-          (λ z. movedIf (ct z) left (same_truth start g h k l e.goes.grown.kept u z) w (e.word.is start z) (es z))
+          (λ z. moved_if (ct z) left (same_truth start g h k l e.goes.grown.kept u z) w (e.word.is start z) (es z))
           ∙ moved-bit (bit_at start g bits b i) left (truth start g l) w (number start g bits out w) (number start g bits b i) (2 ^ i)
           ∙ ap (moved left (truth start g l) w (number start g bits out w)) (sym (sum-next (bit_at start g bits b) i)));
     }
@@ -97,7 +97,7 @@ module _ {g bits mid : List ℕ} {k l n out w : ℕ} (b : ℕ) (le : out + 2 * w
   amount-word = Laws.word_kept (Laws.word-there bits b n (omega arith) ln) (omega arith) zeros-step
 
   pub zeros-word : Word g k mid (out + w) n (λ start. 0)
-  zeros-word = Laws.word-by (fill-word (omega arith) (omega arith) p) (λ start. ap (λ (t : Bool). filledWith t n) (false-truth start g))
+  zeros-word = Laws.word-by (fill-word (omega arith) (omega arith) p) (λ start. ap (λ (t : Bool). filled_with t n) (false-truth start g))
 
   value-word : Word g k mid out w (λ start. number start g bits out w)
   value-word = Laws.word_kept (Laws.word-there bits out w (omega arith) lo) (omega arith) zeros-step
@@ -110,22 +110,22 @@ module _ {g bits mid : List ℕ} {k l n out w : ℕ} (b : ℕ) (le : out + 2 * w
     pub value-still : Word h c full out w (λ start. number start g bits out w)
     value-still = Laws.word_kept value-word (omega arith) fill_step
 
-    pub filled-word : Word h c full (out + w) w (λ start. filledWith (truth start g l) w)
+    pub filled-word : Word h c full (out + w) w (λ start. filled_with (truth start g l) w)
     filled-word =
         Laws.word-by (fill-word (omega (arith, le, p.size)) (omega (arith, u, e.grown.more)) q)
-        (λ start. ap (λ (t : Bool). filledWith t w) (same_truth start g h k l e.grown.kept u))
+        (λ start. ap (λ (t : Bool). filled_with t w) (same_truth start g h k l e.grown.kept u))
 
     same-zero : (start : ℕ → ℕ) → truth start h r ≡ eqb (number start g bits b n) 0
     same-zero start = e.is start ∙ (λ i. eqb (amount-word.is start i) (zeros-word.is start i))
 
     pub far-made : {j new : List ℕ} {a : ℕ}
-        → Writes h c full j a new out w (3 * w) (λ start. iteOf (truth start h r) (number start h full out w) (number start h full (out + w) w))
-        → Makes g k bits j a new out w (7 * w) (λ start. cond (eqb (number start g bits b n) 0) (number start g bits out w) (filledWith (truth start g l) w))
+        → Writes h c full j a new out w (3 * w) (λ start. ite_of (truth start h r) (number start h full out w) (number start h full (out + w) w))
+        → Makes g k bits j a new out w (7 * w) (λ start. cond (eqb (number start g bits b n) 0) (number start g bits out w) (filled_with (truth start g l) w))
     far-made d =
         record {
           goes = Laws.from-most (omega arith)
               (Laws.from-trans (Laws.from-lower {out = out} (omega arith) zeros-step) (omega arith)
               (Laws.from-trans (Laws.from-lower {out = out} (omega arith) fill_step) (omega arith) (Laws.run-from d.run)));
           word = Laws.word-by (Laws.writes-word (omega (arith, le, p.size, q.size)) d)
-              (λ start i. iteOf (same-zero start i) (value-still.is start i) (filled-word.is start i));
+              (λ start i. ite_of (same-zero start i) (value-still.is start i) (filled-word.is start i));
         }

@@ -44,8 +44,8 @@ sum-made {g} {bits} {k = k} {a} {b} {out} {w} le two e =
     record {
       goes = Laws.run-from e.run;
       word = Laws.word-by
-          (adds-word le e (Laws.word-there bits a w (omega (arith, two.first, le)) two.low-a)
-          (Laws.word-there bits b w (omega (arith, two.second, le)) two.low-b))
+          (adds-word le e (Laws.word-there bits a w (omega (arith, two.first, le)) two.low_a)
+          (Laws.word-there bits b w (omega (arith, two.second, le)) two.low_b))
           (λ start. let z = ap bit (false-truth start g) in ap (λ (t : ℕ). t % 2 ^ w) (omega (arith, z)));
     }
 
@@ -69,10 +69,10 @@ module _ {g bits ones : List ℕ} {k a b out w : ℕ} (le : out + w ≤ length b
   step-one = Laws.puts-from g k (λ j. 1) p
 
   first_word : Word g k ones a w (λ start. number start g bits a w)
-  first_word = Laws.word_kept (Laws.word-there bits a w (omega (arith, two.first, le)) two.low-a) two.first step-one
+  first_word = Laws.word_kept (Laws.word-there bits a w (omega (arith, two.first, le)) two.low_a) two.first step-one
 
   pub second_word : Word g k ones b w (λ start. number start g bits b w)
-  second_word = Laws.word_kept (Laws.word-there bits b w (omega (arith, two.second, le)) two.low-b) two.second step-one
+  second_word = Laws.word_kept (Laws.word-there bits b w (omega (arith, two.second, le)) two.low_b) two.second step-one
 
   pub all_ones : Word g k ones out w (λ start. 2 ^ w - 1)
   all_ones = ones-word le p

@@ -26,5 +26,5 @@ pub record Makes (g : List ℕ) (k : ℕ) (bits g' : List ℕ) (k' : ℕ) (bits'
 pub record Two (bits : List ℕ) (a b out w k : ℕ) : Type 0 where
   pub first : a + w ≤ out
   pub second : b + w ≤ out
-  pub low-a : Low bits a w k
-  pub low-b : Low bits b w k
+  pub low_a : Low bits a w k
+  pub low_b : Low bits b w k

@@ -12,13 +12,13 @@ moved false true w n t = (2 ^ w - 1) - ((2 ^ w - 1) - n) / 2 ^ t
 moved false false w n t = n / 2 ^ t
 
 -- and if c holds
-abbrev pub movedIf : (c left filled : Bool) (w n t : ℕ) → ℕ
-movedIf c left filled w n t = cond c (moved left filled w n t) n
+abbrev pub moved_if : (c left filled : Bool) (w n t : ℕ) → ℕ
+moved_if c left filled w n t = cond c (moved left filled w n t) n
 
 -- w times the bit that comes in
-abbrev pub filledWith : Bool → ℕ → ℕ
-filledWith true w = 2 ^ w - 1
-filledWith false w = 0
+abbrev pub filled_with : Bool → ℕ → ℕ
+filled_with true w = 2 ^ w - 1
+filled_with false w = 0
 
 -- places below `out` are as they were
 pub record Keeps (bits new : List ℕ) (out : ℕ) : Type 0 where

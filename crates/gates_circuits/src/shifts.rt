@@ -6,7 +6,7 @@ ghost use Rattle.gates.specs.Grow.{Room, Under};
 ghost use Rattle.gates_words.specs.Number.{number};
 ghost use Rattle.gates_words.specs.Words.{Low};
 ghost use Rattle.gates_circuits.specs.Makes.{Makes, Two};
-ghost use Rattle.gates_circuits.specs.Shift.{Moves, Stages, movedIf, moved, filledWith};
+ghost use Rattle.gates_circuits.specs.Shift.{Moves, Stages, moved_if, moved, filled_with};
 
 use gates_words::bitwise::mux;
 use gates_words::compare::equal;
@@ -58,7 +58,7 @@ fn stage(
     requires room { Room graph.old count (3 * w) × (s ≤ w) × (out + 2 * w ≤ length bits.old) × (left ≡ true → literal ≡ 0) }
     requires under { Under literal count × Under c count × Low bits.old out w count }
     ensures { Makes graph.old count bits.old graph.new result bits.new out w (3 * w)
-        (λ start. movedIf (truth start graph.old c) left (truth start graph.old literal) w
+        (λ start. moved_if (truth start graph.old c) left (truth start graph.old literal) w
         (number start graph.old bits.old out w) s) }
 {
     move_by(bits, left, literal, out, s, w);
@@ -66,7 +66,7 @@ fn stage(
 }
 
 // The count of gates after the stages, and how many bits of the amount they took.
-#[derive(Drop)]
+#[derive(Clone, Copy)]
 pub struct Staged {
     pub count: usize,
     pub stages: usize,
@@ -120,7 +120,7 @@ fn far(
     requires under { Under literal count × Low bits.old out w count × Low bits.old b n count }
     ensures { Makes graph.old count bits.old graph.new result bits.new out w (7 * w)
         (λ start. cond (eqb (number start graph.old bits.old b n) 0)
-        (number start graph.old bits.old out w) (filledWith (truth start graph.old literal) w)) }
+        (number start graph.old bits.old out w) (filled_with (truth start graph.old literal) w)) }
 {
     fill(bits, 0, out + w, n);
     let same = equal(graph, count, table, bits, b, out + w, n);

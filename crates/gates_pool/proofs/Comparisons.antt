@@ -9,8 +9,8 @@ use lib.ListN.{length, get_or, set, length-set}
 use lib.Seq.{get_or-set_same, get_or-set_other}
 use Rattle.terms.specs.Expr.{Expr, width}
 use Rattle.terms.specs.Value.{value, bit, ite}
-use Rattle.pool.specs.Node.{Kind, kinds, kind_at, cell_at, width_at, kindNumber}
-use Rattle.pool.specs.Unfold.{shape_of, unfoldAt}
+use Rattle.pool.specs.Node.{Kind, kinds, kind_at, cell_at, width_at, kind_number}
+use Rattle.pool.specs.Unfold.{shape_of, unfold_at}
 use Rattle.pool_fields.specs.Fields.{op_a, op_b, op_c}
 use Rattle.pool_rules.proofs.Numbers.{within}
 use Rattle.text_parts.specs.Text as nodes
@@ -18,18 +18,18 @@ use Rattle.gates.specs.Graph.{truth}
 use Rattle.gates.specs.Grow.{Room, Builds, Under}
 use Rattle.gates_words.specs.Number.{number, sum, bit_at}
 use Rattle.gates_words.specs.Words.{Writes, Low, Reads, Operand}
-use Rattle.gates_words.specs.Bitwise.{iteOf}
+use Rattle.gates_words.specs.Bitwise.{ite_of}
 use Rattle.gates_pool.specs.Bits.{Start, literals, number_at, Held}
-use Rattle.gates_pool.specs.Gates.{gatesFor, workWidth, gatesAt, compareHolds, Ready, Made}
+use Rattle.gates_pool.specs.Gates.{gates_for, work_width, gates_at, compare_holds, Ready, Made}
 use Rattle.gates_pool.proofs.Rules.{most, compare-facts, ite-facts}
 use Rattle.gates_pool.proofs.Values.{literals-wide, tree, operand-tree, operand-width, operand_low, operand-number, under}
 use Rattle.gates_pool.proofs.Steps.{one_more}
 
 pub built-as : {g h : List ℕ} {k l n : ℕ} (bits : List ℕ) (w kind κ a b : ℕ) → kind ≡ κ
-    → Builds g k h l n (gatesFor (kind_at κ) w) (λ start. compareHolds (kind_at κ) w (number start g bits a w) (number start g bits b w))
-    → Builds g k h l n (gatesFor (kind_at kind) w) (λ start. compareHolds (kind_at kind) w (number start g bits a w) (number start g bits b w))
+    → Builds g k h l n (gates_for (kind_at κ) w) (λ start. compare_holds (kind_at κ) w (number start g bits a w) (number start g bits b w))
+    → Builds g k h l n (gates_for (kind_at kind) w) (λ start. compare_holds (kind_at kind) w (number start g bits a w) (number start g bits b w))
 built-as {g} {h} {k} {l} {n} bits w kind κ a b e d =
-    subst (λ (m : ℕ). Builds g k h l n (gatesFor (kind_at m) w) (λ start. compareHolds (kind_at m) w (number start g bits a w) (number start g bits b w)))
+    subst (λ (m : ℕ). Builds g k h l n (gates_for (kind_at m) w) (λ start. compare_holds (kind_at m) w (number start g bits a w) (number start g bits b w)))
     (sym e) d
 
 -- a word of one bit
@@ -37,22 +37,22 @@ one_bit : (f : ℕ → Bool) → sum f 1 ≡ bit (f 0)
 unfolding sum
 one_bit f = omega arith
 
-choice : (t : Bool) (a b : ℕ) → ite (bit t) a b ≡ iteOf t a b
+choice : (t : Bool) (a b : ℕ) → ite (bit t) a b ≡ ite_of t a b
 choice true a b = refl
 choice false a b = refl
 
 module _ (ws : List ℕ) (n : ℕ) (r : nodes.Ready ws n) where
-  pub gates-flat : 12 ≤ kindNumber ws n → kindNumber ws n < 15 → gatesAt ws n ≡ gatesFor (kind_at (kindNumber ws n)) (width_at ws (op_a ws n))
-  unfolding gatesAt kinds
+  pub gates-flat : 12 ≤ kind_number ws n → kind_number ws n < 15 → gates_at ws n ≡ gates_for (kind_at (kind_number ws n)) (width_at ws (op_a ws n))
+  unfolding gates_at kinds
   gates-flat f t =
       let a = width_at ws (op_a ws n) in
-      within (λ κ. gatesFor κ (workWidth κ (width_at ws n) a) ≡ gatesFor κ a) 12 3 (refl, (refl, (refl, tt))) (kindNumber ws n) f t
+      within (λ κ. gates_for κ (work_width κ (width_at ws n) a) ≡ gates_for κ a) 12 3 (refl, (refl, (refl, tt))) (kind_number ws n) f t
 
-  pub gates-chosen : kindNumber ws n ≡ 15 → gatesAt ws n ≡ 3 * width_at ws n
-  unfolding gatesAt kind_at kinds
-  gates-chosen e = ap (λ (m : ℕ). gatesFor (kind_at m) (workWidth (kind_at m) (width_at ws n) (width_at ws (op_a ws n)))) e
+  pub gates-chosen : kind_number ws n ≡ 15 → gates_at ws n ≡ 3 * width_at ws n
+  unfolding gates_at kind_at kinds
+  gates-chosen e = ap (λ (m : ℕ). gates_for (kind_at m) (work_width (kind_at m) (width_at ws n) (width_at ws (op_a ws n)))) e
 
-  module _ (start : ℕ → ℕ) (f : 12 ≤ kindNumber ws n) (t : kindNumber ws n < 15) where
+  module _ (start : ℕ → ℕ) (f : 12 ≤ kind_number ws n) (t : kind_number ws n < 15) where
     abbrev A : Expr
     A = under ws n r (op_a ws n)
 
@@ -60,20 +60,20 @@ module _ (ws : List ℕ) (n : ℕ) (r : nodes.Ready ws n) where
     B = under ws n r (op_b ws n)
 
     abbrev Valued : Kind → Type 0
-    Valued κ = value start (shape_of κ (cell_at ws n) A B (under ws n r (op_c ws n))) ≡ bit (compareHolds κ (width A) (value start A) (value start B))
+    Valued κ = value start (shape_of κ (cell_at ws n) A B (under ws n r (op_c ws n))) ≡ bit (compare_holds κ (width A) (value start A) (value start B))
 
-    compare-value : value start (unfoldAt ws n)
-        ≡ bit (compareHolds (kind_at (kindNumber ws n)) (width_at ws (op_a ws n)) (value start (unfoldAt ws (op_a ws n))) (value start (unfoldAt ws (op_b ws n))))
+    compare-value : value start (unfold_at ws n)
+        ≡ bit (compare_holds (kind_at (kind_number ws n)) (width_at ws (op_a ws n)) (value start (unfold_at ws (op_a ws n))) (value start (unfold_at ws (op_b ws n))))
     unfolding value kinds
     compare-value =
         let x = compare-facts ws n r f t in
-        ap (value start) (tree ws n r (kindNumber ws n) refl)
-        ∙ within Valued 12 3 (refl, (refl, (refl, tt))) (kindNumber ws n) f t
+        ap (value start) (tree ws n r (kind_number ws n) refl)
+        ∙ within Valued 12 3 (refl, (refl, (refl, tt))) (kind_number ws n) f t
         ∙ (λ i.
-        bit (compareHolds (kind_at (kindNumber ws n)) (operand-width ws n r x.a i) (value start (operand-tree ws n r x.a i))
+        bit (compare_holds (kind_at (kind_number ws n)) (operand-width ws n r x.a i) (value start (operand-tree ws n r x.a i))
         (value start (operand-tree ws n r x.b i))))
 
-  module _ {g bits : List ℕ} {k : ℕ} (ready : Ready ws n g k bits) (f : 12 ≤ kindNumber ws n) (t : kindNumber ws n < 15) where
+  module _ {g bits : List ℕ} {k : ℕ} (ready : Ready ws n g k bits) (f : 12 ≤ kind_number ws n) (t : kind_number ws n < 15) where
     abbrev W : ℕ
     W = width_at ws (op_a ws n)
 
@@ -85,12 +85,12 @@ module _ (ws : List ℕ) (n : ℕ) (r : nodes.Ready ws n) where
           low = λ j h. operand_low ws n r g k bits ready.held l (rw e h);
         }
 
-    its-number : (start : ℕ → ℕ) → Start start → {m : ℕ} → m < n → width_at ws m ≡ W → 1 ≤ W → number start g bits (129 * m) W ≡ value start (unfoldAt ws m)
+    its-number : (start : ℕ → ℕ) → Start start → {m : ℕ} → m < n → width_at ws m ≡ W → 1 ≤ W → number start g bits (129 * m) W ≡ value start (unfold_at ws m)
     its-number start small {m} l e q =
         ap (number start g bits (129 * m)) (sym e) ∙ operand-number ws n r g k bits ready.held start small l (omega (arith, e, q))
 
-    compared : {h : List ℕ} {l c : ℕ} → Builds g k h l c (gatesFor (kind_at (kindNumber ws n)) W)
-        (λ start. compareHolds (kind_at (kindNumber ws n)) W (number start g bits (129 * op_a ws n) W) (number start g bits (129 * op_b ws n) W))
+    compared : {h : List ℕ} {l c : ℕ} → Builds g k h l c (gates_for (kind_at (kind_number ws n)) W)
+        (λ start. compare_holds (kind_at (kind_number ws n)) W (number start g bits (129 * op_a ws n) W) (number start g bits (129 * op_b ws n) W))
         → Made ws n g k bits h c (set bits (129 * n) l)
     compared {h} {l} {c} d =
         let x = compare-facts ws n r f t in
@@ -106,30 +106,30 @@ module _ (ws : List ℕ) (n : ℕ) (r : nodes.Ready ws n) where
         ∙ ap (λ (p : ℕ). bit (truth start h p)) here
         ∙ ap bit (d.is start)
         ∙ (λ i.
-        bit (compareHolds (kind_at (kindNumber ws n)) W (its-number start small x.a refl x.some i)
+        bit (compare_holds (kind_at (kind_number ws n)) W (its-number start small x.a refl x.some i)
         (its-number start small x.b x.width-b x.some i)))
         ∙ sym (compare-value start f t))
 
     -- as code has read the node
-    module _ {kind a b w : ℕ} (is-kind : kind ≡ kindNumber ws n) (is-a : a ≡ op_a ws n) (is_b : b ≡ op_b ws n) (is-w : w ≡ W) where
+    module _ {kind a b w : ℕ} (is-kind : kind ≡ kind_number ws n) (is-a : a ≡ op_a ws n) (is_b : b ≡ op_b ws n) (is-w : w ≡ W) where
       pub first_read : Reads bits (129 * a) w k
       first_read = rw (is-a, is-w) (reads (compare-facts ws n r f t).a refl)
 
       pub second-read : Reads bits (129 * b) w k
       second-read = let x = compare-facts ws n r f t in rw (is_b, is-w) (reads x.b x.width-b)
 
-      pub room-flat : Room g k (gatesFor (kind_at kind) w)
+      pub room-flat : Room g k (gates_for (kind_at kind) w)
       room-flat = rw (is-kind, is-w) (rw (gates-flat f t) at ready.room)
 
-      pub compared-read : {h : List ℕ} {l c : ℕ} → Builds g k h l c (gatesFor (kind_at kind) w)
-          (λ start. compareHolds (kind_at kind) w (number start g bits (129 * a) w) (number start g bits (129 * b) w))
+      pub compared-read : {h : List ℕ} {l c : ℕ} → Builds g k h l c (gates_for (kind_at kind) w)
+          (λ start. compare_holds (kind_at kind) w (number start g bits (129 * a) w) (number start g bits (129 * b) w))
           → Made ws n g k bits h c (set bits (129 * n) l)
       compared-read d = compared (rw (is-a, is_b, is-w, is-kind) at d)
 
   -- ---- choices
-  module _ {g bits : List ℕ} {k : ℕ} (ready : Ready ws n g k bits) (e : kindNumber ws n ≡ 15) where
+  module _ {g bits : List ℕ} {k : ℕ} (ready : Ready ws n g k bits) (e : kind_number ws n ≡ 15) where
     choice-value : (start : ℕ → ℕ)
-        → value start (unfoldAt ws n) ≡ ite (value start (unfoldAt ws (op_a ws n))) (value start (unfoldAt ws (op_b ws n))) (value start (unfoldAt ws (op_c ws n)))
+        → value start (unfold_at ws n) ≡ ite (value start (unfold_at ws (op_a ws n))) (value start (unfold_at ws (op_b ws n))) (value start (unfold_at ws (op_c ws n)))
     unfolding value kind_at kinds
     choice-value start =
         let x = ite-facts ws n r e in
@@ -145,7 +145,7 @@ module _ (ws : List ℕ) (n : ℕ) (r : nodes.Ready ws n) where
         let l = ready.held.low (op_a ws n) x.a 0 (rw x.flat (omega arith)) in
         subst (λ (p : ℕ). Under (get_or bits p 0) k) condition-place l
 
-    condition-value : (start : ℕ → ℕ) → Start start → bit (truth start g (get_or bits (129 * op_a ws n) 0)) ≡ value start (unfoldAt ws (op_a ws n))
+    condition-value : (start : ℕ → ℕ) → Start start → bit (truth start g (get_or bits (129 * op_a ws n) 0)) ≡ value start (unfold_at ws (op_a ws n))
     condition-value start small =
         let x = ite-facts ws n r e in
         sym
@@ -163,13 +163,13 @@ module _ (ws : List ℕ) (n : ℕ) (r : nodes.Ready ws n) where
         }
 
     arm-number : (start : ℕ → ℕ) → Start start → {m : ℕ} → m < n → width_at ws m ≡ width_at ws n → 1 ≤ width_at ws n
-        → number start g bits (129 * m) (width_at ws n) ≡ value start (unfoldAt ws m)
+        → number start g bits (129 * m) (width_at ws n) ≡ value start (unfold_at ws m)
     arm-number start small {m} l q s =
         ap (number start g bits (129 * m)) (sym q) ∙ operand-number ws n r g k bits ready.held start small l (omega (arith, q, s))
 
     chosen : {h new : List ℕ} {c : ℕ}
         → Writes g k bits h c new (129 * n) (width_at ws n) (3 * width_at ws n)
-        (λ start. iteOf (truth start g (get_or bits (129 * op_a ws n) 0)) (number start g bits (129 * op_b ws n) (width_at ws n))
+        (λ start. ite_of (truth start g (get_or bits (129 * op_a ws n) 0)) (number start g bits (129 * op_b ws n) (width_at ws n))
         (number start g bits (129 * op_c ws n) (width_at ws n)))
         → Made ws n g k bits h c new
     unfolding kind_at kinds
@@ -200,6 +200,6 @@ module _ (ws : List ℕ) (n : ℕ) (r : nodes.Ready ws n) where
 
       pub chosen-read : {h new : List ℕ} {m : ℕ}
           → Writes g k bits h m new (129 * n) w (3 * w)
-          (λ start. iteOf (truth start g (get_or bits (129 * c) 0)) (number start g bits (129 * a) w) (number start g bits (129 * b) w))
+          (λ start. ite_of (truth start g (get_or bits (129 * c) 0)) (number start g bits (129 * a) w) (number start g bits (129 * b) w))
           → Made ws n g k bits h m new
       chosen-read d = chosen (rw (is_c, is-a, is_b, is-w) at d)

@@ -11,53 +11,53 @@ use lib.ListN.{get_or}
 use lib.Pow.{pow-add, pow_pos, shr-shr}
 use borrow.Author.Tests.{lt-ltb, le-ltb, ltb-true}
 use Rattle.facts.proofs.Numbers.{before-or-from}
-use Rattle.pool.specs.Node.{Kind, zext, sext, kinds, kind_at, cell_at, width_at, word_at, kindNumber, wide}
+use Rattle.pool.specs.Node.{Kind, zext, sext, kinds, kind_at, cell_at, width_at, word_at, kind_number, wide}
 use Rattle.pool_fields.specs.Fields.{op_a, op_b}
 use Rattle.pool_rules.proofs.Numbers.{within}
 use Rattle.pool_rules.proofs.Words.{always}
 use Rattle.text_parts.specs.Text.{Ready}
 use Rattle.text_parts.proofs.Operands.{to-nineteen}
-use Rattle.gates_pool.specs.Bits.{wireOf, wireAt, NoGates}
+use Rattle.gates_pool.specs.Bits.{wire_of, wire_at, NoGates}
 use Rattle.gates_pool.proofs.Rules.{most, extract-facts, concat-facts, extend-facts}
 
 module _ (ws : List ℕ) (n : ℕ) (bits : List ℕ) (j : ℕ) where
   abbrev by_kind : Kind → ℕ
-  by_kind κ = wireOf κ (cell_at ws n) (width_at ws (op_a ws n)) (width_at ws (op_b ws n)) bits j
+  by_kind κ = wire_of κ (cell_at ws n) (width_at ws (op_a ws n)) (width_at ws (op_b ws n)) bits j
 
-  wire-at : (κ : ℕ) → kindNumber ws n ≡ κ → wireAt ws bits n j ≡ by_kind (kind_at κ)
+  wire-at : (κ : ℕ) → kind_number ws n ≡ κ → wire_at ws bits n j ≡ by_kind (kind_at κ)
   wire-at κ e = ap (λ (m : ℕ). by_kind (kind_at m)) e
 
-  pub var-wire : kindNumber ws n ≡ 1 → wireAt ws bits n j ≡ 2 * (1 + 128 * word_at ws n 2 + j)
+  pub var-wire : kind_number ws n ≡ 1 → wire_at ws bits n j ≡ 2 * (1 + 128 * word_at ws n 2 + j)
   unfolding kind_at kinds
   var-wire e = wire-at 1 e
 
-  pub const-wire : kindNumber ws n ≡ 2 → wireAt ws bits n j ≡ wide (word_at ws n 2) (word_at ws n 3) / 2 ^ j % 2
+  pub const-wire : kind_number ws n ≡ 2 → wire_at ws bits n j ≡ wide (word_at ws n 2) (word_at ws n 3) / 2 ^ j % 2
   unfolding kind_at kinds
   const-wire e = wire-at 2 e
 
-  pub extract-wire : kindNumber ws n ≡ 16 → wireAt ws bits n j ≡ get_or bits (129 * op_a ws n + (word_at ws n 3 + j)) 0
+  pub extract-wire : kind_number ws n ≡ 16 → wire_at ws bits n j ≡ get_or bits (129 * op_a ws n + (word_at ws n 3 + j)) 0
   unfolding kind_at kinds
   extract-wire e = wire-at 16 e
 
-  pub concat-low : kindNumber ws n ≡ 17 → j < width_at ws (op_b ws n) → wireAt ws bits n j ≡ get_or bits (129 * op_b ws n + j) 0
+  pub concat-low : kind_number ws n ≡ 17 → j < width_at ws (op_b ws n) → wire_at ws bits n j ≡ get_or bits (129 * op_b ws n + j) 0
   unfolding kind_at kinds
   concat-low e l = wire-at 17 e ∙ rw (lt-ltb j (width_at ws (op_b ws n)) l)
 
-  pub concat-high : kindNumber ws n ≡ 17 → width_at ws (op_b ws n) ≤ j → wireAt ws bits n j ≡ get_or bits (129 * op_a ws n + (j - width_at ws (op_b ws n))) 0
+  pub concat-high : kind_number ws n ≡ 17 → width_at ws (op_b ws n) ≤ j → wire_at ws bits n j ≡ get_or bits (129 * op_a ws n + (j - width_at ws (op_b ws n))) 0
   unfolding kind_at kinds
   concat-high e l = wire-at 17 e ∙ rw (le-ltb j (width_at ws (op_b ws n)) l)
 
-  pub extend-low : 18 ≤ kindNumber ws n → kindNumber ws n < 20 → j < width_at ws (op_a ws n) → wireAt ws bits n j ≡ get_or bits (129 * op_a ws n + j) 0
+  pub extend-low : 18 ≤ kind_number ws n → kind_number ws n < 20 → j < width_at ws (op_a ws n) → wire_at ws bits n j ≡ get_or bits (129 * op_a ws n + j) 0
   unfolding kinds
   extend-low f t l =
       let q = lt-ltb j (width_at ws (op_a ws n)) l in
-      within (λ κ. by_kind κ ≡ get_or bits (129 * op_a ws n + j) 0) 18 2 (rw q, (rw q, tt)) (kindNumber ws n) f t
+      within (λ κ. by_kind κ ≡ get_or bits (129 * op_a ws n + j) 0) 18 2 (rw q, (rw q, tt)) (kind_number ws n) f t
 
-  pub zext-high : kindNumber ws n ≡ 18 → width_at ws (op_a ws n) ≤ j → wireAt ws bits n j ≡ 0
+  pub zext-high : kind_number ws n ≡ 18 → width_at ws (op_a ws n) ≤ j → wire_at ws bits n j ≡ 0
   unfolding kind_at kinds
   zext-high e l = wire-at 18 e ∙ rw (le-ltb j (width_at ws (op_a ws n)) l)
 
-  pub sext-high : kindNumber ws n ≡ 19 → width_at ws (op_a ws n) ≤ j → wireAt ws bits n j ≡ get_or bits (129 * op_a ws n + (width_at ws (op_a ws n) - 1)) 0
+  pub sext-high : kind_number ws n ≡ 19 → width_at ws (op_a ws n) ≤ j → wire_at ws bits n j ≡ get_or bits (129 * op_a ws n + (width_at ws (op_a ws n) - 1)) 0
   unfolding kind_at kinds
   sext-high e l = wire-at 19 e ∙ rw (le-ltb j (width_at ws (op_a ws n)) l)
 
@@ -96,9 +96,9 @@ module _ (ws : List ℕ) (n : ℕ) (r : Ready ws n) (bits new : List ℕ) (j : �
   operand : {m i : ℕ} → m < n → i < 129 → get_or new (129 * m + i) 0 ≡ get_or bits (129 * m + i) 0
   operand {m} {i} l h = same (129 * m + i) (omega arith)
 
-  extend-kept : 18 ≤ kindNumber ws n → wireAt ws new n j ≡ wireAt ws bits n j
+  extend-kept : 18 ≤ kind_number ws n → wire_at ws new n j ≡ wire_at ws bits n j
   extend-kept f =
-      let t = to-nineteen ws n r (kindNumber ws n) refl in
+      let t = to-nineteen ws n r (kind_number ws n) refl in
       let x = extend-facts ws n r f t in
       let m = most ws n r (op_a ws n) (omega (arith, x.a)) in
       let top = operand {m = op_a ws n} {i = width_at ws (op_a ws n) - 1} x.a (omega (arith, m, x.wide-a)) in
@@ -107,10 +107,10 @@ module _ (ws : List ℕ) (n : ℕ) (r : Ready ws n) (bits new : List ℕ) (j : �
       (λ e. sext-high ws n new j e l ∙ top ∙ sym (sext-high ws n bits j e l)) (two-kinds f t))
       (before-or-from j (width_at ws (op_a ws n)))
     where
-      two-kinds : 18 ≤ kindNumber ws n → kindNumber ws n < 20 → (kindNumber ws n ≡ 18) ⊎ (kindNumber ws n ≡ 19)
-      two-kinds f t = ⊎_elim (λ l. inl (omega (arith, l, f))) (λ l. inr (omega (arith, l, t))) (before-or-from (kindNumber ws n) 19)
+      two-kinds : 18 ≤ kind_number ws n → kind_number ws n < 20 → (kind_number ws n ≡ 18) ⊎ (kind_number ws n ≡ 19)
+      two-kinds f t = ⊎_elim (λ l. inl (omega (arith, l, f))) (λ l. inr (omega (arith, l, t))) (before-or-from (kind_number ws n) 19)
 
-  concat-kept : kindNumber ws n ≡ 17 → wireAt ws new n j ≡ wireAt ws bits n j
+  concat-kept : kind_number ws n ≡ 17 → wire_at ws new n j ≡ wire_at ws bits n j
   concat-kept e =
       let x = concat-facts ws n r e in
       let ma = most ws n r (op_a ws n) (omega (arith, x.a)) in
@@ -119,20 +119,20 @@ module _ (ws : List ℕ) (n : ℕ) (r : Ready ws n) (bits new : List ℕ) (j : �
       (λ l. concat-high ws n new j e l ∙ operand x.a (omega (arith, ma, l, x.width, inside)) ∙ sym (concat-high ws n bits j e l))
       (before-or-from j (width_at ws (op_b ws n)))
 
-  extract-kept : kindNumber ws n ≡ 16 → wireAt ws new n j ≡ wireAt ws bits n j
+  extract-kept : kind_number ws n ≡ 16 → wire_at ws new n j ≡ wire_at ws bits n j
   extract-kept e =
       let x = extract-facts ws n r e in
       let m = most ws n r (op_a ws n) (omega (arith, x.a)) in
       extract-wire ws n new j e ∙ operand x.a (omega (arith, m, x.ordered, x.inside, x.width, inside)) ∙ sym (extract-wire ws n bits j e)
 
-  leaf-kept : kindNumber ws n < 3 → wireAt ws new n j ≡ wireAt ws bits n j
+  leaf-kept : kind_number ws n < 3 → wire_at ws new n j ≡ wire_at ws bits n j
   unfolding kinds
-  leaf-kept l = within (λ κ. by_kind ws n new j κ ≡ by_kind ws n bits j κ) 0 3 (refl, (refl, (refl, tt))) (kindNumber ws n) (omega arith) l
+  leaf-kept l = within (λ κ. by_kind ws n new j κ ≡ by_kind ws n bits j κ) 0 3 (refl, (refl, (refl, tt))) (kind_number ws n) (omega arith) l
 
-  pub wire-kept : wireAt ws new n j ≡ wireAt ws bits n j
+  pub wire-kept : wire_at ws new n j ≡ wire_at ws bits n j
   wire-kept =
       ⊎_elim leaf-kept
       (λ t.
-      ⊎_elim (λ l. ⊎_elim (λ q. extract-kept (omega (arith, q, plain t))) (λ q. concat-kept (omega (arith, q, l))) (before-or-from (kindNumber ws n) 17))
-      extend-kept (before-or-from (kindNumber ws n) 18))
-      (before-or-from (kindNumber ws n) 3)
+      ⊎_elim (λ l. ⊎_elim (λ q. extract-kept (omega (arith, q, plain t))) (λ q. concat-kept (omega (arith, q, l))) (before-or-from (kind_number ws n) 17))
+      extend-kept (before-or-from (kind_number ws n) 18))
+      (before-or-from (kind_number ws n) 3)

@@ -11,14 +11,14 @@ use Rattle.pool.specs.Rules.{Valid}
 use Rattle.text_parts.proofs.Operands.{ready_of}
 use Rattle.gates.specs.Grow.{Room}
 use Rattle.gates.proofs.Laws.{grown-same, grown-trans}
-use Rattle.gates_pool.specs.Gates.{gatesAt, gatesIn, Ready, Made, Nodes}
+use Rattle.gates_pool.specs.Gates.{gates_at, gates_in, Ready, Made, Nodes}
 use Rattle.gates_pool.proofs.Steps.{held_none}
 
-gates-below : (ws : List ℕ) (count n : ℕ) → n < count → gatesIn ws n + gatesAt ws n ≤ gatesIn ws count
-unfolding gatesIn
+gates-below : (ws : List ℕ) (count n : ℕ) → n < count → gates_in ws n + gates_at ws n ≤ gates_in ws count
+unfolding gates_in
 gates-below ws zero n l = absurd (not-suc-le-zero l)
 gates-below ws (suc count) n l =
-    ⊎_elim (λ q. subst (λ (m : ℕ). gatesIn ws m + gatesAt ws m ≤ gatesIn ws count + gatesAt ws count) (sym q) (omega arith))
+    ⊎_elim (λ q. subst (λ (m : ℕ). gates_in ws m + gates_at ws m ≤ gates_in ws count + gates_at ws count) (sym q) (omega arith))
     (λ h. omega (arith, gates-below ws count n h))
     (eq-or-lt_of_le (le_of_suc-le-suc l))
 
@@ -26,7 +26,7 @@ pub nodes-none : (ws g : List ℕ) (k : ℕ) (bits : List ℕ) → Nodes ws 0 g 
 nodes-none ws g k bits = record { grown = grown-same g k; most = omega arith; size = refl; held = held_none ws g k bits }
 
 module _ {ws g bits h new : List ℕ} {n j k : ℕ} (d : Nodes ws n g j bits h k new) where
-  pub node-ready : (count : ℕ) → n < count → Valid ws count → 4 * count ≤ length ws → Room g j (gatesIn ws count) → 129 * (count + 1) ≤ length bits
+  pub node-ready : (count : ℕ) → n < count → Valid ws count → 4 * count ≤ length ws → Room g j (gates_in ws count) → 129 * (count + 1) ≤ length bits
       → Ready ws n h k new
   node-ready count l v inside room places =
       let m = gates-below ws count n l in
@@ -37,7 +37,7 @@ module _ {ws g bits h new : List ℕ} {n j k : ℕ} (d : Nodes ws n g j bits h k
       }
 
   pub nodes-more : {h' new' : List ℕ} {k' : ℕ} → Made ws n h k new h' k' new' → Nodes ws (n + 1) g j bits h' k' new'
-  unfolding gatesIn
+  unfolding gates_in
   nodes-more made =
       record {
         grown = grown-trans d.grown made.grown;

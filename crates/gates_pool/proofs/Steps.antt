@@ -9,7 +9,7 @@ use lib.ListN.{length, get_or}
 use Rattle.facts.proofs.Numbers.{before-or-from}
 use Rattle.terms.specs.Value.{value}
 use Rattle.pool.specs.Node.{width_at}
-use Rattle.pool.specs.Unfold.{unfoldAt}
+use Rattle.pool.specs.Unfold.{unfold_at}
 use Rattle.text_parts.specs.Text as nodes
 use Rattle.gates.specs.Graph.{truth}
 use Rattle.gates.specs.Grow.{Grown}
@@ -18,8 +18,8 @@ use Rattle.gates_words.specs.Number.{sum, bit_at, number}
 use Rattle.gates_words.specs.Words.{Low, Puts}
 use Rattle.gates_words.proofs.Sums.{sum_same}
 use Rattle.gates_words.proofs.Loops.{number-kept, low-kept}
-use Rattle.gates_pool.specs.Bits.{Start, literals, number_at, Held, wireAt, NoGates}
-use Rattle.gates_pool.specs.Gates.{gatesAt, Ready, Made}
+use Rattle.gates_pool.specs.Bits.{Start, literals, number_at, Held, wire_at, NoGates}
+use Rattle.gates_pool.specs.Gates.{gates_at, Ready, Made}
 use Rattle.gates_pool.proofs.Rules.{most}
 use Rattle.gates_pool.proofs.Values.{literals-wide, wire-under, wires-number, wires-wide}
 
@@ -32,10 +32,10 @@ pub held_none : (ws g : List ℕ) (k : ℕ) (bits : List ℕ) → Held ws 0 g k 
 held_none ws g k bits = record { low = λ m l. absurd (omega (arith, l)); is = λ start small m l. absurd (omega (arith, l)) }
 
 module _ {ws : List ℕ} {n : ℕ} {g : List ℕ} {k : ℕ} {bits g' : List ℕ} {k' : ℕ} (bits' : List ℕ) (ready : Ready ws n g k bits) (grown : Grown g k g' k')
-    (most-is : k' ≤ k + gatesAt ws n)
+    (most-is : k' ≤ k + gates_at ws n)
     (size : length bits' ≡ length bits) (before : (p : ℕ) → p < 129 * n → get_or bits' p 0 ≡ get_or bits p 0)
     (low : Low bits' (129 * n) (literals (width_at ws n)) k')
-    (is : (start : ℕ → ℕ) → Start start → number_at start ws g' bits' n ≡ value start (unfoldAt ws n)) where
+    (is : (start : ℕ → ℕ) → Start start → number_at start ws g' bits' n ≡ value start (unfold_at ws n)) where
   -- the literals of an earlier node
   kept : (m : ℕ) → m < n → (j : ℕ) → j < literals (width_at ws m) → get_or bits' (129 * m + j) 0 ≡ get_or bits (129 * m + j) 0
   kept m l j q = before (129 * m + j) (omega (arith, few (width_at ws m) (most ws n ready.placed.node m (omega arith))))
@@ -60,14 +60,14 @@ module _ {ws : List ℕ} {n : ℕ} {g : List ℕ} {k : ℕ} {bits g' : List ℕ}
                   (λ q.
                   number-kept start bits bits' (129 * m) (129 * m) (literals (width_at ws m)) grown (ready.held.low m q) (kept m q)
                   ∙ ready.held.is start small m q)
-                  (λ q. subst (λ (x : ℕ). number_at start ws g' bits' x ≡ value start (unfoldAt ws x)) (sym q) (is start small))
+                  (λ q. subst (λ (x : ℕ). number_at start ws g' bits' x ≡ value start (unfold_at ws x)) (sym q) (is start small))
                   (last l);
             };
       }
 
 -- a node that needs no gates
 pub wired : {ws : List ℕ} {n : ℕ} {g : List ℕ} {k : ℕ} {bits bits' : List ℕ} → Ready ws n g k bits → NoGates ws n
-    → Puts bits bits' (129 * n) (width_at ws n) (wireAt ws bits n) → Made ws n g k bits g k bits'
+    → Puts bits bits' (129 * n) (width_at ws n) (wire_at ws bits n) → Made ws n g k bits g k bits'
 wired {ws} {n} {g} {k} {bits} {bits'} ready plain p =
     let r = ready.placed.node in
     let all = literals-wide (width_at ws n) (wires-wide ws n r g k bits ready.held plain) in
@@ -75,5 +75,5 @@ wired {ws} {n} {g} {k} {bits} {bits'} ready plain p =
     (rw all (λ j l. rw (p.at j l) (wire-under ws n r g k bits ready.held plain j l)))
     (λ start small.
     ap (number start g bits' (129 * n)) all
-    ∙ sum_same (bit_at start g bits' (129 * n)) (λ j. truth start g (wireAt ws bits n j)) (width_at ws n) (λ j l. ap (truth start g) (p.at j l))
+    ∙ sum_same (bit_at start g bits' (129 * n)) (λ j. truth start g (wire_at ws bits n j)) (width_at ws n) (λ j l. ap (truth start g) (p.at j l))
     ∙ wires-number ws n r g k bits ready.held plain start small)

@@ -1,6 +1,6 @@
 // Nodes that need gates.
 ghost use Rattle.std.specs.Prelude.{◌≡◌, ◌+◌, ◌*◌, ◌≤◌, ◌<◌, length};
-ghost use Rattle.pool.specs.Node.{kind_at, kindNumber};
+ghost use Rattle.pool.specs.Node.{kind_at, kind_number};
 ghost use Rattle.gates.specs.Grow.{Room, Builds};
 ghost use Rattle.gates_words.specs.Number.{number};
 ghost use Rattle.gates_words.specs.Words.{Reads};
@@ -29,11 +29,11 @@ fn operate(
     out: usize,
     w: usize,
 ) -> usize
-    requires room { Room graph.old count (gates.gatesFor (kind_at kind) w) × (out + 2 * w ≤ length bits.old) × (1 ≤ w) × (w ≤ 129)
+    requires room { Room graph.old count (gates.gates_for (kind_at kind) w) × (out + 2 * w ≤ length bits.old) × (1 ≤ w) × (w ≤ 129)
         × Two bits.old a b out w count }
     requires le_kind { (3 ≤ kind) × (kind < 12) }
-    ensures { Makes graph.old count bits.old graph.new result bits.new out w (gates.gatesFor (kind_at kind) w)
-        (λ start. gates.bvValue (kind_at kind) w (number start graph.old bits.old a w)
+    ensures { Makes graph.old count bits.old graph.new result bits.new out w (gates.gates_for (kind_at kind) w)
+        (λ start. gates.bv_value (kind_at kind) w (number start graph.old bits.old a w)
         (number start graph.old bits.old b w)) }
 {
     match kind {
@@ -60,10 +60,10 @@ fn compare(
     b: usize,
     w: usize,
 ) -> Made
-    requires room { Room graph.old count (gates.gatesFor (kind_at kind) w) × (1 ≤ w) × Reads bits.now a w count × Reads bits.now b w count }
+    requires room { Room graph.old count (gates.gates_for (kind_at kind) w) × (1 ≤ w) × Reads bits.now a w count × Reads bits.now b w count }
     requires le_kind { (12 ≤ kind) × (kind < 15) }
-    ensures { Builds graph.old count graph.new result.literal result.count (gates.gatesFor (kind_at kind) w)
-        (λ start. gates.compareHolds (kind_at kind) w (number start graph.old bits.now a w)
+    ensures { Builds graph.old count graph.new result.literal result.count (gates.gates_for (kind_at kind) w)
+        (λ start. gates.compare_holds (kind_at kind) w (number start graph.old bits.now a w)
         (number start graph.old bits.now b w)) }
 {
     match kind {
@@ -83,7 +83,7 @@ pub fn operator_node(
     table: &mut [u64],
     bits: &mut [u64],
 ) -> usize
-    requires { gates.Ready pool.now n.0 graph.old count bits.old × (kind ≡ kindNumber pool.now n.0) × (3 ≤ kind) × (kind < 12) }
+    requires { gates.Ready pool.now n.0 graph.old count bits.old × (kind ≡ kind_number pool.now n.0) × (3 ≤ kind) × (kind < 12) }
     ensures { gates.Made pool.now n.0 graph.old count bits.old graph.new result bits.new }
 {
     let out = 129 * n.0;
@@ -113,7 +113,7 @@ pub fn compare_node(
     table: &mut [u64],
     bits: &mut [u64],
 ) -> usize
-    requires { gates.Ready pool.now n.0 graph.old count bits.old × (kind ≡ kindNumber pool.now n.0) × (12 ≤ kind) × (kind < 15) }
+    requires { gates.Ready pool.now n.0 graph.old count bits.old × (kind ≡ kind_number pool.now n.0) × (12 ≤ kind) × (kind < 15) }
     ensures { gates.Made pool.now n.0 graph.old count bits.old graph.new result bits.new }
 {
     let at = 129 * n.0;
@@ -134,7 +134,7 @@ pub fn choice_node(
     table: &mut [u64],
     bits: &mut [u64],
 ) -> usize
-    requires { gates.Ready pool.now n.0 graph.old count bits.old × (kindNumber pool.now n.0 ≡ 15) }
+    requires { gates.Ready pool.now n.0 graph.old count bits.old × (kind_number pool.now n.0 ≡ 15) }
     ensures { gates.Made pool.now n.0 graph.old count bits.old graph.new result bits.new }
 {
     let out = 129 * n.0;

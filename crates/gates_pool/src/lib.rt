@@ -50,7 +50,7 @@ pub fn nodes(
     table: &mut [u64],
     bits: &mut [u64],
 ) -> usize
-    requires valid { Valid pool.now count × (4 * count ≤ length pool.now) × Room graph.old old (gates.gatesIn pool.now count) }
+    requires valid { Valid pool.now count × (4 * count ≤ length pool.now) × Room graph.old old (gates.gates_in pool.now count) }
     requires count_in_bounds { 129 * (count + 1) ≤ length bits.old }
     ensures { gates.Nodes pool.now count graph.old old bits.old graph.new result bits.new }
 {

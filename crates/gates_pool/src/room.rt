@@ -3,7 +3,7 @@ ghost use Rattle.std.specs.Prelude.{◌≡◌, ◌*◌, ◌≤◌, ◌<◌, leng
 ghost use Rattle.pool.specs.Node.{kind_at};
 ghost use Rattle.pool.specs.Rules.{Valid};
 ghost use Rattle.text_parts.specs.Text as nodes;
-ghost use Rattle.gates_pool.specs.Gates.{gatesFor, gatesAt, gatesIn};
+ghost use Rattle.gates_pool.specs.Gates.{gates_for, gates_at, gates_in};
 
 use pool::Node;
 use pool::words::{Kind, kind_of, width_of};
@@ -12,7 +12,7 @@ use pool_fields::first;
 // An operator of two words of w bits: Add, Sub, Mul; And, Or and Xor; the shifts.
 fn operator_gates(kind: u64, w: u64) -> u64
     requires { (3 ≤ kind) × (kind < 12) × (w ≤ 129) }
-    ensures { result ≡ gatesFor (kind_at kind) w }
+    ensures { result ≡ gates_for (kind_at kind) w }
 {
     if kind < Kind::SUB {
         return 7 * w;
@@ -32,7 +32,7 @@ fn operator_gates(kind: u64, w: u64) -> u64
 // A comparison of two words of w bits.
 fn compare_gates(kind: u64, w: u64) -> u64
     requires { (12 ≤ kind) × (kind < 15) × (w ≤ 129) }
-    ensures { result ≡ gatesFor (kind_at kind) w }
+    ensures { result ≡ gates_for (kind_at kind) w }
 {
     if kind < Kind::ULT {
         return 4 * w;
@@ -46,7 +46,7 @@ fn compare_gates(kind: u64, w: u64) -> u64
 // The gates of node n.
 fn gates_at(pool: &[u64], n: Node) -> u64
     requires { nodes.Ready pool.now n.0 }
-    ensures { result ≡ gatesAt pool.now n.0 }
+    ensures { result ≡ gates_at pool.now n.0 }
 {
     let kind = kind_of(pool, n);
     if kind < Kind::ADD {
@@ -67,7 +67,7 @@ fn gates_at(pool: &[u64], n: Node) -> u64
 // The gates of all nodes.
 pub fn gates_in(pool: &[u64], count: usize) -> u64
     requires { Valid pool.now count × (4 * count ≤ length pool.now) × (count ≤ 65535) }
-    ensures { result ≡ gatesIn pool.now count }
+    ensures { result ≡ gates_in pool.now count }
 {
     let mut all = 0;
     let mut n = 0;

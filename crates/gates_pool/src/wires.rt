@@ -1,8 +1,8 @@
 // Nodes that need no gates: each bit is a literal of a register's bit, of a constant, or of an operand.
 ghost use Rattle.std.specs.Prelude.{◌≡◌, ◌+◌, ◌*◌, ◌/◌, ◌%◌, ◌^◌, ◌≤◌, ◌<◌, length, get_or};
-ghost use Rattle.pool.specs.Node.{kindNumber, width_at, wide};
+ghost use Rattle.pool.specs.Node.{kind_number, width_at, wide};
 ghost use Rattle.gates_words.specs.Words.{Puts};
-ghost use Rattle.gates_pool.specs.Bits.{Placed, NoGates, wireAt};
+ghost use Rattle.gates_pool.specs.Bits.{Placed, NoGates, wire_at};
 
 use pool::Node;
 use pool::words::{Kind, kind_of, width_of};
@@ -23,8 +23,8 @@ fn constant_bit(low: u64, high: u64, j: usize) -> u64
 
 // The literal of bit j of a Concat or an extension.
 fn joined_wire(pool: &[u64], n: Node, kind: u64, bits: &[u64], j: usize) -> u64
-    requires { Placed pool.now n.0 bits.now × (kind ≡ kindNumber pool.now n.0) × (17 ≤ kind) × (j < width_at pool.now n.0) }
-    ensures { result ≡ wireAt pool.now bits.now n.0 j }
+    requires { Placed pool.now n.0 bits.now × (kind ≡ kind_number pool.now n.0) × (17 ≤ kind) × (j < width_at pool.now n.0) }
+    ensures { result ≡ wire_at pool.now bits.now n.0 j }
 {
     let a = first(pool, n);
     let at = 129 * a.0;
@@ -49,7 +49,7 @@ fn joined_wire(pool: &[u64], n: Node, kind: u64, bits: &[u64], j: usize) -> u64
 // The literal of bit j of a node.
 fn wire(pool: &[u64], n: Node, bits: &[u64], j: usize) -> u64
     requires { Placed pool.now n.0 bits.now × NoGates pool.now n.0 × (j < width_at pool.now n.0) }
-    ensures { result ≡ wireAt pool.now bits.now n.0 j }
+    ensures { result ≡ wire_at pool.now bits.now n.0 j }
 {
     let kind = kind_of(pool, n);
     if kind == Kind::VAR {
@@ -70,7 +70,7 @@ fn wire(pool: &[u64], n: Node, bits: &[u64], j: usize) -> u64
 pub fn wires(pool: &[u64], n: Node, bits: &mut [u64])
     requires { Placed pool.now n.0 bits.old × NoGates pool.now n.0 }
     ensures { Puts bits.old bits.new (129 * n.0) (width_at pool.now n.0)
-        (wireAt pool.now bits.old n.0) }
+        (wire_at pool.now bits.old n.0) }
 {
     let w = width_of(pool, n) as usize;
     let at = 129 * n.0;

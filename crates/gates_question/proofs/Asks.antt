@@ -11,8 +11,8 @@ use lib.Seq.{get_or-drop}
 use borrow.Author.Tests.{lt-ltb}
 use Rattle.terms.specs.Value.{value}
 use Rattle.pool.specs.Node.{width_at}
-use Rattle.pool.specs.Unfold.{unfoldAt}
-use Rattle.gates.specs.Graph.{truth, gatesOk, graphOk}
+use Rattle.pool.specs.Unfold.{unfold_at}
+use Rattle.gates.specs.Graph.{truth, gates_ok, graph_ok}
 use Rattle.gates.specs.Grow.{Grown, Builds, Room, Under, negated}
 use Rattle.gates.proofs.Laws.{grown-same, grown-trans, is_made, is-not}
 use Rattle.gates_words.specs.Number.{sum, bit_at, number}
@@ -20,9 +20,9 @@ use Rattle.gates_words.specs.Words.{Low, Reads}
 use Rattle.gates_words.proofs.Sums.{sum_same, sum-high, sum_low}
 use Rattle.gates_words.proofs.Loops.{number-kept, low-kept}
 use Rattle.gates_pool.specs.Bits.{Start, literals, Held}
-use Rattle.gates_pool.specs.Gates.{gatesIn}
-use Rattle.gates_question.specs.Question.{gatesOfTwo, mostGates, questionNumber, bits_of, differAt, Asks}
-use Rattle.gates_question.specs.Build.{Ready, Both, wordsDiffer}
+use Rattle.gates_pool.specs.Gates.{gates_in}
+use Rattle.gates_question.specs.Question.{gates_of_two, most_gates, question_number, bits_of, differ_at, Asks}
+use Rattle.gates_question.specs.Build.{Ready, Both, words_differ}
 use Rattle.gates_question.proofs.Refusals.{Passed}
 
 -- ---- a part of a word
@@ -47,7 +47,7 @@ part-reads {bits} {a} {k} lo w l r =
 
 pub differs : {g h : List ℕ} {k l r n m : ℕ} (bits : List ℕ) (a b lo w : ℕ) → lo + w ≤ 128 → r ≡ negated l
     → Builds g k h l n m (λ start. eqb (number start g bits (a + lo) w) (number start g bits (b + lo) w))
-    → Builds g k h r n m (λ start. wordsDiffer start g bits a b lo w)
+    → Builds g k h r n m (λ start. words_differ start g bits a b lo w)
 differs {g} bits a b lo w le e made =
     let i = is-not (is_made made (λ start x. eqb (part start g bits a lo w le x) (part start g bits b lo w le x))) in
     rw e (record { grown = made.grown; most = made.most; under = i.under; is = i.true-at })
@@ -85,10 +85,10 @@ module _ {ws ws' g bits g₁ bits₁ : List ℕ} {n m a b hi lo k : ℕ} (p : Pa
         low = low-kept (drop (129 * n) bits₁) bits₁ (129 * b) (129 * (n + b)) 128 (omega arith) second-low moved;
       }
 
-  first-number : (start : ℕ → ℕ) → Start start → number start g₁ bits₁ (129 * a) 128 ≡ value start (unfoldAt ws a)
+  first-number : (start : ℕ → ℕ) → Start start → number start g₁ bits₁ (129 * a) 128 ≡ value start (unfold_at ws a)
   first-number start small = rw p.a-wide at (d.first.is start small a p.a-less)
 
-  second-number : (start : ℕ → ℕ) → Start start → number start g₁ bits₁ (129 * (n + b)) 128 ≡ value start (unfoldAt ws' b)
+  second-number : (start : ℕ → ℕ) → Start start → number start g₁ bits₁ (129 * (n + b)) 128 ≡ value start (unfold_at ws' b)
   second-number start small =
       let h = d.second.is start small b p.b-less in
       number-kept start (drop (129 * n) bits₁) bits₁ (129 * b) (129 * (n + b)) 128 (grown-same g₁ k) second-low moved
@@ -102,15 +102,15 @@ module _ {ws ws' g bits g₁ bits₁ : List ℕ} {n m a b hi lo k : ℕ} (p : Pa
       }
 
   module _ {h : List ℕ} {l c : ℕ}
-      (made : Builds g₁ k h l c (4 * (hi - lo + 1)) (λ start. wordsDiffer start g₁ bits₁ (129 * a) (129 * (n + b)) lo (hi - lo + 1))) where
-    pub few : c ≤ gatesOfTwo ws n ws' m
+      (made : Builds g₁ k h l c (4 * (hi - lo + 1)) (λ start. words_differ start g₁ bits₁ (129 * a) (129 * (n + b)) lo (hi - lo + 1))) where
+    pub few : c ≤ gates_of_two ws n ws' m
     few = omega (arith, made.most, d.most, p.ordered, p.inside-128)
 
     grown : Grown g 0 h c
     grown = grown-trans d.grown made.grown
 
     pub asks : Asks ws a ws' b hi lo h c l
-    unfolding graphOk gatesOk
+    unfolding graph_ok gates_ok
     asks =
         record {
           good = rw (lt-ltb c (suc (length h)) (omega (arith, few, p.gates, grown.long)), grown.valid refl);
@@ -121,5 +121,5 @@ module _ {ws ws' g bits g₁ bits₁ : List ℕ} {n m a b hi lo k : ℕ} (p : Pa
               (second-number start small i / 2 ^ lo % 2 ^ add-one (hi - lo) i)));
         }
 
-    pub graph-size : length h ≡ length g
-    graph-size = grown.long
+    pub graph_size : length h ≡ length g
+    graph_size = grown.long

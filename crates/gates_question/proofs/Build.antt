@@ -8,21 +8,21 @@ use lib.Seq.{get_or-append-add, get_or-take, get_or-drop, length-take-le}
 use borrow.Rule.Slice.PartMut.{put_mid, post_of, same_len_mid}
 use Rattle.terms.specs.Value.{value}
 use Rattle.pool.specs.Node.{width_at}
-use Rattle.pool.specs.Unfold.{unfoldAt}
+use Rattle.pool.specs.Unfold.{unfold_at}
 use Rattle.text_parts.proofs.Operands.{ready_of}
 use Rattle.gates.specs.Grow.{Grown, Room}
 use Rattle.gates.proofs.Laws.{grown-same, grown-trans}
 use Rattle.gates_words.proofs.Loops.{number-kept, low-kept}
 use Rattle.gates_pool.specs.Bits.{literals, Held}
-use Rattle.gates_pool.specs.Gates.{gatesIn, Nodes}
+use Rattle.gates_pool.specs.Gates.{gates_in, Nodes}
 use Rattle.gates_pool.proofs.Bounds.{gates-few}
 use Rattle.gates_pool.proofs.Rules.{most}
 use Rattle.gates_pool.proofs.Steps as steps
 use Rattle.gates_question.specs.Build.{Pool, Ready, Both}
 
 -- the gates of a pool, as a number of 64 bits
-pub gates-bound : (ws : List ℕ) (count : ℕ) → Pool ws count → (n : ℕ) → n ≤ count → gatesIn ws n ≤ 166410 * n
-unfolding gatesIn
+pub gates-bound : (ws : List ℕ) (count : ℕ) → Pool ws count → (n : ℕ) → n ≤ count → gates_in ws n ≤ 166410 * n
+unfolding gates_in
 gates-bound ws count p zero l = omega arith
 gates-bound ws count p (suc n) l =
     omega (arith, gates-bound ws count p n (omega arith), gates-few ws n (ready_of ws count n p.valid l p.words))
@@ -59,7 +59,7 @@ module _ (a : ℕ) (xs ys : List ℕ) (inside : a ≤ length xs) where
       ∙ get_or-append ys (post_of a (length xs - a) xs) 0 p l
 
 module _ {ws ws' g bits : List ℕ} {n m : ℕ} (r : Ready ws n ws' m g bits) where
-  pub first-room : Room g 0 (gatesIn ws n)
+  pub first-room : Room g 0 (gates_in ws n)
   first-room = record { words = omega (arith, r.room.words); numbers = omega (arith, r.room.numbers) }
 
   module _ {g₁ bits₁ : List ℕ} {k : ℕ} (d : Nodes ws n g 0 bits g₁ k bits₁) where
@@ -75,7 +75,7 @@ module _ {ws ws' g bits : List ℕ} {n m : ℕ} (r : Ready ws n ws' m g bits) wh
     part-long : length part ≡ length bits₁ - at
     part-long = length-take-le (length bits₁ - at) (drop at bits₁) (omega (arith, length-drop at bits₁))
 
-    pub second-room : Room g₁ k (gatesIn ws' m)
+    pub second-room : Room g₁ k (gates_in ws' m)
     second-room =
         record { words = omega (arith, r.room.words, d.most, d.grown.long); numbers = omega (arith, r.room.numbers, d.most) }
 

@@ -9,10 +9,10 @@ use borrow.Author.Tests.{leb-true, ltb-true, le-leb, lt-leb, lt-ltb, le-ltb}
 use Rattle.facts.specs.Refuse.{unless}
 use Rattle.facts.proofs.Tests.{and_both, passed}
 use Rattle.pool.specs.Node.{width_at}
-use Rattle.pool.specs.Rules.{poolOk, ofWidth}
+use Rattle.pool.specs.Rules.{pool_ok, of_width}
 use Rattle.pool_check.proofs.Passed.{words-for, few, keeps, below, has_width}
 use Rattle.gates.specs.Grow.{Room}
-use Rattle.gates_question.specs.Question.{gatesOfTwo, placesOfTwo, mostGates, poolsNumber, questionNumber}
+use Rattle.gates_question.specs.Question.{gates_of_two, places_of_two, most_gates, pools_number, question_number}
 use Rattle.gates_question.specs.Build.{Pool}
 
 not-zero : (n : ℕ) → 0 < n → n ≡ 0 → ⊥
@@ -24,71 +24,71 @@ same-refusal false q rest h = refl
 same-refusal true false rest h = refl
 same-refusal true true rest h = absurd (h refl)
 
-pub pool-of : (ws : List ℕ) (count : ℕ) → poolOk ws count ≡ true → Pool ws count
+pub pool-of : (ws : List ℕ) (count : ℕ) → pool_ok ws count ≡ true → Pool ws count
 pool-of ws count e = record { valid = keeps ws count e; words = words-for ws count e; few = few ws count e }
 
 module _ (ws : List ℕ) (n : ℕ) (ws' : List ℕ) (m : ℕ) where
-  pub bad-first : poolOk ws n ≡ false → 1 ≡ poolsNumber ws n ws' m 0
+  pub bad-first : pool_ok ws n ≡ false → 1 ≡ pools_number ws n ws' m 0
   bad-first e = sym (rw e)
 
-  pub bad-second : poolOk ws n ≡ true → poolOk ws' m ≡ false → 1 ≡ poolsNumber ws n ws' m 0
+  pub bad-second : pool_ok ws n ≡ true → pool_ok ws' m ≡ false → 1 ≡ pools_number ws n ws' m 0
   bad-second p e = sym (rw (p, e))
 
-  pub none-bad : poolOk ws n ≡ true → poolOk ws' m ≡ true → 0 ≡ poolsNumber ws n ws' m 0
+  pub none-bad : pool_ok ws n ≡ true → pool_ok ws' m ≡ true → 0 ≡ pools_number ws n ws' m 0
   none-bad p q = sym (rw (p, q))
 
-  pub both_ok : {rest : ℕ} → poolsNumber ws n ws' m rest ≡ 0 → (poolOk ws n ≡ true) × (poolOk ws' m ≡ true) × (rest ≡ 0)
+  pub both_ok : {rest : ℕ} → pools_number ws n ws' m rest ≡ 0 → (pool_ok ws n ≡ true) × (pool_ok ws' m ≡ true) × (rest ≡ 0)
   both_ok e =
-      let p = passed (poolOk ws n) (not-zero 1 (omega arith)) e in
-      let q = passed (poolOk ws' m) (not-zero 1 (omega arith)) p.1 in
+      let p = passed (pool_ok ws n) (not-zero 1 (omega arith)) e in
+      let q = passed (pool_ok ws' m) (not-zero 1 (omega arith)) p.1 in
       (p.0, q.0, q.1)
 
   module _ (a b hi lo graph bits : ℕ) where
     abbrev Number : ℕ → Type 0
-    Number k = k ≡ questionNumber ws n a ws' m b hi lo graph bits
+    Number k = k ≡ question_number ws n a ws' m b hi lo graph bits
 
-    pub bad-pools : {k : ℕ} → k ≡ poolsNumber ws n ws' m 0 → (k ≡ 0 → ⊥) → Number k
-    unfolding questionNumber
-    bad-pools e h = e ∙ same-refusal (poolOk ws n) (poolOk ws' m) _ (λ z. h (e ∙ z))
+    pub bad-pools : {k : ℕ} → k ≡ pools_number ws n ws' m 0 → (k ≡ 0 → ⊥) → Number k
+    unfolding question_number
+    bad-pools e h = e ∙ same-refusal (pool_ok ws n) (pool_ok ws' m) _ (λ z. h (e ∙ z))
 
-    module _ (p : poolOk ws n ≡ true) (q : poolOk ws' m ≡ true) where
-      pub bad-a : ofWidth ws n a 128 ≡ false → Number 5
-      unfolding questionNumber
+    module _ (p : pool_ok ws n ≡ true) (q : pool_ok ws' m ≡ true) where
+      pub bad-a : of_width ws n a 128 ≡ false → Number 5
+      unfolding question_number
       bad-a e = sym (rw (p, q, e))
 
-      module _ (x : ofWidth ws n a 128 ≡ true) where
-        pub bad-b : ofWidth ws' m b 128 ≡ false → Number 5
-        unfolding questionNumber
+      module _ (x : of_width ws n a 128 ≡ true) where
+        pub bad-b : of_width ws' m b 128 ≡ false → Number 5
+        unfolding question_number
         bad-b e = sym (rw (p, q, x, e))
 
-        module _ (y : ofWidth ws' m b 128 ≡ true) where
+        module _ (y : of_width ws' m b 128 ≡ true) where
           pub not-in-order : hi < lo → Number 13
-          unfolding questionNumber
+          unfolding question_number
           not-in-order h = sym (rw (p, q, x, y, lt-leb lo hi h))
 
           module _ (o : lo ≤ hi) where
             pub too-high : 127 < hi → Number 13
-            unfolding questionNumber
+            unfolding question_number
             too-high h = sym (rw (p, q, x, y, le-leb lo hi o, le-ltb hi 128 h))
 
             module _ (t : hi ≤ 127) where
               inside : ltb hi 128 ≡ true
               inside = lt-ltb hi 128 (omega arith)
 
-              pub short-graph : graph < gatesOfTwo ws n ws' m → Number 6
-              unfolding questionNumber
-              short-graph h = sym (rw (p, q, x, y, le-leb lo hi o, inside, lt-leb (gatesOfTwo ws n ws' m) graph h))
+              pub short-graph : graph < gates_of_two ws n ws' m → Number 6
+              unfolding question_number
+              short-graph h = sym (rw (p, q, x, y, le-leb lo hi o, inside, lt-leb (gates_of_two ws n ws' m) graph h))
 
-              module _ (r : gatesOfTwo ws n ws' m ≤ graph) where
-                pub too_many : mostGates < gatesOfTwo ws n ws' m → Number 6
-                unfolding questionNumber
+              module _ (r : gates_of_two ws n ws' m ≤ graph) where
+                pub too_many : most_gates < gates_of_two ws n ws' m → Number 6
+                unfolding question_number
                 too_many h =
                     sym
-                    (rw (p, q, x, y, le-leb lo hi o, inside, le-leb (gatesOfTwo ws n ws' m) graph r, lt-leb (gatesOfTwo ws n ws' m) mostGates h))
+                    (rw (p, q, x, y, le-leb lo hi o, inside, le-leb (gates_of_two ws n ws' m) graph r, lt-leb (gates_of_two ws n ws' m) most_gates h))
 
-                module _ (f : gatesOfTwo ws n ws' m ≤ mostGates) where
-                  pub short-places : bits < placesOfTwo n m → Number 6
-                  unfolding questionNumber
+                module _ (f : gates_of_two ws n ws' m ≤ most_gates) where
+                  pub short-places : bits < places_of_two n m → Number 6
+                  unfolding question_number
                   short-places h =
                       sym
                       (rw (
@@ -98,14 +98,14 @@ module _ (ws : List ℕ) (n : ℕ) (ws' : List ℕ) (m : ℕ) where
                         y,
                         le-leb lo hi o,
                         inside,
-                        le-leb (gatesOfTwo ws n ws' m) graph r,
-                        le-leb (gatesOfTwo ws n ws' m) mostGates f,
+                        le-leb (gates_of_two ws n ws' m) graph r,
+                        le-leb (gates_of_two ws n ws' m) most_gates f,
                         lt-leb
-                            (placesOfTwo n m) bits h,
+                            (places_of_two n m) bits h,
                       ))
 
-                  pub none-refused : placesOfTwo n m ≤ bits → Number 0
-                  unfolding questionNumber
+                  pub none-refused : places_of_two n m ≤ bits → Number 0
+                  unfolding question_number
                   none-refused h =
                       sym
                       (rw (
@@ -115,10 +115,10 @@ module _ (ws : List ℕ) (n : ℕ) (ws' : List ℕ) (m : ℕ) where
                         y,
                         le-leb lo hi o,
                         inside,
-                        le-leb (gatesOfTwo ws n ws' m) graph r,
-                        le-leb (gatesOfTwo ws n ws' m) mostGates f,
+                        le-leb (gates_of_two ws n ws' m) graph r,
+                        le-leb (gates_of_two ws n ws' m) most_gates f,
                         le-leb
-                            (placesOfTwo n m) bits h,
+                            (places_of_two n m) bits h,
                       ))
 
     -- what number 0 says
@@ -131,22 +131,22 @@ module _ (ws : List ℕ) (n : ℕ) (ws' : List ℕ) (m : ℕ) where
       pub b-wide : width_at ws' b ≡ 128
       pub ordered : lo ≤ hi
       pub inside-128 : hi < 128
-      pub gates : gatesOfTwo ws n ws' m ≤ graph
-      pub few-gates : gatesOfTwo ws n ws' m ≤ mostGates
-      pub places : placesOfTwo n m ≤ bits
+      pub gates : gates_of_two ws n ws' m ≤ graph
+      pub few-gates : gates_of_two ws n ws' m ≤ most_gates
+      pub places : places_of_two n m ≤ bits
 
-    pub all-passed : questionNumber ws n a ws' m b hi lo graph bits ≡ 0 → Passed
-    unfolding questionNumber
+    pub all-passed : question_number ws n a ws' m b hi lo graph bits ≡ 0 → Passed
+    unfolding question_number
     all-passed e =
         let r = both_ok e in
-        let x = passed (ofWidth ws n a 128) (not-zero 5 (omega arith)) r.2 in
-        let y = passed (ofWidth ws' m b 128) (not-zero 5 (omega arith)) x.1 in
+        let x = passed (of_width ws n a 128) (not-zero 5 (omega arith)) r.2 in
+        let y = passed (of_width ws' m b 128) (not-zero 5 (omega arith)) x.1 in
         let o = passed (leb lo hi && ltb hi 128) (not-zero 13 (omega arith)) y.1 in
         let order = and_both (leb lo hi) (ltb hi 128) o.0 in
-        let s = passed (leb (gatesOfTwo ws n ws' m) graph && leb (gatesOfTwo ws n ws' m) mostGates && leb (placesOfTwo n m) bits)
+        let s = passed (leb (gates_of_two ws n ws' m) graph && leb (gates_of_two ws n ws' m) most_gates && leb (places_of_two n m) bits)
         (not-zero 6 (omega arith)) o.1 in
-        let three = and_both (leb (gatesOfTwo ws n ws' m) graph && leb (gatesOfTwo ws n ws' m) mostGates) (leb (placesOfTwo n m) bits) s.0 in
-        let two = and_both (leb (gatesOfTwo ws n ws' m) graph) (leb (gatesOfTwo ws n ws' m) mostGates) three.0 in
+        let three = and_both (leb (gates_of_two ws n ws' m) graph && leb (gates_of_two ws n ws' m) most_gates) (leb (places_of_two n m) bits) s.0 in
+        let two = and_both (leb (gates_of_two ws n ws' m) graph) (leb (gates_of_two ws n ws' m) most_gates) three.0 in
         record {
           first = pool-of ws n r.0;
           second = pool-of ws' m r.1;

@@ -4,8 +4,8 @@ use Rattle.pool.specs.Rules.{Valid}
 use Rattle.gates.specs.Grow.{Grown, Room}
 use Rattle.gates_words.specs.Number.{number}
 use Rattle.gates_pool.specs.Bits.{Held}
-use Rattle.gates_pool.specs.Gates.{gatesIn}
-use Rattle.gates_question.specs.Question.{gatesOfTwo, placesOfTwo}
+use Rattle.gates_pool.specs.Gates.{gates_in}
+use Rattle.gates_question.specs.Question.{gates_of_two, places_of_two}
 
 -- a pool with so many valid nodes
 pub record Pool (ws : List ℕ) (count : ℕ) : Type 0 where
@@ -17,17 +17,17 @@ pub record Pool (ws : List ℕ) (count : ℕ) : Type 0 where
 pub record Ready (ws : List ℕ) (count : ℕ) (ws' : List ℕ) (count' : ℕ) (g bits : List ℕ) : Type 0 where
   pub first : Pool ws count
   pub second : Pool ws' count'
-  pub room : Room g 0 (gatesOfTwo ws count ws' count')
-  pub places : placesOfTwo count count' ≤ length bits
+  pub room : Room g 0 (gates_of_two ws count ws' count')
+  pub places : places_of_two count count' ≤ length bits
 
 pub record Both (ws : List ℕ) (count : ℕ) (ws' : List ℕ) (count' : ℕ) (g bits g' : List ℕ) (k : ℕ) (bits' : List ℕ) : Type 0 where
   pub grown : Grown g 0 g' k
-  pub most : k ≤ gatesIn ws count + gatesIn ws' count'
+  pub most : k ≤ gates_in ws count + gates_in ws' count'
   pub size : length bits' ≡ length bits
   pub first : Held ws count g' k bits'
   pub second : Held ws' count' g' k (drop (129 * count) bits')
 
 -- whether w bits from bit lo on differ, of the words at places a and b
-abbrev pub wordsDiffer : (ℕ → ℕ) → (g bits : List ℕ) → (a b lo w : ℕ) → Bool
-wordsDiffer start g bits a b lo w =
+abbrev pub words_differ : (ℕ → ℕ) → (g bits : List ℕ) → (a b lo w : ℕ) → Bool
+words_differ start g bits a b lo w =
     not (eqb (number start g bits a 128 / 2 ^ lo % 2 ^ w) (number start g bits b 128 / 2 ^ lo % 2 ^ w))

@@ -2,7 +2,7 @@
 ghost use Rattle.std.specs.Prelude.{◌≡◌, ◌+◌, ◌*◌, ◌≤◌, length};
 ghost use Rattle.gates.specs.Grow as grow;
 ghost use Rattle.gates_words.specs.Words.{Reads};
-ghost use Rattle.gates_question.specs.Question.{RoomIs, Answered, questionNumber, poolsNumber, gatesOfTwo};
+ghost use Rattle.gates_question.specs.Question.{RoomIs, Answered, question_number, pools_number, gates_of_two};
 ghost use Rattle.gates_question.specs.Build as build;
 
 use gates_build::{Made, negate};
@@ -13,7 +13,7 @@ use pool::Node;
 use pool_check::{of_width, pool_check};
 
 // A number of README's table, and how many gates and places of literals two pools need at most.
-#[derive(Drop)]
+#[derive(Clone, Copy)]
 pub struct Room {
     pub number: u64,
     pub gates: usize,
@@ -21,7 +21,7 @@ pub struct Room {
 }
 
 // A number of README's table, the gates that were made, and the literal.
-#[derive(Drop)]
+#[derive(Clone, Copy)]
 pub struct Asked {
     pub number: u64,
     pub count: usize,
@@ -30,7 +30,7 @@ pub struct Asked {
 
 // 1 for either pool, else 0.
 fn pools_number(first: &[u64], n: usize, second: &[u64], m: usize) -> u64
-    ensures { result ≡ poolsNumber first.now n second.now m 0 }
+    ensures { result ≡ pools_number first.now n second.now m 0 }
 {
     if !pool_check(first, n) {
         return 1;
@@ -44,7 +44,7 @@ fn pools_number(first: &[u64], n: usize, second: &[u64], m: usize) -> u64
 // The most gates of both pools and of the comparison.
 fn gates_of_two(first: &[u64], n: usize, second: &[u64], m: usize) -> usize
     requires { build.Pool first.now n × build.Pool second.now m }
-    ensures { result ≡ gatesOfTwo first.now n second.now m }
+    ensures { result ≡ gates_of_two first.now n second.now m }
 {
     (gates_in(first, n) + gates_in(second, m) + 512) as usize
 }
@@ -80,7 +80,7 @@ fn refusal(
     graph: usize,
     bits: usize,
 ) -> u64
-    ensures { result ≡ questionNumber first.now n a.0 second.now m b.0 hi lo graph bits }
+    ensures { result ≡ question_number first.now n a.0 second.now m b.0 hi lo graph bits }
 {
     let room = question_room(first, n, second, m);
     if room.number != 0 {
@@ -142,7 +142,7 @@ fn differ(
 ) -> Made
     requires { grow.Room graph.old count (4 * w) × (lo + w ≤ 128) × Reads bits.now a 128 count × Reads bits.now b 128 count }
     ensures { grow.Builds graph.old count graph.new result.literal result.count (4 * w)
-        (λ start. build.wordsDiffer start graph.old bits.now a b lo w) }
+        (λ start. build.words_differ start graph.old bits.now a b lo w) }
 {
     let same = equal(graph, count, table, bits, a + lo, b + lo, w);
     Made {

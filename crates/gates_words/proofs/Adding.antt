@@ -34,7 +34,7 @@ pub adds_none : (g : List ℕ) (k : ℕ) (bits : List ℕ) (r : Made) (a b out :
     → Adds g k bits g r bits a b r.literal out 0
 unfolding sum
 adds_none g k bits r a b out u e =
-    record { run = rw e (run_none g k bits out); carry-under = omega (arith, u, e); is = λ start. omega arith }
+    record { run = rw e (run_none g k bits out); carry_under = omega (arith, u, e); is = λ start. omega arith }
 
 next-column : (p n a b c : ℕ) (x y z : Bool) → n + bit z * p ≡ a + b + c
     → n + bit (differ (differ x y) z) * p + bit (most x y z) * (p * 2) ≡ a + bit x * p + (b + bit y * p) + c
@@ -47,7 +47,7 @@ pub adds-more : {g bits h new h' new' : List ℕ} {k out i : ℕ} {r r' : Made} 
 adds-more {g} {bits} {h} {new} {h'} {new'} {out = out} {i = i} {r = r} {a = a} {b = b} {carry = carry} e inside l oa ob p =
     record {
       run = run_more e.run inside p.0 (omega arith);
-      carry-under = p.1.under;
+      carry_under = p.1.under;
       is = λ start.
           let x = place-truth e.run start oa l in
           let y = place-truth e.run start ob l in

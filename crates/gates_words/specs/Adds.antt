@@ -17,6 +17,6 @@ PutsSum g k bits g' r bits' at x y z =
 -- the low i bits of the sum of two words and a carry are written, and r is the carry out of them
 pub record Adds (g : List ℕ) (k : ℕ) (bits g' : List ℕ) (r : Made) (bits' : List ℕ) (a b carry out i : ℕ) : Type 0 where
   pub run : Run g k bits g' r.count bits' out i (7 * i)
-  pub carry-under : Under r.literal r.count
+  pub carry_under : Under r.literal r.count
   pub is : (start : ℕ → ℕ) → number start g' bits' out i + bit (truth start g' r.literal) * 2 ^ i
       ≡ number start g bits a i + number start g bits b i + bit (truth start g carry)

@@ -5,11 +5,11 @@ ghost use Rattle.gates.specs.Grow.{Room, Builds, Under};
 ghost use Rattle.gates_build.specs.Adds.{choose};
 ghost use Rattle.gates_words.specs.Number.{number};
 ghost use Rattle.gates_words.specs.Words.{Operand, Put, Writes};
-ghost use Rattle.gates_words.specs.Bitwise.{gateOf, bits_of, iteOf};
+ghost use Rattle.gates_words.specs.Bitwise.{gate_of, bits_of, ite_of};
 
 use gates_build::Made;
 
-#[derive(Drop)]
+#[derive(Clone, Copy)]
 pub enum Gate {
     And,
     Or,
@@ -20,7 +20,7 @@ pub enum Gate {
 fn make(kind: Gate, graph: &mut [u64], count: usize, table: &mut [u64], a: u64, b: u64) -> Made
     requires { Room graph.old count 3 × Under a count × Under b count }
     ensures { Builds graph.old count graph.new result.literal result.count 3
-        (λ start. gateOf kind (truth start graph.old a) (truth start graph.old b)) }
+        (λ start. gate_of kind (truth start graph.old a) (truth start graph.old b)) }
 {
     match kind {
         Gate::And => gates_build::and(graph, count, table, a, b),
@@ -43,7 +43,7 @@ fn gate_at(
     requires room { Room graph.old count 3 × (x < length bits.old) × (y < length bits.old) × (at < length bits.old) }
     requires under { Under (get_or bits.old x 0) count × Under (get_or bits.old y 0) count }
     ensures { Put graph.old count bits.old graph.new result bits.new at 3
-        (λ start. gateOf kind (truth start graph.old (get_or bits.old x 0))
+        (λ start. gate_of kind (truth start graph.old (get_or bits.old x 0))
         (truth start graph.old (get_or bits.old y 0))) }
 {
     let made = make(kind, graph, count, table, bits[x], bits[y]);
@@ -113,7 +113,7 @@ pub fn mux(
     requires { Room graph.old count (3 * w) × (out + w ≤ length bits.old) × Operand bits.old a out w count × Operand bits.old b out w count
         × Under c count }
     ensures { Writes graph.old count bits.old graph.new result bits.new out w (3 * w)
-        (λ start. iteOf (truth start graph.old c)
+        (λ start. ite_of (truth start graph.old c)
         (number start graph.old bits.old a w) (number start graph.old bits.old b w)) }
 {
     let mut all = count;

@@ -1,32 +1,32 @@
 -- One instruction on a pool (document 01, "Pool" and "The numbers"): its number, and what the pool then holds.
 use Rattle.std.specs.Prelude.{true, List, ◌≡◌, ℕ, ◌+◌, ◌≤◌, ◌<◌}
-use Rattle.neon.specs.Op.{Op, opAt, Arrangement, arrangementAt, view}
+use Rattle.neon.specs.Op.{Op, op_at, Arrangement, arrangement_at, view}
 use Rattle.neon.specs.Refusal.{reserve}
-use Rattle.trees.specs.Trees.{resultTree}
+use Rattle.trees.specs.Trees.{result_tree}
 use Rattle.pool.specs.Node.{none}
-use Rattle.pool.specs.Rules.{poolOk}
-use Rattle.pool.specs.Unfold.{unfoldAt}
+use Rattle.pool.specs.Rules.{pool_ok}
+use Rattle.pool.specs.Unfold.{unfold_at}
 use Rattle.pool.specs.Growth.{Grown, NodeIs, Reach}
-use Rattle.instruction_check.specs.Number.{instructionNumber}
+use Rattle.instruction_check.specs.Number.{instruction_number}
 use Rattle.instruction.specs.declared.Lowering.{Lowering}
 
 module _ (old : List ℕ) (count : ℕ) (new : List ℕ) (r : Lowering) where
   -- the answer's node is the term of the instruction over those of its sources; the nodes that are new come after the count, keep the
   -- pool's rules and are reached from the answer; every other word is as it was
   pub record Lowered (o : Op) (v : Arrangement) (i d n m : ℕ) : Type 0 where
-    pub is : NodeIs new r.count r.node (view v) (resultTree o v i (unfoldAt old d) (unfoldAt old n) (unfoldAt old m))
+    pub is : NodeIs new r.count r.node (view v) (result_tree o v i (unfold_at old d) (unfold_at old n) (unfold_at old m))
     pub grown : Grown old count new r.count
     pub most : r.count ≤ count + reserve
-    pub checked : poolOk new r.count ≡ true
+    pub checked : pool_ok new r.count ≡ true
     pub reached : (k : ℕ) → count ≤ k → k < r.count → Reach new r.node k
 
   -- no node, the old count, and the pool as it was
   pub record Refused : Type 0 where
     pub no_node : r.node ≡ none
     pub same_count : r.count ≡ count
-    pub same-words : new ≡ old
+    pub same_words : new ≡ old
 
   pub record Answers (operation arrangement i d n m : ℕ) : Type 0 where
-    pub number : r.number ≡ instructionNumber old count operation arrangement i d n m
-    pub done : r.number ≡ 0 → Lowered (opAt operation) (arrangementAt arrangement) i d n m
+    pub number : r.number ≡ instruction_number old count operation arrangement i d n m
+    pub done : r.number ≡ 0 → Lowered (op_at operation) (arrangement_at arrangement) i d n m
     pub refused : (r.number ≡ 0 → ⊥) → Refused

@@ -7,7 +7,7 @@ use instruction_check::instruction_number;
 use pool::Node;
 
 // The number, 0 for done; the node of the term; and the count of the pool after it.
-#[derive(Drop)]
+#[derive(Clone, Copy)]
 pub struct Lowering {
     pub number: u64,
     pub node: usize,

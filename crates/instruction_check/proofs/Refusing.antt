@@ -8,52 +8,52 @@ use lib.Dec.{leb, eqb}
 use borrow.Author.Tests.{leb-true, le-leb, lt-leb, not-true, not-false}
 use Rattle.facts.specs.Refuse.{unless}
 use Rattle.facts.proofs.Tests.{passed}
-use Rattle.neon.specs.Op.{Op, opAt, Arrangement, arrangementAt, full, bitsIf}
-use Rattle.neon.specs.Form.{form, hasSecond, readsD, firstFull, secondFull, byElement}
-use Rattle.neon.specs.Refusal.{formNumber, reserve}
+use Rattle.neon.specs.Op.{Op, op_at, Arrangement, arrangement_at, full, bits_if}
+use Rattle.neon.specs.Form.{form, has_second, reads_d, first_full, second_full, by_element}
+use Rattle.neon.specs.Refusal.{form_number, reserve}
 use Rattle.neon.proofs.Legal.{formed, form-rest, form-first}
 use Rattle.pool.specs.Node.{none, width_at, places}
-use Rattle.pool.specs.Rules.{poolOk, ofWidth}
+use Rattle.pool.specs.Rules.{pool_ok, of_width}
 use Rattle.pool_check.proofs.Passed.{within-places, below, has_width}
-use Rattle.instruction_check.specs.Number.{sourceOk, sourcesOk, instructionNumber}
+use Rattle.instruction_check.specs.Number.{source_ok, sources_ok, instruction_number}
 
 -- ---- one source
 
 module _ (ws : List ℕ) (count : ℕ) (wanted full : Bool) (node : ℕ) where
-  pub source-none : not wanted ≡ true → eqb node none ≡ sourceOk ws count wanted (bitsIf full) node
+  pub source-none : not wanted ≡ true → eqb node none ≡ source_ok ws count wanted (bits_if full) node
   source-none e = rw (not-true wanted e) refl
 
-  pub source-full : not wanted ≡ false → full ≡ true → ofWidth ws count node 128 ≡ sourceOk ws count wanted (bitsIf full) node
+  pub source-full : not wanted ≡ false → full ≡ true → of_width ws count node 128 ≡ source_ok ws count wanted (bits_if full) node
   source-full e f = rw (not-false wanted e, f) refl
 
-  pub source-half : not wanted ≡ false → full ≡ false → ofWidth ws count node 64 ≡ sourceOk ws count wanted (bitsIf full) node
+  pub source-half : not wanted ≡ false → full ≡ false → of_width ws count node 64 ≡ source_ok ws count wanted (bits_if full) node
   source-half e f = rw (not-false wanted e, f) refl
 
-pub source_is : (ws : List ℕ) (count : ℕ) (wanted : Bool) (w node : ℕ) → sourceOk ws count wanted w node ≡ true → wanted ≡ true
+pub source_is : (ws : List ℕ) (count : ℕ) (wanted : Bool) (w node : ℕ) → source_ok ws count wanted w node ≡ true → wanted ≡ true
     → (node < count) × (width_at ws node ≡ w)
 source_is ws count wanted w node h e =
-    let f = subst (λ (b : Bool). sourceOk ws count b w node ≡ true) e h in
+    let f = subst (λ (b : Bool). source_ok ws count b w node ≡ true) e h in
     (below ws count node w f, has_width ws count node w f)
 
 -- ---- the three of them
 
 module _ (ws : List ℕ) (count : ℕ) (o : Op) (v : Arrangement) (d n m : ℕ) where
-  pub sources-are : {f rd ff hs sf x y z : Bool} → f ≡ full v → rd ≡ readsD o v → ff ≡ firstFull (form o).lanes (full v) → hs ≡ hasSecond o
-      → sf ≡ secondFull (form o).lanes (byElement o) (full v)
-      → x ≡ sourceOk ws count rd (bitsIf f) d
-      → y ≡ sourceOk ws count true (bitsIf ff) n
-      → z ≡ sourceOk ws count hs (bitsIf sf) m
-      → (x && y && z) ≡ sourcesOk ws count o v d n m
+  pub sources-are : {f rd ff hs sf x y z : Bool} → f ≡ full v → rd ≡ reads_d o v → ff ≡ first_full (form o).lanes (full v) → hs ≡ has_second o
+      → sf ≡ second_full (form o).lanes (by_element o) (full v)
+      → x ≡ source_ok ws count rd (bits_if f) d
+      → y ≡ source_ok ws count true (bits_if ff) n
+      → z ≡ source_ok ws count hs (bits_if sf) m
+      → (x && y && z) ≡ sources_ok ws count o v d n m
   sources-are e p p2 p3 p4 q q2 q3 = rw (q, q2, q3, e, p, p2, p3, p4)
 
 -- ---- the number
 
 module _ (ws : List ℕ) (count operation arrangement i d n m : ℕ) where
   abbrev number : ℕ
-  number = instructionNumber ws count operation arrangement i d n m
+  number = instruction_number ws count operation arrangement i d n m
 
   abbrev sources : Bool
-  sources = sourcesOk ws count (opAt operation) (arrangementAt arrangement) d n m
+  sources = sources_ok ws count (op_at operation) (arrangement_at arrangement) d n m
 
   abbrev enough : Bool
   enough = leb (count + reserve) (places ws)
@@ -62,18 +62,18 @@ module _ (ws : List ℕ) (count operation arrangement i d n m : ℕ) where
   abbrev rest : ℕ
   rest = unless sources 5 (unless enough 6 0)
 
-  pub number-pool : poolOk ws count ≡ false → 1 ≡ number
-  unfolding instructionNumber
+  pub number-pool : pool_ok ws count ≡ false → 1 ≡ number
+  unfolding instruction_number
   number-pool e = rw e refl
 
-  pub number-form : {k : ℕ} → poolOk ws count ≡ true → k ≡ formNumber operation arrangement i 0 → (k ≡ 0 → ⊥) → k ≡ number
-  unfolding instructionNumber
+  pub number-form : {k : ℕ} → pool_ok ws count ≡ true → k ≡ form_number operation arrangement i 0 → (k ≡ 0 → ⊥) → k ≡ number
+  unfolding instruction_number
   number-form p q f = rw p (q ∙ form-first operation arrangement i rest (λ z. f (q ∙ z)))
 
   -- past the form
-  module _ (p : poolOk ws count ≡ true) (z : formNumber operation arrangement i 0 ≡ 0) where
+  module _ (p : pool_ok ws count ≡ true) (z : form_number operation arrangement i 0 ≡ 0) where
     number-rest : number ≡ rest
-    unfolding instructionNumber
+    unfolding instruction_number
     number-rest = rw p (form-rest operation arrangement i rest z)
 
     pub number-sources : sources ≡ false → 5 ≡ number
@@ -87,21 +87,21 @@ module _ (ws : List ℕ) (count operation arrangement i d n m : ℕ) where
 
   -- an instruction that is accepted
   pub record Passed : Type 0 where
-    pub pool-ok : poolOk ws count ≡ true
-    pub form-ok : formNumber operation arrangement i 0 ≡ 0
+    pub pool-ok : pool_ok ws count ≡ true
+    pub form-ok : form_number operation arrangement i 0 ≡ 0
     pub sources-ok : sources ≡ true
     pub room : count + reserve ≤ places ws
 
   pub passes : number ≡ 0 → Passed
-  unfolding instructionNumber
+  unfolding instruction_number
   passes e =
-      let p = passed (poolOk ws count) (λ z. omega arith) e in
+      let p = passed (pool_ok ws count) (λ z. omega arith) e in
       let q = formed operation arrangement i rest p.1 in
       let s = passed sources (λ z. omega arith) q.1 in
       let t = passed enough (λ z. omega arith) s.1 in
       record {
         pool-ok = p.0;
-        form-ok = subst (λ (x : ℕ). formNumber operation arrangement i x ≡ 0) q.1 p.1;
+        form-ok = subst (λ (x : ℕ). form_number operation arrangement i x ≡ 0) q.1 p.1;
         sources-ok = s.0;
         room = leb-true (count + reserve) (places ws) t.0;
       }

@@ -1,17 +1,17 @@
 // The refusals of one instruction: the pool, the form, the sources, the room.
 ghost use Rattle.std.specs.Prelude.{◌≡◌, true};
-ghost use Rattle.neon.specs.Op.{bitsIf, full as full_of};
-ghost use Rattle.pool.specs.Rules.{poolOk};
+ghost use Rattle.neon.specs.Op.{bits_if, full as full_of};
+ghost use Rattle.pool.specs.Rules.{pool_ok};
 ghost use Rattle.neon_form.specs.Code.{OfCode};
-ghost use Rattle.instruction_check.specs.Number.{sourceOk, sourcesOk, instructionNumber};
+ghost use Rattle.instruction_check.specs.Number.{source_ok, sources_ok, instruction_number};
 
 use pool::Node;
 use pool_check::of_width;
 
 // A wanted source is a node of its width, and one that is not wanted is none.
 fn source_ok(pool: &[u64], count: usize, wanted: bool, full: bool, node: Node) -> bool
-    requires { poolOk pool.now count ≡ true }
-    ensures { result ≡ sourceOk pool.now count wanted (bitsIf full) node.0 }
+    requires { pool_ok pool.now count ≡ true }
+    ensures { result ≡ source_ok pool.now count wanted (bits_if full) node.0 }
 {
     if !wanted {
         return node.0 == Node::NONE;
@@ -24,8 +24,8 @@ fn source_ok(pool: &[u64], count: usize, wanted: bool, full: bool, node: Node) -
 
 // The sources of a form by its code; `full` is that of its arrangement.
 fn sources_ok(pool: &[u64], count: usize, code: u64, full: bool, d: Node, n: Node, m: Node) -> bool
-    requires { poolOk pool.now count ≡ true }
-    ensures { OfCode code (λ o v. full ≡ full_of v → result ≡ sourcesOk pool.now count o v d.0 n.0 m.0) }
+    requires { pool_ok pool.now count ≡ true }
+    ensures { OfCode code (λ o v. full ≡ full_of v → result ≡ sources_ok pool.now count o v d.0 n.0 m.0) }
 {
     source_ok(pool, count, neon_form::reads_d(code), full, d)
         & source_ok(pool, count, true, neon_form::first_full(code), n)
@@ -49,7 +49,7 @@ pub fn instruction_number(
     n: Node,
     m: Node,
 ) -> u64
-    ensures { result ≡ instructionNumber pool.now count operation arrangement i d.0 n.0 m.0 }
+    ensures { result ≡ instruction_number pool.now count operation arrangement i d.0 n.0 m.0 }
 {
     if !pool_check::pool_check(pool, count) {
         return 1;

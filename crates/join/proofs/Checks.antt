@@ -10,10 +10,10 @@ use lib.ListN.{length, get_or, set, length-set}
 use lib.Seq.{get_or-set_same, get_or-set_other}
 use borrow.Author.Tests.{le-ltb, ltb-true, ltb-false, leb-true, le-leb}
 use Rattle.facts.proofs.Tests.{and_both}
-use Rattle.pool.specs.Node.{kindNumber, word_at}
-use Rattle.pool.specs.Rules.{poolOk}
-use Rattle.pool_check.specs.Plain.{plainAt, plainFrom}
-use Rattle.join.specs.Starts.{varRule, varRules, startsWithRegisters}
+use Rattle.pool.specs.Node.{kind_number, word_at}
+use Rattle.pool.specs.Rules.{pool_ok}
+use Rattle.pool_check.specs.Plain.{plain_at, plain_from}
+use Rattle.join.specs.Starts.{var_rule, var_rules, starts_with_registers}
 use Rattle.join.specs.Join.{moved, Half}
 
 pub raised_is : (c m r : ℕ) → 32 ≤ c → r ≡ cond (ltb m 32) 0 (c - 32) → moved c m ≡ m + r
@@ -26,12 +26,12 @@ raised_is c m r h e = go (ltb m 32) refl
         by true q = omega arith
         by false q = omega arith
 
-pub rules-none : (ws : List ℕ) → varRules ws 0 ≡ true
-unfolding varRules
+pub rules-none : (ws : List ℕ) → var_rules ws 0 ≡ true
+unfolding var_rules
 rules-none ws = refl
 
-pub rules-more : (ws : List ℕ) (n : ℕ) → varRules ws n ≡ true → varRule ws n ≡ true → varRules ws (n + 1) ≡ true
-unfolding varRules
+pub rules-more : (ws : List ℕ) (n : ℕ) → var_rules ws n ≡ true → var_rule ws n ≡ true → var_rules ws (n + 1) ≡ true
+unfolding var_rules
 rules-more ws n p q = rw (add-one n, p, q)
 
 and-false : (a b : Bool) → b ≡ false → (a && b) ≡ false
@@ -41,77 +41,77 @@ and-false false b e = refl
 false-and : (a b : Bool) → a ≡ false → (a && b) ≡ false
 false-and a b e = rw e
 
-pub rules-bad : (ws : List ℕ) (n count : ℕ) → n < count → varRule ws n ≡ false → varRules ws count ≡ false
-unfolding varRules
+pub rules-bad : (ws : List ℕ) (n count : ℕ) → n < count → var_rule ws n ≡ false → var_rules ws count ≡ false
+unfolding var_rules
 rules-bad ws n zero l h = absurd (omega arith)
 rules-bad ws n (suc c) l h = go (λ g. rules-bad ws n c g h) (ltb n c) refl
   where
-    go : (n < c → varRules ws c ≡ false) → (t : Bool) → ltb n c ≡ t → (varRules ws c && varRule ws c) ≡ false
-    go f true e = false-and (varRules ws c) (varRule ws c) (f (ltb-true n c e))
+    go : (n < c → var_rules ws c ≡ false) → (t : Bool) → ltb n c ≡ t → (var_rules ws c && var_rule ws c) ≡ false
+    go f true e = false-and (var_rules ws c) (var_rule ws c) (f (ltb-true n c e))
     go f false e =
         let g : c ≤ n = ltb-false n c e in
         let q : n ≡ c = omega arith in
-        and-false (varRules ws c) (varRule ws c) (ap (varRule ws) (sym q) ∙ h)
+        and-false (var_rules ws c) (var_rule ws c) (ap (var_rule ws) (sym q) ∙ h)
 
 never : (q : Bool) → (q ≡ true → ⊥) → false ≡ q
 never true f = absurd (f refl)
 never false f = refl
 
--- the rule of Vars and the registers are the two halves of varRules
-rule-plain : (ws : List ℕ) (n : ℕ) → varRule ws n ≡ true → plainAt ws 32 n ≡ true
+-- the rule of Vars and the registers are the two halves of var_rules
+rule-plain : (ws : List ℕ) (n : ℕ) → var_rule ws n ≡ true → plain_at ws 32 n ≡ true
 rule-plain ws n h = go (ltb n 32) h
   where
-    go : (t : Bool) → cond t (eqb (kindNumber ws n) 1 && eqb (word_at ws n 2) n) (not (eqb (kindNumber ws n) 1)) ≡ true → (t || not (eqb (kindNumber ws n) 1)) ≡ true
+    go : (t : Bool) → cond t (eqb (kind_number ws n) 1 && eqb (word_at ws n 2) n) (not (eqb (kind_number ws n) 1)) ≡ true → (t || not (eqb (kind_number ws n) 1)) ≡ true
     go true e = refl
     go false e = e
 
-rules-plain : (ws : List ℕ) (count : ℕ) → varRules ws count ≡ true → plainFrom ws 32 count ≡ true
-unfolding varRules plainFrom
+rules-plain : (ws : List ℕ) (count : ℕ) → var_rules ws count ≡ true → plain_from ws 32 count ≡ true
+unfolding var_rules plain_from
 rules-plain ws zero h = refl
 rules-plain ws (suc n) h =
-    let p = and_both (varRules ws n) (varRule ws n) h in
+    let p = and_both (var_rules ws n) (var_rule ws n) h in
     rw (rules-plain ws n p.0) (rule-plain ws n p.1)
 
-plain-rule : (ws : List ℕ) (n : ℕ) → 32 ≤ n → plainAt ws 32 n ≡ true → varRule ws n ≡ true
+plain-rule : (ws : List ℕ) (n : ℕ) → 32 ≤ n → plain_at ws 32 n ≡ true → var_rule ws n ≡ true
 plain-rule ws n h e = rw (le-ltb n 32 h) (rw (le-ltb n 32 h) at e)
 
-rules-from : (ws : List ℕ) (count : ℕ) → varRules ws 32 ≡ true → 32 ≤ count → plainFrom ws 32 count ≡ true → varRules ws count ≡ true
-unfolding varRules plainFrom
+rules-from : (ws : List ℕ) (count : ℕ) → var_rules ws 32 ≡ true → 32 ≤ count → plain_from ws 32 count ≡ true → var_rules ws count ≡ true
+unfolding var_rules plain_from
 rules-from ws zero r h p = absurd (omega arith)
 rules-from ws (suc n) r h p =
-    let q = and_both (plainFrom ws 32 n) (plainAt ws 32 n) p in
+    let q = and_both (plain_from ws 32 n) (plain_at ws 32 n) p in
     go q.1 (λ l. rules-from ws n r l q.0) (ltb n 32) refl
   where
-    go : plainAt ws 32 n ≡ true → (32 ≤ n → varRules ws n ≡ true) → (t : Bool) → ltb n 32 ≡ t → varRules ws (suc n) ≡ true
+    go : plain_at ws 32 n ≡ true → (32 ≤ n → var_rules ws n ≡ true) → (t : Bool) → ltb n 32 ≡ t → var_rules ws (suc n) ≡ true
     go g f true e =
         let l : n < 32 = ltb-true n 32 e in
         let q : 32 ≡ suc n = omega arith in
-        subst (λ (m : ℕ). varRules ws m ≡ true) q r
+        subst (λ (m : ℕ). var_rules ws m ≡ true) q r
     go g f false e = let l : 32 ≤ n = ltb-false n 32 e in rw (f l) (plain-rule ws n l g)
 
 module _ (ws : List ℕ) (count : ℕ) where
   abbrev Good : Bool
-  Good = poolOk ws count && startsWithRegisters ws count
+  Good = pool_ok ws count && starts_with_registers ws count
 
-  pub not-ok : (poolOk ws count && plainFrom ws 32 count) ≡ false → false ≡ Good
+  pub not-ok : (pool_ok ws count && plain_from ws 32 count) ≡ false → false ≡ Good
   not-ok e = never Good (λ h.
-      let p = and_both (poolOk ws count) (startsWithRegisters ws count) h in
-      let q = and_both (leb 32 count) (varRules ws count) p.1 in
-      let all : (poolOk ws count && plainFrom ws 32 count) ≡ true = rw p.0 (rules-plain ws count q.1) in
+      let p = and_both (pool_ok ws count) (starts_with_registers ws count) h in
+      let q = and_both (leb 32 count) (var_rules ws count) p.1 in
+      let all : (pool_ok ws count && plain_from ws 32 count) ≡ true = rw p.0 (rules-plain ws count q.1) in
       false≢true (sym e ∙ all))
 
   pub too_few : count < 32 → false ≡ Good
   too_few h = never Good (λ g.
-      let p = and_both (poolOk ws count) (startsWithRegisters ws count) g in
-      let q : 32 ≤ count = leb-true 32 count (and_both (leb 32 count) (varRules ws count) p.1).0 in
+      let p = and_both (pool_ok ws count) (starts_with_registers ws count) g in
+      let q : 32 ≤ count = leb-true 32 count (and_both (leb 32 count) (var_rules ws count) p.1).0 in
       omega arith)
 
-  pub not-var : varRules ws count ≡ false → false ≡ Good
-  not-var e = sym (and-false (poolOk ws count) (startsWithRegisters ws count) (and-false (leb 32 count) (varRules ws count) e))
+  pub not-var : var_rules ws count ≡ false → false ≡ Good
+  not-var e = sym (and-false (pool_ok ws count) (starts_with_registers ws count) (and-false (leb 32 count) (var_rules ws count) e))
 
-  pub all-good : (poolOk ws count && plainFrom ws 32 count) ≡ true → 32 ≤ count → varRules ws 32 ≡ true → true ≡ Good
+  pub all-good : (pool_ok ws count && plain_from ws 32 count) ≡ true → 32 ≤ count → var_rules ws 32 ≡ true → true ≡ Good
   all-good e h r =
-      let p = and_both (poolOk ws count) (plainFrom ws 32 count) e in
+      let p = and_both (pool_ok ws count) (plain_from ws 32 count) e in
       sym (rw (p.0, le-leb 32 count h) (rules-from ws count r h p.1))
 
 -- ---- copies

@@ -6,7 +6,7 @@ use native.Mathlib.Omega.{arith}
 use borrow.Author.Tests.{le-leb}
 use Rattle.pool.specs.Node.{places}
 use Rattle.join.specs.declared.Joined.{Joined}
-use Rattle.join.specs.Join.{joinCount, Answered}
+use Rattle.join.specs.Join.{join_count, Answered}
 use Rattle.join.specs.Meaning.{TermsKept, EqOfTerms, EqHolds, JoinedPasses}
 use Rattle.join.proofs.Refusals.{Passed, all-passed}
 use Rattle.join.proofs.Trees.{first-trees, second-trees, eq-tree, eq-value, joined-valid}
@@ -15,7 +15,7 @@ module _ (first : List ℕ) (c : ℕ) (second : List ℕ) (d x y : ℕ) (old new
   pub joined : Passed first c second d x y old
   joined = all-passed first c second d x y old (sym A.number ∙ z)
 
-  few : joinCount c d ≤ 65535
+  few : join_count c d ≤ 65535
   few = omega (arith, joined.room)
 
 pub terms-kept : TermsKept
@@ -43,4 +43,4 @@ joined-passes first c second d x y old new a A z =
     let l = few first c second d x y old new a A z in
     let D = A.done z in
     let v = joined-valid first c second d x y p.first-starts p.second-starts l new D.words p.x-less p.y-less p.x-wide p.y-wide in
-    rw (D.count, D.long, le-leb (joinCount c d) (places old) p.room) v
+    rw (D.count, D.long, le-leb (join_count c d) (places old) p.room) v

@@ -3,8 +3,8 @@ use Rattle.std.specs.Prelude.{true, List, ◌↔◌, ◌≡◌, ℕ, ◌<◌}
 use Rattle.terms.specs.declared.CmpOp.TheVariants.{Eq}
 use Rattle.terms.specs.Expr.{Compare}
 use Rattle.terms.specs.Value.{value}
-use Rattle.pool.specs.Rules.{poolOk}
-use Rattle.pool.specs.Unfold.{unfoldAt}
+use Rattle.pool.specs.Rules.{pool_ok}
+use Rattle.pool.specs.Unfold.{unfold_at}
 use Rattle.join.specs.declared.Joined.{Joined}
 use Rattle.join.specs.Join.{moved, Answered}
 
@@ -18,18 +18,18 @@ WhenJoined P =
 abbrev pub TermsKept : Type 0
 TermsKept =
     WhenJoined (λ first c second d x y new a.
-    ((n : ℕ) → n < c → unfoldAt new n ≡ unfoldAt first n) × ((m : ℕ) → m < d → unfoldAt new (moved c m) ≡ unfoldAt second m))
+    ((n : ℕ) → n < c → unfold_at new n ≡ unfold_at first n) × ((m : ℕ) → m < d → unfold_at new (moved c m) ≡ unfold_at second m))
 
 -- the answer's node is the Eq of the two chosen terms
 abbrev pub EqOfTerms : Type 0
-EqOfTerms = WhenJoined (λ first c second d x y new a. unfoldAt new a.node ≡ Compare Eq (unfoldAt first x) (unfoldAt second y))
+EqOfTerms = WhenJoined (λ first c second d x y new a. unfold_at new a.node ≡ Compare Eq (unfold_at first x) (unfold_at second y))
 
 -- and holds at a start exactly when the two are equal there
 abbrev pub EqHolds : Type 0
 EqHolds =
     WhenJoined (λ first c second d x y new a.
-    (start : ℕ → ℕ) → (value start (unfoldAt new a.node) ≡ 1) ↔ (value start (unfoldAt first x) ≡ value start (unfoldAt second y)))
+    (start : ℕ → ℕ) → (value start (unfold_at new a.node) ≡ 1) ↔ (value start (unfold_at first x) ≡ value start (unfold_at second y)))
 
 -- the third pool passes the check
 abbrev pub JoinedPasses : Type 0
-JoinedPasses = WhenJoined (λ first c second d x y new a. poolOk new a.count ≡ true)
+JoinedPasses = WhenJoined (λ first c second d x y new a. pool_ok new a.count ≡ true)

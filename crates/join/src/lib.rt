@@ -1,9 +1,9 @@
 // Two pools as one, with an Eq of a term of each (document 02, S-11). The Rust has no counterpart.
 ghost use Rattle.std.specs.Prelude.{cond, ◌&&◌, ◌≡◌, ℕ, ◌+◌, ◌-◌, ◌*◌, ◌≤◌, ◌<◌, ltb, length};
 ghost use Rattle.pool.specs.Node.{places, word_at};
-ghost use Rattle.pool.specs.Rules.{poolOk, Valid};
-ghost use Rattle.join.specs.Starts.{varRule, startsWithRegisters};
-ghost use Rattle.join.specs.Join.{movedParts, joinCount, joinNumber, Answered, Half, SecondAt, writeMoved, writeEq};
+ghost use Rattle.pool.specs.Rules.{pool_ok, Valid};
+ghost use Rattle.join.specs.Starts.{var_rule, starts_with_registers};
+ghost use Rattle.join.specs.Join.{moved_parts, join_count, join_number, Answered, Half, SecondAt, write_moved, write_eq};
 
 use pool::words::{Kind, kind_of, kind_word, kind_word_at, operands_word, set_of};
 use pool::{Node, places, push};
@@ -11,7 +11,7 @@ use pool_check::{check_plain, of_width};
 use pool_fields::{first, high, low, operand_word, second, third};
 
 // The number of document 02, the Eq, and how many nodes there are with it.
-#[derive(Drop)]
+#[derive(Clone, Copy)]
 pub struct Joined {
     pub number: u64,
     pub node: usize,
@@ -21,14 +21,14 @@ pub struct Joined {
 // Whether node n, one of the first 32, is Var n.
 fn is_register(pool: &[u64], n: Node) -> bool
     requires { (4 * n.0 + 3 < length pool.now) × (n.0 < 32) }
-    ensures { result ≡ varRule pool.now n.0 }
+    ensures { result ≡ var_rule pool.now n.0 }
 {
     (kind_of(pool, n) == Kind::VAR) & (low(pool, n) == n.0 as u64)
 }
 
 // Whether the pool passes the check, begins with the registers and has no further Var.
 fn starts(pool: &[u64], count: usize) -> bool
-    ensures { result ≡ (poolOk pool.now count && startsWithRegisters pool.now count) }
+    ensures { result ≡ (pool_ok pool.now count && starts_with_registers pool.now count) }
 {
     if !check_plain(pool, count, Node(32)) {
         return false;
@@ -60,7 +60,7 @@ fn raised(by: u64, m: Node) -> u64
 // operand that it has not is 0, and stays 0.
 fn moved_word(c: u64, pool: &[u64], m: Node) -> u64
     requires { (32 ≤ c) × (c ≤ 65535) × (4 * m.0 + 3 < length pool.now) × (word_at pool.now m.0 1 < 281474976710656) }
-    ensures { result ≡ movedParts c (word_at pool.now m.0 1) }
+    ensures { result ≡ moved_parts c (word_at pool.now m.0 1) }
 {
     let by = c - 32;
     operand_word(pool, m)
@@ -86,7 +86,7 @@ fn move_one(second: &[u64], c: usize, m: Node, out: &mut [u64])
     requires le_c { (32 ≤ c) × (c ≤ 65535) × (32 ≤ m.0) × (m.0 < 65535) }
     requires m_in_bounds { (4 * m.0 + 3 < length second.now) × (4 * (m.0 + c) + 4 ≤ length out.old + 128) × (m.0 + c < 65567) }
     requires m_bound { word_at second.now m.0 1 < 281474976710656 }
-    ensures { out.new ≡ writeMoved c second.now m.0 out.old }
+    ensures { out.new ≡ write_moved c second.now m.0 out.old }
 {
     push(
         out,
@@ -102,7 +102,7 @@ fn move_one(second: &[u64], c: usize, m: Node, out: &mut [u64])
 fn copy_pools(first: &[u64], c: usize, second: &[u64], d: usize, out: &mut [u64])
     requires valid { (Valid second.now d) × (4 * d ≤ length second.now) × (32 ≤ d) }
     requires c_in_bounds { (4 * c ≤ length first.now) × (32 ≤ c) }
-    requires d_in_bounds { (4 * joinCount c d ≤ length out.old) × (joinCount c d ≤ 65535) }
+    requires d_in_bounds { (4 * join_count c d ≤ length out.old) × (join_count c d ≤ 65535) }
     ensures { (x y : ℕ) → SecondAt first.now c second.now d x y out.old out.new (c + d - 32) }
 {
     copy_first(first, c, out);
@@ -117,8 +117,8 @@ fn copy_pools(first: &[u64], c: usize, second: &[u64], d: usize, out: &mut [u64]
 fn put_eq(first: &[u64], c: usize, second: &[u64], d: usize, x: Node, y: Node, out: &mut [u64])
     requires c_in_bounds { (4 * c ≤ length first.now) × (4 * d ≤ length second.now) }
     requires le_c { (32 ≤ c) × (32 ≤ d) × (x.0 < c) × (y.0 < d) }
-    requires d_in_bounds { (4 * joinCount c d ≤ length out.old) × (joinCount c d ≤ 65535) }
-    ensures { out.new ≡ writeEq first.now c second.now d x.0 y.0 out.old }
+    requires d_in_bounds { (4 * join_count c d ≤ length out.old) × (join_count c d ≤ 65535) }
+    ensures { out.new ≡ write_eq first.now c second.now d x.0 y.0 out.old }
 {
     let set = set_of(first, x) | set_of(second, y);
     let b = Node(y.0 + raised(c as u64 - 32, y) as usize);
@@ -142,7 +142,7 @@ fn join_number(
     y: Node,
     out: &[u64],
 ) -> u64
-    ensures { result ≡ joinNumber first.now c second.now d x.0 y.0 out.now }
+    ensures { result ≡ join_number first.now c second.now d x.0 y.0 out.now }
 {
     if !starts(first, c) {
         return 1;

@@ -4,14 +4,14 @@ use Rattle.std.specs.Prelude.{List, ◌↔◌, ◌≡◌, ℕ, ◌≤◌, ◌<�
 use Rattle.facts.specs.Refuse.{unless}
 use Rattle.terms.specs.Value.{value}
 use Rattle.neon.specs.declared.Instruction.{Instruction}
-use Rattle.neon.specs.Run.{armRun}
+use Rattle.neon.specs.Run.{arm_run}
 use Rattle.pool.specs.Node.{places}
-use Rattle.pool.specs.Unfold.{unfoldAt}
+use Rattle.pool.specs.Unfold.{unfold_at}
 use Rattle.block_map.specs.Map.{node_of}
 use Rattle.block.specs.declared.BlockAnswer.{BlockAnswer}
 use Rattle.block.specs.Block as block
 use Rattle.join.specs.declared.Joined.{Joined}
-use Rattle.join.specs.Join.{joinCount}
+use Rattle.join.specs.Join.{join_count}
 use Rattle.join.specs.Join as join
 
 -- P of every two accepted blocks, each in its own pool, of a register of each, and of what joining their pools at these answers
@@ -26,11 +26,11 @@ OfTwoBlocks P =
 
 -- they are joined if the third buffer has room for both
 abbrev pub BlocksJoin : Type 0
-BlocksJoin = OfTwoBlocks (λ cs a r cs' a' r' buffer out j. j.number ≡ unless (leb (joinCount a.map.count a'.map.count) (places buffer)) 6 0)
+BlocksJoin = OfTwoBlocks (λ cs a r cs' a' r' buffer out j. j.number ≡ unless (leb (join_count a.map.count a'.map.count) (places buffer)) 6 0)
 
 -- for every start: the registers after the two Arm runs are equal, in all 128 bits, exactly when the Eq's value is 1
 abbrev pub EqualWhenEqHolds : Type 0
 EqualWhenEqHolds =
     OfTwoBlocks (λ cs a r cs' a' r' buffer out j.
-    joinCount a.map.count a'.map.count ≤ places buffer → (start : ℕ → ℕ)
-    → (armRun cs start r ≡ armRun cs' start r') ↔ (value start (unfoldAt out j.node) ≡ 1))
+    join_count a.map.count a'.map.count ≤ places buffer → (start : ℕ → ℕ)
+    → (arm_run cs start r ≡ arm_run cs' start r') ↔ (value start (unfold_at out j.node) ≡ 1))

@@ -10,7 +10,7 @@ const INPUT: i32 = 0;
 const OUTPUT: i32 = 1;
 
 // Between two reads: the bytes held of a line whose end is still to come, and whether there is more to read.
-#[derive(Drop)]
+#[derive(Clone, Copy)]
 struct Waiting {
     line: usize,
     more: bool,

@@ -10,7 +10,7 @@ use borrow.Author.Tests.{eq-eqb, ne_eqb, ltb-true, ltb-false}
 use Rattle.terms.specs.Display.{decimal}
 use Rattle.text_digits.proofs.Laws.{digits-one, digits_more}
 use Rattle.text_digits.proofs.TwoDigits.{decimal_digit}
-use Rattle.line_columns.specs.Columns.{columns, characterOf}
+use Rattle.line_columns.specs.Columns.{columns, character_of}
 
 one : (x : ℕ) → x < 10 → decimal x ≡ (48 + x) ∷ []
 unfolding decimal
@@ -30,10 +30,10 @@ last-four : (x : ℕ) → 1000 ≤ x → x < 10000 → decimal x ≡ (48 + x / 1
 last-four x g h = more x (omega arith) ∙ rw (three (x / 10) (omega arith) (omega arith))
 
 -- a blank, and a digit
-blank : (q : ℕ) → q ≡ 0 → 32 ≡ characterOf q
+blank : (q : ℕ) → q ≡ 0 → 32 ≡ character_of q
 blank q e = sym (rw (eq-eqb q 0 e))
 
-figure : (q k : ℕ) → 1 ≤ q → k ≡ q % 10 → 48 + k ≡ characterOf q
+figure : (q k : ℕ) → 1 ≤ q → k ≡ q % 10 → 48 + k ≡ character_of q
 figure q k h e = ap (λ (z : ℕ). 48 + z) e ∙ sym (rw (ne_eqb q 0 (λ (z : q ≡ 0). omega arith)))
 
 -- four characters, one by one
@@ -41,7 +41,7 @@ pub four : {a b c d a' b' c' d' : ℕ} → a ≡ a' → b ≡ b' → c ≡ c' �
 four p q r s = cc
 
 abbrev pub characters : ℕ → List ℕ
-characters x = characterOf (x / 1000) ∷ characterOf (x / 100) ∷ characterOf (x / 10) ∷ (48 + x % 10) ∷ []
+characters x = character_of (x / 1000) ∷ character_of (x / 100) ∷ character_of (x / 10) ∷ (48 + x % 10) ∷ []
 
 abbrev pad : List ℕ → List ℕ
 pad s = replicate (4 - length s) 32 ++ s

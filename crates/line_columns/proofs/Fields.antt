@@ -10,7 +10,7 @@ use lib.Seq.{drop-cons}
 use borrow.Author.Tests.{leb-true, eq-eqb, ne_eqb}
 use Rattle.facts.proofs.Tests.{and_both}
 use Rattle.facts.specs.Same.{same}
-use Rattle.line_columns.specs.Columns.{columns, characterOf, shown, field_at, isField}
+use Rattle.line_columns.specs.Columns.{columns, character_of, shown, field_at, is_field}
 use Rattle.line_columns.proofs.Characters.{characters, columns-are}
 
 -- 4 characters, one by one
@@ -43,12 +43,12 @@ digit-test b q e = go (leb 48 b && leb b 57) refl
         h ∙ sym (ne_eqb b (48 + q) (λ z. false≢true (sym h ∙ rw (z ∙ ap (λ (k : ℕ). 48 + k) (sym v)))))
 
 module _ (line : List ℕ) (at : ℕ) (w : List ℕ) (x : ℕ) (h : at + 4 ≤ length line) (is : x ≡ field_at line at) (low : x < 10000) (e : w ≡ columns x) where
-  pub field-test : isField line at
+  pub field-test : is_field line at
       ≡ (eqb (get_or line at 0) (get_or w 0 0)
       && eqb (get_or line (at + 1) 0) (get_or w 1 0)
       && eqb (get_or line (at + 2) 0) (get_or w 2 0)
       && eqb (get_or line (at + 3) 0) (get_or w 3 0))
-  unfolding isField
+  unfolding is_field
   field-test =
       ap (λ (z : ℕ). same (take 4 (drop at line)) (columns z)) (sym is)
       ∙ ap (λ (z : List ℕ). same (take 4 (drop at line)) z) (sym e)
@@ -85,11 +85,11 @@ module _ (line : List ℕ) (at : ℕ) (h : at + 4 ≤ length line) where
 
   -- the four tests
   pub field_is : {a b c : ℕ} {p q r s : Bool} → a ≡ shown (get_or line at 0) → b ≡ 10 * a + shown (sign 1) → c ≡ 10 * b + shown (sign 2)
-      → p ≡ eqb (get_or line at 0) (characterOf a)
-      → q ≡ eqb (sign 1) (characterOf b)
-      → r ≡ eqb (sign 2) (characterOf c)
+      → p ≡ eqb (get_or line at 0) (character_of a)
+      → q ≡ eqb (sign 1) (character_of b)
+      → r ≡ eqb (sign 2) (character_of c)
       → s ≡ (leb 48 (sign 3) && leb (sign 3) 57)
-      → (p && q && r && s) ≡ isField line at
+      → (p && q && r && s) ≡ is_field line at
   unfolding field_at
   field_is {a} {b} {c} ea eb ec ep eq er es =
       let x = field_at line at in
@@ -102,11 +102,11 @@ module _ (line : List ℕ) (at : ℕ) (h : at + 4 ≤ length line) where
       let lc = shown-low (sign 2) in
       let ld = shown-low (sign 3) in
       let l = low A B C D x refl la lb lc ld in
-      let ta = ap characterOf (ea ∙ thousands A B C D x refl la lb lc ld) in
+      let ta = ap character_of (ea ∙ thousands A B C D x refl la lb lc ld) in
       let hb : b ≡ x / 100 = omega (arith, ea, eb, hundreds A B C D x refl la lb lc ld) in
       let hc : c ≡ x / 10 = omega (arith, ea, eb, ec, tens A B C D x refl la lb lc ld) in
-      let tb = ap characterOf hb in
-      let tc = ap characterOf hc in
+      let tb = ap character_of hb in
+      let tc = ap character_of hc in
       let td = digit-test (sign 3) (x % 10) (ones A B C D x refl la lb lc ld) in
       let t = field-test line at (characters x) x h refl l (sym (columns-are x l)) in
       cc (ep, eq, er, es, ta, tb, tc, td, t)

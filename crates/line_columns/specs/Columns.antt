@@ -8,8 +8,8 @@ unfoldable pub columns : ℕ → List ℕ
 columns x = replicate (4 - length (decimal x)) 32 ++ decimal x
 
 -- the character of a column but the last: `above` is the number that the digits up to this column make; a blank if it is 0
-abbrev pub characterOf : ℕ → ℕ
-characterOf above = cond (eqb above 0) 32 (48 + above % 10)
+abbrev pub character_of : ℕ → ℕ
+character_of above = cond (eqb above 0) 32 (48 + above % 10)
 
 -- the digit that a character shows; 0 for a blank, and for what is no digit
 abbrev pub shown : ℕ → ℕ
@@ -21,5 +21,5 @@ field_at line at =
     1000 * shown (get_or line at 0) + 100 * shown (get_or line (at + 1) 0) + 10 * shown (get_or line (at + 2) 0) + shown (get_or line (at + 3) 0)
 
 -- those characters are that number in columns
-unfoldable pub isField : List ℕ → ℕ → Bool
-isField line at = same (take 4 (drop at line)) (columns (field_at line at))
+unfoldable pub is_field : List ℕ → ℕ → Bool
+is_field line at = same (take 4 (drop at line)) (columns (field_at line at))

@@ -1,7 +1,7 @@
 // Numbers in columns: right-justified decimals in fields of 4 characters, read and written. The Rust has no counterpart.
 ghost use Rattle.std.specs.Prelude.{◌≡◌, ◌&&◌, ◌+◌, ◌%◌, ◌≤◌, ◌<◌, leb, eqb, length};
 ghost use Rattle.text_digits.specs.Writing.{Room, Wrote};
-ghost use Rattle.line_columns.specs.Columns.{columns, characterOf, shown, field_at, isField};
+ghost use Rattle.line_columns.specs.Columns.{columns, character_of, shown, field_at, is_field};
 
 use text_digits::{put, tens_of};
 
@@ -37,7 +37,7 @@ pub fn field(line: &[u8], at: usize) -> u64
 // if `above` is 0.
 fn character(above: u64, ones: u64) -> u8
     requires { ones ≡ above % 10 }
-    ensures { result ≡ characterOf above }
+    ensures { result ≡ character_of above }
 {
     if above == 0 { 32 } else { (48 + ones) as u8 }
 }
@@ -61,7 +61,7 @@ fn written(x: u64) -> [u8; 4]
 // Whether a character is that of a column but the last; its digit is the last of `above`.
 fn stands(b: u8, above: u64) -> bool
     requires { shown b ≡ above % 10 }
-    ensures { result ≡ eqb b (characterOf above) }
+    ensures { result ≡ eqb b (character_of above) }
 {
     if above == 0 { b == 32 } else { is_digit(b) }
 }
@@ -69,7 +69,7 @@ fn stands(b: u8, above: u64) -> bool
 // Whether the 4 characters are a number in columns.
 pub fn is_field(line: &[u8], at: usize) -> bool
     requires { at + 4 ≤ length line.now }
-    ensures { result ≡ isField line.now at }
+    ensures { result ≡ is_field line.now at }
 {
     let a = digit(line[at]);
     let b = 10 * a + digit(line[at + 1]);

@@ -11,8 +11,8 @@ use borrow.Author.Tests.{le-leb, eqb-true}
 use Rattle.facts.specs.Same.{same}
 use Rattle.facts.proofs.Tests.{and_both}
 use Rattle.facts.proofs.Same.{same_refl, same-eq}
-use Rattle.line_columns.specs.Columns.{columns, characterOf, shown, field_at, isField}
-use Rattle.line_fields.specs.Fields.{inColumns, fields}
+use Rattle.line_columns.specs.Columns.{columns, character_of, shown, field_at, is_field}
+use Rattle.line_fields.specs.Fields.{in_columns, fields}
 use Rattle.line_columns.proofs.Characters.{characters, columns-are}
 use Rattle.line_columns.proofs.Fields.{chars}
 
@@ -24,10 +24,10 @@ line_of a b c d e f = columns a ++ (columns b ++ (columns c ++ (columns d ++ (co
 shown-figure : (d : ℕ) → d < 10 → shown (48 + d) ≡ d
 shown-figure d h = rw (le-leb 48 (48 + d) (omega arith), le-leb (48 + d) 57 (omega arith)) (omega arith)
 
-shown-character : (q : ℕ) → shown (characterOf q) ≡ q % 10
+shown-character : (q : ℕ) → shown (character_of q) ≡ q % 10
 shown-character q = go (eqb q 0) refl
   where
-    go : (t : Bool) → eqb q 0 ≡ t → shown (characterOf q) ≡ q % 10
+    go : (t : Bool) → eqb q 0 ≡ t → shown (character_of q) ≡ q % 10
     go true e = let z : q ≡ 0 = eqb-true q 0 e in rw e (omega arith)
     go false e = rw e (shown-figure (q % 10) (omega arith))
 
@@ -52,8 +52,8 @@ module _ (line : List ℕ) (at x : ℕ) (low : x < 10000) (h : at + 4 ≤ length
       let s = ap shown (character-at 3) ∙ shown-figure (x % 10) (omega arith) in
       rw (p, q, r, s) (digits_sum x low)
 
-  field-ok : isField line at ≡ true
-  unfolding isField
+  field-ok : is_field line at ≡ true
+  unfolding is_field
   field-ok =
       ap (λ (z : ℕ). same (take 4 (drop at line)) (columns z)) field_is
       ∙ ap (λ (z : List ℕ). same (take 4 (drop at line)) z) (columns-are x low ∙ sym e)
@@ -66,8 +66,8 @@ module _ (a b c d e f : ℕ) (la : a < 10000) (lb : b < 10000) (lc : c < 10000) 
   line-is : line_of a b c d e f ≡ whole
   line-is = rw (columns-are a la, columns-are b lb, columns-are c lc, columns-are d ld, columns-are e le, columns-are f lf)
 
-  whole-ok : inColumns whole ≡ true
-  unfolding inColumns
+  whole-ok : in_columns whole ≡ true
+  unfolding in_columns
   whole-ok =
       rw (
         field-ok whole 0 a la (omega arith) refl,
@@ -89,32 +89,32 @@ module _ (a b c d e f : ℕ) (la : a < 10000) (lb : b < 10000) (lc : c < 10000) 
         field_is whole 20 f lf (omega arith) refl,
       )
 
-  pub written_read : (inColumns (line_of a b c d e f) ≡ true) × (fields (line_of a b c d e f) ≡ a ∷ b ∷ c ∷ d ∷ e ∷ f ∷ [])
-  written_read = (ap inColumns line-is ∙ whole-ok, ap fields line-is ∙ whole_fields)
+  pub written_read : (in_columns (line_of a b c d e f) ≡ true) × (fields (line_of a b c d e f) ≡ a ∷ b ∷ c ∷ d ∷ e ∷ f ∷ [])
+  written_read = (ap in_columns line-is ∙ whole-ok, ap fields line-is ∙ whole_fields)
 
 -- ---- a line in columns is its fields, each in columns
 
 module _ (line : List ℕ) where
-  columns-at : (at : ℕ) → isField line at ≡ true → take 4 (drop at line) ≡ columns (field_at line at)
-  unfolding isField
+  columns-at : (at : ℕ) → is_field line at ≡ true → take 4 (drop at line) ≡ columns (field_at line at)
+  unfolding is_field
   columns-at at e = same-eq _ _ e
 
-  next : (at : ℕ) → isField line at ≡ true → drop at line ≡ columns (field_at line at) ++ drop (at + 4) line
+  next : (at : ℕ) → is_field line at ≡ true → drop at line ≡ columns (field_at line at) ++ drop (at + 4) line
   next at e =
       sym (take-append-drop 4 (drop at line))
       ∙ ap (λ (z : List ℕ). take 4 (drop at line) ++ z) (drop-drop 4 at line)
       ∙ ap (λ (z : List ℕ). z ++ drop (at + 4) line) (columns-at at e)
 
-  pub read-written : inColumns line ≡ true
+  pub read-written : in_columns line ≡ true
       → line ≡ line_of (field_at line 0) (field_at line 4) (field_at line 8) (field_at line 12) (field_at line 16) (field_at line 20)
-  unfolding inColumns
+  unfolding in_columns
   read-written e =
       let p = and_both (eqb (length line) 24) _ e in
-      let p20 = and_both _ (isField line 20) p.1 in
-      let p16 = and_both _ (isField line 16) p20.0 in
-      let p12 = and_both _ (isField line 12) p16.0 in
-      let p8 = and_both _ (isField line 8) p12.0 in
-      let p4 = and_both (isField line 0) (isField line 4) p8.0 in
+      let p20 = and_both _ (is_field line 20) p.1 in
+      let p16 = and_both _ (is_field line 16) p20.0 in
+      let p12 = and_both _ (is_field line 12) p16.0 in
+      let p8 = and_both _ (is_field line 8) p12.0 in
+      let p4 = and_both (is_field line 0) (is_field line 4) p8.0 in
       let n : length line ≡ 24 = eqb-true (length line) 24 p.0 in
       let none : drop 24 line ≡ [] = drop_of_length-le line {i = 24} (omega arith) in
       next 0 p4.0

@@ -1,12 +1,12 @@
 // A line of six numbers in columns, as the line program reads it. The Rust has no counterpart.
 ghost use Rattle.std.specs.Prelude.{◌≡◌, ◌≤◌, length};
-ghost use Rattle.line_fields.specs.Fields.{inColumns, fields};
+ghost use Rattle.line_fields.specs.Fields.{in_columns, fields};
 
 use line_columns::{field, is_field};
 
 // Whether a line is six fields.
 pub fn in_columns(line: &[u8]) -> bool
-    ensures { result ≡ inColumns line.now }
+    ensures { result ≡ in_columns line.now }
 {
     if line.len() != 24 {
         return false;

@@ -3,9 +3,9 @@ use Rattle.std.specs.Prelude.{Bool, true, false, cond, List, [], ◌∷◌, ◌+
 use Rattle.line_pieces.specs.declared.Gathered.{Gathered}
 
 -- the bytes before the first newline, and whether there is one
-unfoldable pub toNewline : List ℕ → List ℕ
-toNewline [] = []
-toNewline (b ∷ s) = cond (eqb b 10) [] (b ∷ toNewline s)
+unfoldable pub to_newline : List ℕ → List ℕ
+to_newline [] = []
+to_newline (b ∷ s) = cond (eqb b 10) [] (b ∷ to_newline s)
 
 unfoldable pub ends : List ℕ → Bool
 ends [] = false
@@ -18,9 +18,9 @@ one false = 0
 -- the bytes s, which stand at `from`, were taken up to their first newline, after the first len bytes of `held`: as many are held as have room, and the bytes
 -- past them are as they were
 pub record Gathers (held : List ℕ) (len : ℕ) (s : List ℕ) (from : ℕ) (r : Gathered) (after : List ℕ) : Type 0 where
-  pub bytes : take r.len after ≡ take (length held) (take len held ++ toNewline s)
+  pub bytes : take r.len after ≡ take (length held) (take len held ++ to_newline s)
   pub long : length after ≡ length held
   pub past : (j : ℕ) → r.len ≤ j → get_or after j 0 ≡ get_or held j 0
-  pub len_is : r.len ≡ max len (min (length held) (len + length (toNewline s)))
+  pub len_is : r.len ≡ max len (min (length held) (len + length (to_newline s)))
   pub ended_is : r.ended ≡ ends s
-  pub taken_is : r.taken ≡ from + length (toNewline s) + one (ends s)
+  pub taken_is : r.taken ≡ from + length (to_newline s) + one (ends s)

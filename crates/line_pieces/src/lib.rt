@@ -3,7 +3,7 @@ ghost use Rattle.std.specs.Prelude.{drop};
 ghost use Rattle.line_pieces.specs.Pieces.{Gathers};
 
 // What was taken of some bytes: the place after it, how many bytes of the line are held, and whether a newline ended the line.
-#[derive(Drop)]
+#[derive(Clone, Copy)]
 pub struct Gathered {
     pub taken: usize,
     pub len: usize,

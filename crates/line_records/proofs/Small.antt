@@ -5,15 +5,15 @@ use Prim.Native.Nat.{◌<◌}
 use native.Mathlib.Omega.{arith}
 use lib.ListN.{length}
 use Rattle.neon.specs.declared.Instruction.{Instruction}
-use Rattle.neon.specs.Op.{Op, opAt, Arrangement, B8, B16, H4, H8, S2, S4, D2, arrangementAt, laneBits}
-use Rattle.neon.specs.Form.{Immediate, None, Left, Right, Element, most_of, form, hasSecond, most}
-use Rattle.neon.specs.Refusal.{Legal, mostM, shortElement}
+use Rattle.neon.specs.Op.{Op, op_at, Arrangement, B8, B16, H4, H8, S2, S4, D2, arrangement_at, bits_of_lane}
+use Rattle.neon.specs.Form.{Immediate, None, Left, Right, Element, most_of, form, has_second, most}
+use Rattle.neon.specs.Refusal.{Legal, most_m, short_element}
 use Rattle.neon.proofs.Geometry.{sized}
 use Rattle.neon.proofs.Legal.{accepted}
 use Rattle.line_columns.proofs.Characters.{columns-are}
 use Rattle.line_records.specs.Line.{line}
 
-most-of : (K : Immediate) (v : Arrangement) → most_of K (laneBits v) < 10000
+most-of : (K : Immediate) (v : Arrangement) → most_of K (bits_of_lane v) < 10000
 most-of None v = omega arith
 most-of Left v = omega (arith, (sized v).most)
 most-of Right v = omega (arith, (sized v).most)
@@ -25,11 +25,11 @@ most-of Element S2 = omega arith
 most-of Element S4 = omega arith
 most-of Element D2 = omega arith
 
-pub most-small : (o : Op) (v : Arrangement) → most o (laneBits v) < 10000
+pub most-small : (o : Op) (v : Arrangement) → most o (bits_of_lane v) < 10000
 most-small o v = most-of (form o).immediate v
 
-second-small : (o : Op) (v : Arrangement) → mostM o v < 10000
-second-small o v = go (hasSecond o) (shortElement o v)
+second-small : (o : Op) (v : Arrangement) → most_m o v < 10000
+second-small o v = go (has_second o) (short_element o v)
   where
     go : (s e : Bool) → cond s (cond e 15 31) 0 < 10000
     go true true = omega arith
@@ -48,8 +48,8 @@ pub small : (c : Instruction) → Legal c → Small c
 small c h =
     let a = accepted c h in
     let f = a.form_of in
-    let o = opAt c.operation in
-    let v = arrangementAt c.arrangement in
+    let o = op_at c.operation in
+    let v = arrangement_at c.arrangement in
     record {
       operation-small = omega (arith, f.to_last);
       arrangement-small = omega (arith, f.arranged);

@@ -2,14 +2,14 @@
 ghost use Rattle.std.specs.Prelude.{◌≡◌, ◌+◌, ◌*◌, ◌≤◌, ◌<◌, length};
 ghost use Rattle.text_digits.specs.Writing.{Room, Wrote};
 ghost use Rattle.line_fields.specs.Fields.{fields};
-ghost use Rattle.line_routine.specs.Routine.{lineCount, line_at, is_line, numbersIn, Good, LinesRead};
+ghost use Rattle.line_routine.specs.Routine.{line_count, line_at, is_line, numbers_in, Good, LinesRead};
 
 use block_check::ListAnswer;
 use line_fields::{fields_of, in_columns};
 
 // The lines, the last also if no newline ends it.
 fn line_count(bytes: &[u8]) -> usize
-    ensures { result ≡ lineCount bytes.now }
+    ensures { result ≡ line_count bytes.now }
 {
     let whole = bytes.len() / 25;
     if 0 < bytes.len() % 25 {
@@ -72,9 +72,9 @@ fn put_fields(bytes: &[u8], j: usize, records: &mut [u64], at: usize) -> usize
 
 // Writes the numbers of all lines.
 fn put_numbers(bytes: &[u8], records: &mut [u64]) -> usize
-    requires good { Good bytes.now (lineCount bytes.now) }
-    requires room { Room records.old 0 (numbersIn bytes.now) }
-    ensures { Wrote records.old 0 (numbersIn bytes.now) result records.new }
+    requires good { Good bytes.now (line_count bytes.now) }
+    requires room { Room records.old 0 (numbers_in bytes.now) }
+    ensures { Wrote records.old 0 (numbers_in bytes.now) result records.new }
 {
     let count = line_count(bytes);
     let mut j = 0;

@@ -8,7 +8,7 @@ ghost use Rattle.line_run.specs.Going.{Goes, Ends};
 use line_output::ANSWER_ROOM;
 
 // How far it came: the bytes taken of the piece, the bytes held of a line whose end is still to come, the bytes put into the output.
-#[derive(Drop)]
+#[derive(Clone, Copy)]
 pub struct Progress {
     pub taken: usize,
     pub line: usize,

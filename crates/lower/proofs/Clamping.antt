@@ -16,9 +16,9 @@ use Rattle.pool_nodes.specs.Builders.{MadeConst, MadeBv, MadeCompare, MadeIte, M
 use Rattle.pool.proofs.Steps.{start, step, finish, stay, given}
 use Rattle.trees.specs.declared.SaturateTo.{SaturateTo}
 use Rattle.trees.specs.declared.SaturateTo.TheVariants.{Signed, Unsigned, SignedToUnsigned}
-use Rattle.trees.specs.Simd.{extractCollapsing}
-use Rattle.trees.specs.Lower.{unsignedMax}
-use Rattle.trees.specs.Arith.{clampBetween, clampBelow, plus_if}
+use Rattle.trees.specs.Simd.{extract_collapsing}
+use Rattle.trees.specs.Lower.{unsigned_max}
+use Rattle.trees.specs.Arith.{clamp_between, clamp_below, plus_if}
 use Rattle.trees.specs.Trees.{clamp}
 use Rattle.trees.specs.Arith as Arith
 use Rattle.lower.specs.Builds.{Builds1, MadeExtend}
@@ -32,7 +32,7 @@ pub between : {w0 w1 w2 w3 w4 w5 w6 w7 : List ℕ} {k : ℕ} {r1 r2 r3 r4 r5 r6 
     → MadeCompare w4 r4.count w5 r5 Slt value r4.node
     → MadeIte w5 r5.count w6 r6 r5.node r4.node r3.node
     → MadeExtract w6 r6.count w7 r7 r6.node (narrow - 1) 0
-    → Builds1 w0 k w7 r7 7 value wide narrow (λ v. extractCollapsing (clampBetween v (Const (words ll lh) wide) (Const (words hl hh) wide)) (narrow - 1) 0) (value.0 ∷ [])
+    → Builds1 w0 k w7 r7 7 value wide narrow (λ v. extract_collapsing (clamp_between v (Const (words ll lh) wide) (Const (words hl hh) wide)) (narrow - 1) 0) (value.0 ∷ [])
 between {value = value} {wide = wide} b c d lo hi e1 e2 e3 e4 e5 e6 e7 =
     let l : 1 ≤ wide = omega arith in
     let m : wide ≤ 129 = omega arith in
@@ -55,7 +55,7 @@ pub below : {w0 w1 w2 w3 w4 : List ℕ} {k : ℕ} {r1 r2 r3 r4 : Built} {value :
     → MadeCompare w1 r1.count w2 r2 Ult r1.node value
     → MadeIte w2 r2.count w3 r3 r2.node r1.node value
     → MadeExtract w3 r3.count w4 r4 r3.node (narrow - 1) 0
-    → Builds1 w0 k w4 r4 4 value wide narrow (λ v. extractCollapsing (clampBelow v (Const high wide)) (narrow - 1) 0) (value.0 ∷ [])
+    → Builds1 w0 k w4 r4 4 value wide narrow (λ v. extract_collapsing (clamp_below v (Const high wide)) (narrow - 1) 0) (value.0 ∷ [])
 below {value = value} {wide = wide} b c d hi e1 e2 e3 e4 =
     let l : 1 ≤ wide = omega arith in
     let m : wide ≤ 129 = omega arith in
@@ -73,30 +73,30 @@ below {value = value} {wide = wide} b c d hi e1 e2 e3 e4 =
 pub low_fits : (wide b : ℕ) → 2 ^ wide - 2 ^ b < 2 ^ wide
 low_fits wide b = pow-sub-lt wide (pow_pos b)
 
-pub high_fits : (wide b : ℕ) → b ≤ wide → unsignedMax b < 2 ^ wide
+pub high_fits : (wide b : ℕ) → b ≤ wide → unsigned_max b < 2 ^ wide
 high_fits wide b h = lt_of_lt_of_le (ones_lt b) (pow_mono h)
 
 module _ {w0 w1 : List ℕ} {k : ℕ} {r : Built} {value : Node} {wide narrow : ℕ} {to : SaturateTo} where
   pub clamp-signed : {p low high : ℕ} → to ≡ Signed → p ≡ 2 ^ (narrow - 1) → low ≡ 2 ^ wide - 2 ^ (narrow - 1) → words (p - 1) 0 ≡ high
-      → Builds1 w0 k w1 r 7 value wide narrow (λ v. extractCollapsing (clampBetween v (Const low wide) (Const high wide)) (narrow - 1) 0) (value.0 ∷ [])
+      → Builds1 w0 k w1 r 7 value wide narrow (λ v. extract_collapsing (clamp_between v (Const low wide) (Const high wide)) (narrow - 1) 0) (value.0 ∷ [])
       → Builds1 w0 k w1 r 7 value wide narrow (λ v. clamp v wide narrow to) (value.0 ∷ [])
   unfolding Arith.clamp
   clamp-signed {p} {low} {high} q e f g d =
       let h : high ≡ 2 ^ (narrow - 1) - 1 = omega arith in
       rw (q, ← f, ← h) d
 
-  pub clamp-unsigned : {h : ℕ} → to ≡ Unsigned → h ≡ unsignedMax narrow
-      → Builds1 w0 k w1 r 4 value wide narrow (λ v. extractCollapsing (clampBelow v (Const h wide)) (narrow - 1) 0) (value.0 ∷ [])
+  pub clamp-unsigned : {h : ℕ} → to ≡ Unsigned → h ≡ unsigned_max narrow
+      → Builds1 w0 k w1 r 4 value wide narrow (λ v. extract_collapsing (clamp_below v (Const h wide)) (narrow - 1) 0) (value.0 ∷ [])
       → Builds1 w0 k w1 r 7 value wide narrow (λ v. clamp v wide narrow to) (value.0 ∷ [])
   unfolding Arith.clamp
   clamp-unsigned q e d = rw (q, ← e) (record { sized = omega (arith, d.sized); made = d.made })
 
-  pub clamp-to-unsigned : {h high : ℕ} → to ≡ SignedToUnsigned → h ≡ unsignedMax narrow → words h 0 ≡ high
-      → Builds1 w0 k w1 r 7 value wide narrow (λ v. extractCollapsing (clampBetween v (Const 0 wide) (Const high wide)) (narrow - 1) 0) (value.0 ∷ [])
+  pub clamp-to-unsigned : {h high : ℕ} → to ≡ SignedToUnsigned → h ≡ unsigned_max narrow → words h 0 ≡ high
+      → Builds1 w0 k w1 r 7 value wide narrow (λ v. extract_collapsing (clamp_between v (Const 0 wide) (Const high wide)) (narrow - 1) 0) (value.0 ∷ [])
       → Builds1 w0 k w1 r 7 value wide narrow (λ v. clamp v wide narrow to) (value.0 ∷ [])
   unfolding Arith.clamp
   clamp-to-unsigned {h} {high} q e f d =
-      let h' : high ≡ unsignedMax narrow = omega arith in
+      let h' : high ≡ unsigned_max narrow = omega arith in
       rw (q, ← h') d
 
 -- ---- `extend`

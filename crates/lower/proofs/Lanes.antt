@@ -13,9 +13,9 @@ use Rattle.pool_nodes.specs.Builders.{MadeConcat}
 use Rattle.lower_simd.specs.Cut.{MadeCut, MadeLane}
 use Rattle.pool.proofs.Laws.{is-kept, reach-kept, reach-trans, grown-trans}
 use Rattle.pool.proofs.Steps.{start, step, finish, forget, stay, given, spare}
-use Rattle.trees.specs.Simd.{concatLanes}
-use Rattle.trees.specs.Trees.{keepLower}
-use Rattle.lower.specs.Builds.{Source, SourceIs, readIf, unread, withLower, BuildsCut, Lowers}
+use Rattle.trees.specs.Simd.{concat_lanes}
+use Rattle.trees.specs.Trees.{keep_lower}
+use Rattle.lower.specs.Builds.{Source, SourceIs, read_if, unread, with_lower, BuildsCut, Lowers}
 
 -- a source stays what it is while the pool grows
 pub source-kept : {a b : List ℕ} {k k' : ℕ} {s : Source} {t : Expr} → Grown a k b k' → SourceIs a k s t → SourceIs b k' s t
@@ -37,7 +37,7 @@ lane_of e d = rw (← e) d
 module _ (old : List ℕ) (k : ℕ) (new : List ℕ) (r : Built) where
   abbrev pub LanesTo : (m bits : ℕ) (d first second : Source) (lane : Expr → Expr → Expr → ℕ → Expr) (ins : List ℕ) → ℕ → Type 0
   LanesTo m bits d first second lane ins i =
-      Lowers old k new r (m * i) (bits * i) d first second (λ td ta tb. concatLanes (i - 1) (lane td ta tb)) ins
+      Lowers old k new r (m * i) (bits * i) d first second (λ td ta tb. concat_lanes (i - 1) (lane td ta tb)) ins
 
 -- what a loop keeps: if the pool at entry and lane 0 have made the lane 0, the pool and the answer now have made i lanes
 abbrev pub LanesKept : (k : ℕ) (m bits : ℕ) (d first second : Source) (lane : Expr → Expr → Expr → ℕ → Expr) (ins : List ℕ)
@@ -45,15 +45,15 @@ abbrev pub LanesKept : (k : ℕ) (m bits : ℕ) (d first second : Source) (lane 
 LanesKept k m bits d first second lane ins w₀ r₀ ws r i =
     (old : List ℕ) → LanesTo old k w₀ r₀ m bits d first second lane ins 1 → LanesTo old k ws r m bits d first second lane ins i
 
-concat-next : (i : ℕ) (f : ℕ → Expr) → 1 ≤ i → concatLanes (i + 1 - 1) f ≡ Concat (f i) (concatLanes (i - 1) f)
-unfolding concatLanes
+concat-next : (i : ℕ) (f : ℕ → Expr) → 1 ≤ i → concat_lanes (i + 1 - 1) f ≡ Concat (f i) (concat_lanes (i - 1) f)
+unfolding concat_lanes
 concat-next i f h =
-    ap (λ (j : ℕ). concatLanes j f) {x = i + 1 - 1} {y = suc (i - 1)} (omega arith) ∙ ap (λ (j : ℕ). Concat (f j) (concatLanes (i - 1) f)) (omega arith)
+    ap (λ (j : ℕ). concat_lanes j f) {x = i + 1 - 1} {y = suc (i - 1)} (omega arith) ∙ ap (λ (j : ℕ). Concat (f j) (concat_lanes (i - 1) f)) (omega arith)
 
 module _ (lane : Expr → Expr → Expr → ℕ → Expr) {m n bits : ℕ} {d first second : Source} {ins : List ℕ} {k : ℕ} where
   pub lanes-first : {w0 w1 : List ℕ} {r : Built} {j : ℕ} → j ≡ 0 → n ≤ m → Lowers w0 k w1 r n bits d first second (λ td ta tb. lane td ta tb j) ins
       → LanesTo w0 k w1 r m bits d first second lane ins 1
-  unfolding concatLanes
+  unfolding concat_lanes
   lanes-first {w0} {w1} {r} {j} z h e =
       rw (mul-one m, mul-one bits)
       (record {
@@ -85,7 +85,7 @@ module _ (lane : Expr → Expr → Expr → ℕ → Expr) {m n bits : ℕ} {d fi
               valid = m.valid;
               is = m.is;
               all = m.all;
-              ins-reached = all-trans m3.ins-reached.1.0 ins (all-kept (grown-trans m2.grown m3.grown) m1.is.under ins m1.ins-reached);
+              ins_reached = all-trans m3.ins_reached.1.0 ins (all-kept (grown-trans m2.grown m3.grown) m1.is.under ins m1.ins_reached);
             });
       }
 
@@ -109,7 +109,7 @@ pub keep-yes : {w0 w1 w2 : List ℕ} {k : ℕ} {r1 r2 : Built} {upper : Bool} {n
     → upper ≡ true
     → MadeCut w0 k w1 r1 d (n * lanes - 1) 0
     → MadeConcat w1 r1.count w2 r2 new r1.node
-    → BuildsCut w0 k w2 r2 2 new (n * lanes) upper d (n * lanes * 2) (withLower upper (n * lanes)) (λ v x. keepLower upper v x n lanes)
+    → BuildsCut w0 k w2 r2 2 new (n * lanes) upper d (n * lanes * 2) (with_lower upper (n * lanes)) (λ v x. keep_lower upper v x n lanes)
 keep-yes {new = new} {d = d} n lanes l m q e1 e2 =
     rw q
     (record {
@@ -121,14 +121,14 @@ keep-yes {new = new} {d = d} n lanes l m q e1 e2 =
     })
 
 pub keep-no : {ws : List ℕ} {k : ℕ} {r : Built} {upper : Bool} {new d : Node} (n lanes : ℕ) → upper ≡ false → new.0 < k → r.node.0 ≡ new.0 → r.count ≡ k
-    → BuildsCut ws k ws r 2 new (n * lanes) upper d (n * lanes * 2) (withLower upper (n * lanes)) (λ v x. keepLower upper v x n lanes)
+    → BuildsCut ws k ws r 2 new (n * lanes) upper d (n * lanes * 2) (with_lower upper (n * lanes)) (λ v x. keep_lower upper v x n lanes)
 keep-no n lanes q b e f = rw q (record { sized = omega (arith, b, e, f); made = λ v x y. rw (e, f) (stay v x) })
 
 -- lanes that are made, and what is kept below them
 pub kept-below : {w0 w1 w2 : List ℕ} {k m : ℕ} {r1 r2 : Built} {first second : Source} {d : Node} {t : Expr → Expr → Expr → Expr} (upper : Bool) (n lanes : ℕ)
     → Lowers w0 k w1 r1 m (n * lanes) unread first second t []
-    → BuildsCut w1 r1.count w2 r2 2 r1.node (n * lanes) upper d (n * lanes * 2) (withLower upper (n * lanes)) (λ v x. keepLower upper v x n lanes)
-    → Lowers w0 k w2 r2 (m + 2) (withLower upper (n * lanes)) (readIf upper d (n * lanes * 2)) first second (λ td ta tb. keepLower upper (t td ta tb) td n lanes) []
+    → BuildsCut w1 r1.count w2 r2 2 r1.node (n * lanes) upper d (n * lanes * 2) (with_lower upper (n * lanes)) (λ v x. keep_lower upper v x n lanes)
+    → Lowers w0 k w2 r2 (m + 2) (with_lower upper (n * lanes)) (read_if upper d (n * lanes * 2)) first second (λ td ta tb. keep_lower upper (t td ta tb) td n lanes) []
 kept-below upper n lanes e1 e2 =
     record {
       sized = omega (arith, e1.sized, e2.sized);

@@ -18,8 +18,8 @@ pub record Source : Type 0 where
 abbrev pub read : Node → ℕ → Source
 read n w = record { used = true; node = n.0; width = w }
 
-abbrev pub readIf : Bool → Node → ℕ → Source
-readIf b n w = record { used = b; node = n.0; width = w }
+abbrev pub read_if : Bool → Node → ℕ → Source
+read_if b n w = record { used = b; node = n.0; width = w }
 
 abbrev pub unread : Source
 unread = record { used = false; node = 0; width = 0 }
@@ -33,14 +33,14 @@ abbrev pub Below : Source → ℕ → Type 0
 Below s c = s.used ≡ true → s.node < c
 
 -- a list of the node, if it is used
-abbrev pub listIf : Bool → ℕ → List ℕ
-listIf true n = n ∷ []
-listIf false n = []
+abbrev pub list_if : Bool → ℕ → List ℕ
+list_if true n = n ∷ []
+list_if false n = []
 
 -- the width of new lanes, with as many bits of the old destination below them if they are kept
-abbrev pub withLower : Bool → ℕ → ℕ
-withLower true bits = bits * 2
-withLower false bits = bits
+abbrev pub with_lower : Bool → ℕ → ℕ
+with_lower true bits = bits * 2
+with_lower false bits = bits
 
 module _ (old : List ℕ) (k : ℕ) (new : List ℕ) (r : Built) where
   -- over one operand, and over two
@@ -56,7 +56,7 @@ module _ (old : List ℕ) (k : ℕ) (new : List ℕ) (r : Built) where
   pub record BuildsIf (m : ℕ) (a : Node) (wa : ℕ) (used : Bool) (b : Node) (wb w : ℕ) (t : Expr → Expr → Expr) : Type 0 where
     pub sized : Takes old k new r m
     pub made : {ta tb : Expr} → Valid old k → NodeIs old k a.0 wa ta → (used ≡ true → NodeIs old k b.0 wb tb)
-        → Makes old k new r w (t ta tb) (a.0 ∷ listIf used b.0)
+        → Makes old k new r w (t ta tb) (a.0 ∷ list_if used b.0)
 
   -- over one operand, and a cut of a second if it is used: the cut may be taken from below that one
   pub record BuildsCut (m : ℕ) (a : Node) (wa : ℕ) (used : Bool) (b : Node) (wb w : ℕ) (t : Expr → Expr → Expr) : Type 0 where

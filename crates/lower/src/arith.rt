@@ -1,12 +1,12 @@
 // The Rust's neon/lower/arith.rs: what its families share.
 ghost use Rattle.std.specs.Prelude.{[], ◌∷◌, ◌*◌, ◌-◌, ◌≤◌, ◌<◌, ◌^◌};
 ghost use Rattle.terms.specs.Expr.{Const};
-ghost use Rattle.pool.specs.Node.{wide as wideWords};
+ghost use Rattle.pool.specs.Node.{wide as wide_words};
 ghost use Rattle.pool.specs.Growth.{Room};
-ghost use Rattle.trees.specs.Arith.{clampBetween, clampBelow, plus_if};
-ghost use Rattle.trees.specs.Simd.{extractCollapsing};
-ghost use Rattle.trees.specs.Trees.{clamp as clampTree, keepLower};
-ghost use Rattle.lower.specs.Builds.{Builds1, BuildsCut, Below, readIf, withLower};
+ghost use Rattle.trees.specs.Arith.{clamp_between, clamp_below, plus_if};
+ghost use Rattle.trees.specs.Simd.{extract_collapsing};
+ghost use Rattle.trees.specs.Trees.{clamp as clampTree, keep_lower};
+ghost use Rattle.lower.specs.Builds.{Builds1, BuildsCut, Below, read_if, with_lower};
 
 use crate::Words;
 use pool::{Bit, Built, Node};
@@ -27,9 +27,9 @@ fn clamp_between(
 ) -> Built
     requires room { Room pool.old count 7 }
     requires value_lt_count { (value.0 < count) × (1 ≤ narrow) × (narrow ≤ wide) × (wide ≤ 128) }
-    requires hi_bound { (wideWords low.lo low.hi < 2 ^ wide) × (wideWords high.lo high.hi < 2 ^ wide) }
+    requires hi_bound { (wide_words low.lo low.hi < 2 ^ wide) × (wide_words high.lo high.hi < 2 ^ wide) }
     ensures { Builds1 pool.old count pool.new result 7 value wide narrow
-        (λ v. extractCollapsing (clampBetween v (Const (wideWords low.lo low.hi) wide) (Const (wideWords high.lo high.hi) wide)) (narrow - 1) 0)
+        (λ v. extract_collapsing (clamp_between v (Const (wide_words low.lo low.hi) wide) (Const (wide_words high.lo high.hi) wide)) (narrow - 1) 0)
         (value.0 ∷ []) }
 {
     let most = pool_nodes::konst(pool, count, high.lo, high.hi, wide);
@@ -53,7 +53,7 @@ fn clamp_below(
     requires room { Room pool.old count 4 }
     requires value_lt_count { (value.0 < count) × (1 ≤ narrow) × (narrow ≤ wide) × (wide ≤ 128) × (high < 2 ^ wide) }
     ensures { Builds1 pool.old count pool.new result 4 value wide narrow
-        (λ v. extractCollapsing (clampBelow v (Const high wide)) (narrow - 1) 0) (value.0 ∷ []) }
+        (λ v. extract_collapsing (clamp_below v (Const high wide)) (narrow - 1) 0) (value.0 ∷ []) }
 {
     let most = pool_nodes::konst(pool, count, high, 0, wide);
     let above = pool_nodes::compare(pool, most.count, CmpOp::Ult, most.node, value);
@@ -137,9 +137,9 @@ pub fn keep_lower(
     lanes: u64,
 ) -> Built
     requires room { Room pool.old count 2 }
-    requires lt_count { (new.0 < count) × Below (readIf upper d 0) count × (1 ≤ lane_bits * lanes) × (lane_bits * lanes ≤ 64) }
+    requires lt_count { (new.0 < count) × Below (read_if upper d 0) count × (1 ≤ lane_bits * lanes) × (lane_bits * lanes ≤ 64) }
     ensures { BuildsCut pool.old count pool.new result 2 new (lane_bits * lanes) upper d (lane_bits * lanes * 2)
-        (withLower upper (lane_bits * lanes)) (λ v x. keepLower upper v x lane_bits lanes) }
+        (with_lower upper (lane_bits * lanes)) (λ v x. keep_lower upper v x lane_bits lanes) }
 {
     if upper {
         let lower = lower_simd::extract_collapsing(

@@ -1,6 +1,6 @@
 // The Rust's neon/lower.rs: what several families use. arith has what the families of neon/lower/arith.rs share.
 ghost use Rattle.std.specs.Prelude.{◌≡◌, ◌-◌, ◌≤◌, ◌<◌, ◌^◌};
-ghost use Rattle.pool.specs.Node.{wide as wideWords};
+ghost use Rattle.pool.specs.Node.{wide as wide_words};
 ghost use Rattle.pool.specs.Growth.{Room};
 ghost use Rattle.lower.specs.Builds.{MadeExtend};
 
@@ -10,7 +10,7 @@ use wide::word::{power, unsigned_max};
 pub mod arith;
 
 // Two words, the low one first: the Rust's u128.
-#[derive(Drop)]
+#[derive(Clone, Copy)]
 pub struct Words {
     pub lo: u64,
     pub hi: u64,
@@ -19,7 +19,7 @@ pub struct Words {
 // -2^bits, at the width wide.
 pub fn minus_power(wide: u64, bits: u64) -> Words
     requires { (bits < 64) × (bits ≤ wide) × (wide ≤ 128) }
-    ensures { wideWords result.lo result.hi ≡ 2 ^ wide - 2 ^ bits }
+    ensures { wide_words result.lo result.hi ≡ 2 ^ wide - 2 ^ bits }
 {
     let below = power(bits) - 1;
     if wide <= 64 {

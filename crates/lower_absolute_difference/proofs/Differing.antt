@@ -11,10 +11,10 @@ use Rattle.pool.specs.declared.Node.{Node}
 use Rattle.pool.specs.declared.Built.{Built}
 use Rattle.pool_nodes.specs.Builders.{MadeBv, MadeCompare, MadeIte}
 use Rattle.pool.proofs.Steps.{start, step, finish, given, spare}
-use Rattle.trees.specs.Arith.{absoluteDifferenceLane}
-use Rattle.trees.specs.Trees.{differenceAt}
+use Rattle.trees.specs.Arith.{absolute_difference_lane}
+use Rattle.trees.specs.Trees.{difference_at}
 use Rattle.lower_simd.specs.Cut.{MadeLane}
-use Rattle.lower.specs.Builds.{Builds2, Lowers, read, readIf}
+use Rattle.lower.specs.Builds.{Builds2, Lowers, read, read_if}
 use Rattle.lower.proofs.Lanes.{lane-fits}
 
 pub difference-lane : {w0 w1 w2 w3 w4 : List ℕ} {k : ℕ} {r1 r2 r3 r4 : Built} {a b : Node} {op : CmpOp} {n : ℕ} (signed : Bool)
@@ -25,8 +25,8 @@ pub difference-lane : {w0 w1 w2 w3 w4 : List ℕ} {k : ℕ} {r1 r2 r3 r4 : Built
     → MadeBv w1 r1.count w2 r2 Sub b a
     → MadeBv w2 r2.count w3 r3 Sub a b
     → MadeIte w3 r3.count w4 r4 r1.node r2.node r3.node
-    → Builds2 w0 k w4 r4 4 a n b n n (λ a b. absoluteDifferenceLane signed a b) (a.0 ∷ b.0 ∷ [])
-unfolding absoluteDifferenceLane
+    → Builds2 w0 k w4 r4 4 a n b n n (λ a b. absolute_difference_lane signed a b) (a.0 ∷ b.0 ∷ [])
+unfolding absolute_difference_lane
 difference-lane {a = a} {b = b} {n = n} signed l m f e1 e2 e3 e4 =
     rw (← f)
     (record {
@@ -47,10 +47,10 @@ pub difference-added : {w0 w1 w2 w3 w4 w5 : List ℕ} {k : ℕ} {r1 r2 r3 r4 r5 
     → accumulate ≡ true
     → MadeLane w0 k w1 r1 first n j
     → MadeLane w1 r1.count w2 r2 second n j
-    → Builds2 w2 r2.count w3 r3 4 r1.node n r2.node n n (λ a b. absoluteDifferenceLane signed a b) (r1.node.0 ∷ r2.node.0 ∷ [])
+    → Builds2 w2 r2.count w3 r3 4 r1.node n r2.node n n (λ a b. absolute_difference_lane signed a b) (r1.node.0 ∷ r2.node.0 ∷ [])
     → MadeLane w3 r3.count w4 r4 d n j
     → MadeBv w4 r4.count w5 r5 Add r4.node r3.node
-    → Lowers w0 k w5 r5 8 n (readIf accumulate d (n * lanes)) (read first (n * lanes)) (read second (n * lanes)) (λ d a b. differenceAt signed accumulate n d a b j) []
+    → Lowers w0 k w5 r5 8 n (read_if accumulate d (n * lanes)) (read first (n * lanes)) (read second (n * lanes)) (λ d a b. difference_at signed accumulate n d a b j) []
 difference-added {first = first} {second = second} {d = d} {n = n} {lanes = lanes} {j = j} signed accumulate l m h b q e1 e2 e3 e4 e5 =
     let fits : n * j + n ≤ n * lanes = lane-fits n j lanes h (omega arith) in
     rw q
@@ -73,8 +73,8 @@ pub difference-alone : {w0 w1 w2 w3 : List ℕ} {k : ℕ} {r1 r2 r3 : Built} {fi
     → accumulate ≡ false
     → MadeLane w0 k w1 r1 first n j
     → MadeLane w1 r1.count w2 r2 second n j
-    → Builds2 w2 r2.count w3 r3 4 r1.node n r2.node n n (λ a b. absoluteDifferenceLane signed a b) (r1.node.0 ∷ r2.node.0 ∷ [])
-    → Lowers w0 k w3 r3 8 n (readIf accumulate d (n * lanes)) (read first (n * lanes)) (read second (n * lanes)) (λ d a b. differenceAt signed accumulate n d a b j) []
+    → Builds2 w2 r2.count w3 r3 4 r1.node n r2.node n n (λ a b. absolute_difference_lane signed a b) (r1.node.0 ∷ r2.node.0 ∷ [])
+    → Lowers w0 k w3 r3 8 n (read_if accumulate d (n * lanes)) (read first (n * lanes)) (read second (n * lanes)) (λ d a b. difference_at signed accumulate n d a b j) []
 difference-alone {first = first} {second = second} {n = n} {lanes = lanes} {j = j} signed accumulate l m h b q e1 e2 e3 =
     let fits : n * j + n ≤ n * lanes = lane-fits n j lanes h (omega arith) in
     rw q

@@ -1,9 +1,9 @@
 // The Rust's neon/lower/arith.rs: absolute_difference_lane and absolute_difference_lanes, alone or added to the old destination.
 ghost use Rattle.std.specs.Prelude.{[], ◌∷◌, ◌*◌, ◌≤◌, ◌<◌};
 ghost use Rattle.pool.specs.Growth.{Room};
-ghost use Rattle.trees.specs.Arith.{absoluteDifferenceLane};
-ghost use Rattle.trees.specs.Trees.{differenceAt, absoluteDifferenceLanes};
-ghost use Rattle.lower.specs.Builds.{Builds2, Lowers, read, readIf, Below};
+ghost use Rattle.trees.specs.Arith.{absolute_difference_lane};
+ghost use Rattle.trees.specs.Trees.{difference_at, absolute_difference_lanes};
+ghost use Rattle.lower.specs.Builds.{Builds2, Lowers, read, read_if, Below};
 
 use lower_kinds::operators::less_op;
 use neon::Lane;
@@ -22,7 +22,7 @@ fn absolute_difference_lane(
     requires room { Room pool.old count 4 }
     requires a_lt_count { (a.0 < count) × (b.0 < count) × (1 ≤ lane_bits) × (lane_bits ≤ 64) }
     ensures { Builds2 pool.old count pool.new result 4 a lane_bits b lane_bits lane_bits
-        (λ a b. absoluteDifferenceLane signed a b) (a.0 ∷ b.0 ∷ []) }
+        (λ a b. absolute_difference_lane signed a b) (a.0 ∷ b.0 ∷ []) }
 {
     let op = less_op(signed);
     let less = pool_nodes::compare(pool, count, op, a, b);
@@ -45,10 +45,10 @@ fn difference_at(
     index: Lane,
 ) -> Built
     requires room { Room pool.old count 8 }
-    requires first_lt_count { (first.0 < count) × (second.0 < count) × Below (readIf accumulate d 0) count }
+    requires first_lt_count { (first.0 < count) × (second.0 < count) × Below (read_if accumulate d 0) count }
     requires le_lane_bits { (1 ≤ lane_bits) × (lane_bits ≤ 64) × (index.0 < lanes) × (lane_bits * lanes ≤ 128) }
-    ensures { Lowers pool.old count pool.new result 8 lane_bits (readIf accumulate d (lane_bits * lanes))
-        (read first (lane_bits * lanes)) (read second (lane_bits * lanes)) (λ d a b. differenceAt signed accumulate lane_bits d a b index.0) [] }
+    ensures { Lowers pool.old count pool.new result 8 lane_bits (read_if accumulate d (lane_bits * lanes))
+        (read first (lane_bits * lanes)) (read second (lane_bits * lanes)) (λ d a b. difference_at signed accumulate lane_bits d a b index.0) [] }
 {
     let a = lower_simd::extract_lane(pool, count, first, lane_bits, index);
     let b = lower_simd::extract_lane(pool, a.count, second, lane_bits, index);
@@ -79,10 +79,10 @@ pub fn absolute_difference_lanes(
     lanes: u64,
 ) -> Built
     requires room { Room pool.old count (9 * lanes) }
-    requires first_lt_count { (first.0 < count) × (second.0 < count) × Below (readIf accumulate d 0) count }
+    requires first_lt_count { (first.0 < count) × (second.0 < count) × Below (read_if accumulate d 0) count }
     requires le_lane_bits { (1 ≤ lane_bits) × (lane_bits ≤ 64) × (1 ≤ lanes) × (lane_bits * lanes ≤ 128) }
-    ensures { Lowers pool.old count pool.new result (9 * lanes) (lane_bits * lanes) (readIf accumulate d (lane_bits * lanes))
-        (read first (lane_bits * lanes)) (read second (lane_bits * lanes)) (λ d a b. absoluteDifferenceLanes signed accumulate a b d lane_bits lanes) [] }
+    ensures { Lowers pool.old count pool.new result (9 * lanes) (lane_bits * lanes) (read_if accumulate d (lane_bits * lanes))
+        (read first (lane_bits * lanes)) (read second (lane_bits * lanes)) (λ d a b. absolute_difference_lanes signed accumulate a b d lane_bits lanes) [] }
 {
     let mut acc = difference_at(
         pool,

@@ -1,7 +1,7 @@
 // The Rust's neon/lower/arith.rs: bitwise_unary_lanes, the functions of a lane's own bits lane by lane.
 ghost use Rattle.std.specs.Prelude.{[], ◌+◌, ◌*◌, ◌≤◌, ◌<◌};
 ghost use Rattle.pool.specs.Growth.{Room};
-ghost use Rattle.trees.specs.Trees.{bitwiseAt, bitwiseUnaryLanes};
+ghost use Rattle.trees.specs.Trees.{bitwise_at, bitwise_unary_lanes};
 ghost use Rattle.lower.specs.Builds.{Lowers, read, unread};
 
 use lower_bitwise_unary_lane::bitwise_unary_lane;
@@ -23,7 +23,7 @@ fn bitwise_at(
     requires first_lt_count { first.0 < count }
     requires le_lane_bits { (2 ≤ lane_bits) × (lane_bits ≤ 64) × (index.0 < lanes) × (lane_bits * lanes ≤ 128) }
     ensures { Lowers pool.old count pool.new result (5 * lane_bits + 1) lane_bits unread (read first (lane_bits * lanes))
-        unread (λ d a b. bitwiseAt kind lane_bits a index.0) [] }
+        unread (λ d a b. bitwise_at kind lane_bits a index.0) [] }
 {
     // the bits are cut from below every Extract, so the lane itself gets no node
     let lo = lane_bits * index.0;
@@ -44,7 +44,7 @@ pub fn bitwise_unary_lanes(
     requires first_lt_count { first.0 < count }
     requires le_lane_bits { (2 ≤ lane_bits) × (lane_bits ≤ 64) × (1 ≤ lanes) × (lane_bits * lanes ≤ 128) }
     ensures { Lowers pool.old count pool.new result ((5 * lane_bits + 2) * lanes) (lane_bits * lanes) unread
-        (read first (lane_bits * lanes)) unread (λ d a b. bitwiseUnaryLanes kind a lane_bits lanes) [] }
+        (read first (lane_bits * lanes)) unread (λ d a b. bitwise_unary_lanes kind a lane_bits lanes) [] }
 {
     let mut acc = bitwise_at(pool, count, kind, first, lane_bits, lanes, Lane::first());
     let mut i = 1;

@@ -14,10 +14,10 @@ use Rattle.pool.specs.declared.Node.{Node}
 use Rattle.pool.specs.declared.Built.{Built}
 use Rattle.pool_nodes.specs.Builders.{MadeConst, MadeBv, MadeCompare, MadeIte, MadeExtract, MadeZeroExtend}
 use Rattle.pool.proofs.Steps.{start, step, finish, forget, given}
-use Rattle.trees.specs.Simd.{extractCollapsing}
-use Rattle.trees.specs.Trees.{leading_zeros, populationCount, zerosAt, countAt}
+use Rattle.trees.specs.Simd.{extract_collapsing}
+use Rattle.trees.specs.Trees.{leading_zeros, population_count, zeros_at, count_bit_at}
 use Rattle.trees.specs.Arith as Arith
-use Rattle.lower_bitwise_unary_lane.specs.Layers.{Plain, laneFrom, BuildsLane, BuildsLane2}
+use Rattle.lower_bitwise_unary_lane.specs.Layers.{Plain, lane_from, BuildsLane, BuildsLane2}
 
 -- a number of at most n fits n bits
 pub fits : (n c : ℕ) → c ≤ n → c < 2 ^ n
@@ -44,7 +44,7 @@ pub bits_none : {w0 w1 : List ℕ} {k : ℕ} {r : Built} {value : Node} {base n 
 bits_none {base = base} {n = n} m f c l b h q e =
     record {
       sized = omega (arith, e.sized);
-      made = λ {wa} {ta} v p i x. rw (q (laneFrom ta base n)) (e.made v l (omega arith) (omega arith) (fits n c h));
+      made = λ {wa} {ta} v p i x. rw (q (lane_from ta base n)) (e.made v l (omega arith) (omega arith) (fits n c h));
     }
 
 bits-suc : {w0 w1 w2 : List ℕ} {k : ℕ} {r1 r2 : Built} {value : Node} {base n i : ℕ} (m : ℕ) (f : Expr → ℕ → Expr) (g : Expr → ℕ → Expr → Expr)
@@ -58,7 +58,7 @@ bits-suc {value = value} {base = base} {n = n} {i = i} m f g q e1 e2 =
       made = λ {wa} {ta} v p l x.
           let s0 = start v (given value.0 wa ta ∷ []) (x, tt) in
           let s1 = step s0 [] (forget (e1.made s0.valid p l s0.env.0)) in
-          rw (q (laneFrom ta base n)) (finish (step s1 (1 ∷ 0 ∷ []) (e2.made s1.valid p l s1.env.1.0 s1.env.0)) tt);
+          rw (q (lane_from ta base n)) (finish (step s1 (1 ∷ 0 ∷ []) (e2.made s1.valid p l s1.env.1.0 s1.env.0)) tt);
     }
 
 pub bits-more : {w0 w1 w2 : List ℕ} {k : ℕ} {r1 r2 : Built} {value : Node} {base n i : ℕ} (m : ℕ) (f : Expr → ℕ → Expr) (g : Expr → ℕ → Expr → Expr)
@@ -83,30 +83,30 @@ bits-all {w0} {w1} {k} {r} {value} {base} {n} m f l e d =
 
 -- ---- the two folds
 
-abbrev pub zerosTo : ℕ → Expr → ℕ → Expr
-zerosTo n v i = leading_zeros v n i
+abbrev pub zeros_to : ℕ → Expr → ℕ → Expr
+zeros_to n v i = leading_zeros v n i
 
 abbrev pub count_to : ℕ → Expr → ℕ → Expr
-count_to n v i = populationCount v n i
+count_to n v i = population_count v n i
 
-pub zeros-none : (n : ℕ) (v : Expr) → zerosTo n v 0 ≡ Const n n
+pub zeros-none : (n : ℕ) (v : Expr) → zeros_to n v 0 ≡ Const n n
 unfolding Arith.leading_zeros
 zeros-none n v = refl
 
-pub zeros-more : (n i : ℕ) (v : Expr) → zerosTo n v (suc i) ≡ zerosAt n v i (zerosTo n v i)
+pub zeros-more : (n i : ℕ) (v : Expr) → zeros_to n v (suc i) ≡ zeros_at n v i (zeros_to n v i)
 unfolding Arith.leading_zeros
 zeros-more n i v = refl
 
 pub count_none : (n : ℕ) (v : Expr) → count_to n v 0 ≡ Const 0 n
-unfolding Arith.populationCount
+unfolding Arith.population_count
 count_none n v = refl
 
-pub count-more : (n i : ℕ) (v : Expr) → count_to n v (suc i) ≡ countAt n v i (count_to n v i)
-unfolding Arith.populationCount
+pub count-more : (n i : ℕ) (v : Expr) → count_to n v (suc i) ≡ count_bit_at n v i (count_to n v i)
+unfolding Arith.population_count
 count-more n i v = refl
 
 -- a bit of the lane is a bit of what the lane is of
-pub bit-of : {v : Expr} → Plain v → (base n j : ℕ) → j < n → extractCollapsing (laneFrom v base n) j j ≡ Extract v (j + base) (j + base)
+pub bit-of : {v : Expr} → Plain v → (base n j : ℕ) → j < n → extract_collapsing (lane_from v base n) j j ≡ Extract v (j + base) (j + base)
 bit-of p base n j h = rw (le-leb (j + base) (n - 1 + base) (omega arith)) (p (j + base) (j + base))
 
 pub zeros-at : {w0 w1 w2 w3 w4 w5 : List ℕ} {k : ℕ} {r1 r2 r3 r4 r5 : Built} {value rest : Node} {base n j : ℕ} → j < n → n ≤ 64
@@ -115,7 +115,7 @@ pub zeros-at : {w0 w1 w2 w3 w4 w5 : List ℕ} {k : ℕ} {r1 r2 r3 r4 r5 : Built}
     → MadeCompare w2 r2.count w3 r3 Eq r1.node r2.node
     → MadeConst w3 r3.count w4 r4 (n - 1 - j) 0 n
     → MadeIte w4 r4.count w5 r5 r3.node r4.node rest
-    → BuildsLane2 w0 k w5 r5 5 value base n rest n n (λ v t. zerosAt n v j t) (value.0 ∷ rest.0 ∷ [])
+    → BuildsLane2 w0 k w5 r5 5 value base n rest n n (λ v t. zeros_at n v j t) (value.0 ∷ rest.0 ∷ [])
 zeros-at {value = value} {rest = rest} {base = base} {n = n} {j = j} h b e1 e2 e3 e4 e5 =
     let l : 1 ≤ n = omega arith in
     let m : n ≤ 129 = omega arith in
@@ -134,7 +134,7 @@ pub count_at : {w0 w1 w2 w3 : List ℕ} {k : ℕ} {r1 r2 r3 : Built} {value rest
     → MadeExtract w0 k w1 r1 value (j + base) (j + base)
     → MadeZeroExtend w1 r1.count w2 r2 r1.node n
     → MadeBv w2 r2.count w3 r3 Add rest r2.node
-    → BuildsLane2 w0 k w3 r3 3 value base n rest n n (λ v t. countAt n v j t) (value.0 ∷ rest.0 ∷ [])
+    → BuildsLane2 w0 k w3 r3 3 value base n rest n n (λ v t. count_bit_at n v j t) (value.0 ∷ rest.0 ∷ [])
 count_at {value = value} {rest = rest} {base = base} {n = n} {j = j} h b e1 e2 e3 =
     let l : 1 ≤ n = omega arith in
     let m : n ≤ 129 = omega arith in

@@ -2,7 +2,7 @@
 ghost use Rattle.std.specs.Prelude.{[], ◌∷◌, ◌+◌, ◌*◌, ◌≤◌, ◌<◌};
 ghost use Rattle.pool.specs.Growth.{Room};
 ghost use Rattle.trees.specs.declared.BitwiseUnary.TheVariants.{LeadingSignBits, ReverseBits};
-ghost use Rattle.trees.specs.Trees.{leading_zeros, populationCount, bitwiseUnaryLane, zerosAt, countAt};
+ghost use Rattle.trees.specs.Trees.{leading_zeros, population_count, bitwise_unary_lane, zeros_at, count_bit_at};
 ghost use Rattle.lower_bitwise_unary_lane.specs.Layers.{BuildsLane, BuildsLane2};
 
 use pool::{Bit, Built, Node};
@@ -20,7 +20,7 @@ fn zeros_at(
 ) -> Built
     requires room { Room pool.old count 5 }
     requires value_lt_count { (value.0 < count) × (rest.0 < count) × (bit.0 < bits) × (bits ≤ 64) × (base.0 + bits ≤ 129) }
-    ensures { BuildsLane2 pool.old count pool.new result 5 value base.0 bits rest bits bits (λ v t. zerosAt bits v bit.0 t)
+    ensures { BuildsLane2 pool.old count pool.new result 5 value base.0 bits rest bits bits (λ v t. zeros_at bits v bit.0 t)
         (value.0 ∷ rest.0 ∷ []) }
 {
     let at = bit.0 + base.0;
@@ -60,7 +60,7 @@ fn count_at(
     requires room { Room pool.old count 3 }
     requires value_lt_count { (value.0 < count) × (rest.0 < count) × (bit.0 < lane_bits) × (lane_bits ≤ 64) × (base.0 + lane_bits ≤ 129) }
     ensures { BuildsLane2 pool.old count pool.new result 3 value base.0 lane_bits rest lane_bits lane_bits
-        (λ v t. countAt lane_bits v bit.0 t) (value.0 ∷ rest.0 ∷ []) }
+        (λ v t. count_bit_at lane_bits v bit.0 t) (value.0 ∷ rest.0 ∷ []) }
 {
     let at = bit.0 + base.0;
     let one = pool_nodes::extract(pool, count, value, Bit(at), Bit(at));
@@ -79,7 +79,7 @@ pub fn population_count(
     requires room { Room pool.old count (3 * lane_bits + 1) }
     requires value_lt_count { (value.0 < count) × (1 ≤ lane_bits) × (lane_bits ≤ 64) × (base.0 + lane_bits ≤ 129) }
     ensures { BuildsLane pool.old count pool.new result (3 * lane_bits + 1) value base.0 lane_bits lane_bits
-        (λ v. populationCount v lane_bits lane_bits) (value.0 ∷ []) }
+        (λ v. population_count v lane_bits lane_bits) (value.0 ∷ []) }
 {
     let mut acc = pool_nodes::konst(pool, count, 0, 0, lane_bits);
     let mut i = 0;
@@ -102,7 +102,7 @@ pub fn leading_sign_bits(
     requires room { Room pool.old count (5 * lane_bits + 1) }
     requires value_lt_count { (value.0 < count) × (2 ≤ lane_bits) × (lane_bits ≤ 64) × (base.0 + lane_bits ≤ 129) }
     ensures { BuildsLane pool.old count pool.new result (5 * lane_bits + 1) value base.0 lane_bits lane_bits
-        (λ v. bitwiseUnaryLane LeadingSignBits v lane_bits) (value.0 ∷ []) }
+        (λ v. bitwise_unary_lane LeadingSignBits v lane_bits) (value.0 ∷ []) }
 {
     let width = lane_bits - 1;
     let high = pool_nodes::extract(pool, count, value, Bit(width + base.0), Bit(1 + base.0));
@@ -117,7 +117,7 @@ pub fn reverse_bits(pool: &mut [u64], count: usize, value: Node, base: Bit, lane
     requires room { Room pool.old count (2 * lane_bits) }
     requires value_lt_count { (value.0 < count) × (1 ≤ lane_bits) × (lane_bits ≤ 64) × (base.0 + lane_bits ≤ 129) }
     ensures { BuildsLane pool.old count pool.new result (2 * lane_bits) value base.0 lane_bits lane_bits
-        (λ v. bitwiseUnaryLane ReverseBits v lane_bits) (value.0 ∷ []) }
+        (λ v. bitwise_unary_lane ReverseBits v lane_bits) (value.0 ∷ []) }
 {
     let top = lane_bits - 1;
     let highest = top + base.0;

@@ -1,7 +1,7 @@
 // The Rust's neon/lower/arith.rs: bitwise_unary_lane, the functions of a lane's own bits.
 ghost use Rattle.std.specs.Prelude.{[], ◌∷◌, ◌+◌, ◌*◌, ◌≤◌, ◌<◌};
 ghost use Rattle.pool.specs.Growth.{Room};
-ghost use Rattle.trees.specs.Trees.{bitwiseUnaryLane};
+ghost use Rattle.trees.specs.Trees.{bitwise_unary_lane};
 ghost use Rattle.lower_bitwise_unary_lane.specs.Layers.{BuildsLane};
 
 use pool::{Bit, Built, Node};
@@ -21,7 +21,7 @@ pub fn bitwise_unary_lane(
     requires room { Room pool.old count (5 * lane_bits + 1) }
     requires value_lt_count { (value.0 < count) × (2 ≤ lane_bits) × (lane_bits ≤ 64) × (base.0 + lane_bits ≤ 129) }
     ensures { BuildsLane pool.old count pool.new result (5 * lane_bits + 1) value base.0 lane_bits lane_bits
-        (λ v. bitwiseUnaryLane kind v lane_bits) (value.0 ∷ []) }
+        (λ v. bitwise_unary_lane kind v lane_bits) (value.0 ∷ []) }
 {
     match kind {
         BitwiseUnary::PopulationCount => counts::population_count(

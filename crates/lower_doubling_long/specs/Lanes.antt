@@ -2,14 +2,14 @@
 use Rattle.std.specs.Prelude.{Bool, ℕ, ◌/◌}
 use Rattle.terms.specs.Expr.{Expr}
 use Rattle.trees.specs.declared.Combine.{Combine}
-use Rattle.trees.specs.Arith.{sourceLane}
-use Rattle.trees.specs.Trees.{extractLane, combined, doublingAt}
+use Rattle.trees.specs.Arith.{source_lane}
+use Rattle.trees.specs.Trees.{extract_lane, combined, doubling_at}
 use Rattle.lower_doubling_long.specs.declared.Element.{Element}
-use Rattle.lower_doubling_long.specs.Elements.{elementTree}
+use Rattle.lower_doubling_long.specs.Elements.{element_tree}
 
 -- p is the product's term
-abbrev pub combinedAt : Combine → (n : ℕ) (d p : Expr) → ℕ → Expr
-combinedAt combine n d p j = combined combine (extractLane d n j) p n
+abbrev pub combined_at : Combine → (n : ℕ) (d p : Expr) → ℕ → Expr
+combined_at combine n d p j = combined combine (extract_lane d n j) p n
 
-abbrev pub doubledAt : Combine → Element → (upper : Bool) (n lanes : ℕ) (d a b : Expr) → ℕ → Expr
-doubledAt combine second upper n lanes d a b j = doublingAt combine upper n lanes d a (elementTree second b (n / 2) (sourceLane upper lanes j)) j
+abbrev pub doubled_at : Combine → Element → (upper : Bool) (n lanes : ℕ) (d a b : Expr) → ℕ → Expr
+doubled_at combine second upper n lanes d a b j = doubling_at combine upper n lanes d a (element_tree second b (n / 2) (source_lane upper lanes j)) j

@@ -1,12 +1,12 @@
 // The Rust's neon/lower/arith.rs: doubling_long_lanes.
 ghost use Rattle.std.specs.Prelude.{◌≡◌, [], ◌∷◌, ◌+◌, ◌-◌, ◌*◌, ◌/◌, ◌≤◌, ◌<◌};
 ghost use Rattle.pool.specs.Growth.{Room};
-ghost use Rattle.trees.specs.Simd.{concatLanes};
-ghost use Rattle.trees.specs.Arith.{sourceLane};
-ghost use Rattle.trees.specs.Trees.{doublingProduct, doublingLongLanes};
-ghost use Rattle.lower.specs.Builds.{Builds2, Lowers, read, readIf, unread, Below};
-ghost use Rattle.lower_doubling_long.specs.Elements.{accumulates, elementNode, elementSource, elementNodes, factorBits, secondFactorBits, MadeElement};
-ghost use Rattle.lower_doubling_long.specs.Lanes.{combinedAt, doubledAt};
+ghost use Rattle.trees.specs.Simd.{concat_lanes};
+ghost use Rattle.trees.specs.Arith.{source_lane};
+ghost use Rattle.trees.specs.Trees.{doubling_product, doubling_long_lanes};
+ghost use Rattle.lower.specs.Builds.{Builds2, Lowers, read, read_if, unread, Below};
+ghost use Rattle.lower_doubling_long.specs.Elements.{accumulates, element_node, element_source, element_nodes, factor_bits, second_factor_bits, MadeElement};
+ghost use Rattle.lower_doubling_long.specs.Lanes.{combined_at, doubled_at};
 
 use lower_exact::join;
 use lower_exact::product::double;
@@ -15,7 +15,7 @@ use pool::{Built, Node};
 use trees::{Combine, SaturateTo};
 
 // A second source: one element for every lane, or a vector whose lanes are read one by one.
-#[derive(Drop)]
+#[derive(Clone, Copy)]
 pub enum Element {
     One(Node),
     PerLane(Node),
@@ -27,7 +27,7 @@ fn doubling_product(pool: &mut [u64], count: usize, a: Node, b: Node, lane_bits:
     requires room { Room pool.old count 12 }
     requires a_lt_count { (a.0 < count) × (b.0 < count) × (2 ≤ lane_bits) × (lane_bits ≤ 64) }
     ensures { Builds2 pool.old count pool.new result 12 a (lane_bits / 2) b (lane_bits / 2) lane_bits
-        (λ a b. doublingProduct a b lane_bits) (a.0 ∷ b.0 ∷ []) }
+        (λ a b. doubling_product a b lane_bits) (a.0 ∷ b.0 ∷ []) }
 {
     let wide = lane_bits + 1;
     let doubled = double(pool, count, a, b, lane_bits / 2, wide);
@@ -53,10 +53,10 @@ fn combine_at(
     index: Lane,
 ) -> Built
     requires room { Room pool.old count 11 }
-    requires product_lt_count { (product.0 < count) × Below (readIf (accumulates combine) d 0) count }
+    requires product_lt_count { (product.0 < count) × Below (read_if (accumulates combine) d 0) count }
     requires le_lane_bits { (2 ≤ lane_bits) × (lane_bits ≤ 64) × (index.0 < lanes) × (lane_bits * lanes ≤ 128) }
-    ensures { Lowers pool.old count pool.new result 11 lane_bits (readIf (accumulates combine) d (lane_bits * lanes))
-        (read product lane_bits) unread (λ d p b. combinedAt combine lane_bits d p index.0) (product.0 ∷ []) }
+    ensures { Lowers pool.old count pool.new result 11 lane_bits (read_if (accumulates combine) d (lane_bits * lanes))
+        (read product lane_bits) unread (λ d p b. combined_at combine lane_bits d p index.0) (product.0 ∷ []) }
 {
     match combine {
         Combine::Nothing => Built {
@@ -92,7 +92,7 @@ fn combine_at(
 // The lane of the sources that a destination lane is made from.
 pub fn source_lane(upper: bool, lanes: u64, index: Lane) -> Lane
     requires { (index.0 < lanes) × (lanes ≤ 128) }
-    ensures { result.0 ≡ sourceLane upper lanes index.0 }
+    ensures { result.0 ≡ source_lane upper lanes index.0 }
 {
     if upper {
         return Lane(index.0 + lanes);
@@ -103,7 +103,7 @@ pub fn source_lane(upper: bool, lanes: u64, index: Lane) -> Lane
 // The second factor of a lane.
 fn second_lane(pool: &mut [u64], count: usize, second: Element, bits: u64, index: Lane) -> Built
     requires room { Room pool.old count 1 }
-    requires second_bound { (elementNode second < count) × (1 ≤ bits) × (bits * index.0 + bits ≤ 128) }
+    requires second_bound { (element_node second < count) × (1 ≤ bits) × (bits * index.0 + bits ≤ 128) }
     ensures { MadeElement pool.old count pool.new result second bits index.0 }
 {
     match second {
@@ -126,12 +126,12 @@ fn doubling_at(
     index: Lane,
 ) -> Built
     requires room { Room pool.old count 25 }
-    requires first_lt_count { (first.0 < count) × (elementNode second < count) × Below (readIf (accumulates combine) d 0) count }
+    requires first_lt_count { (first.0 < count) × (element_node second < count) × Below (read_if (accumulates combine) d 0) count }
     requires le_lane_bits { (2 ≤ lane_bits) × (lane_bits ≤ 64) × (index.0 < lanes) × (lane_bits * lanes ≤ 128) }
-    ensures { Lowers pool.old count pool.new result 25 lane_bits (readIf (accumulates combine) d (lane_bits * lanes))
-        (read first (factorBits upper lane_bits lanes)) (elementSource second (lane_bits / 2) (factorBits upper lane_bits lanes))
-        (λ d a b. doubledAt combine second upper lane_bits lanes d a b index.0)
-        (elementNodes second) }
+    ensures { Lowers pool.old count pool.new result 25 lane_bits (read_if (accumulates combine) d (lane_bits * lanes))
+        (read first (factor_bits upper lane_bits lanes)) (element_source second (lane_bits / 2) (factor_bits upper lane_bits lanes))
+        (λ d a b. doubled_at combine second upper lane_bits lanes d a b index.0)
+        (element_nodes second) }
 {
     let narrow = lane_bits / 2;
     let from = source_lane(upper, lanes, index);
@@ -163,11 +163,11 @@ fn doubled_lanes(
     lanes: u64,
 ) -> Built
     requires room { Room pool.old count (26 * lanes) }
-    requires first_lt_count { (first.0 < count) × (elementNode second < count) × Below (readIf (accumulates combine) d 0) count }
+    requires first_lt_count { (first.0 < count) × (element_node second < count) × Below (read_if (accumulates combine) d 0) count }
     requires le_lane_bits { (2 ≤ lane_bits) × (lane_bits ≤ 64) × (1 ≤ lanes) × (lane_bits * lanes ≤ 128) }
     ensures { Lowers pool.old count pool.new result (26 * lanes) (lane_bits * lanes)
-        (readIf (accumulates combine) d (lane_bits * lanes)) (read first (factorBits upper lane_bits lanes)) (elementSource second (lane_bits / 2) (factorBits upper lane_bits lanes))
-        (λ d a b. concatLanes (lanes - 1) (doubledAt combine second upper lane_bits lanes d a b)) (elementNodes second) }
+        (read_if (accumulates combine) d (lane_bits * lanes)) (read first (factor_bits upper lane_bits lanes)) (element_source second (lane_bits / 2) (factor_bits upper lane_bits lanes))
+        (λ d a b. concat_lanes (lanes - 1) (doubled_at combine second upper lane_bits lanes d a b)) (element_nodes second) }
 {
     let mut acc = doubling_at(
         pool,
@@ -216,12 +216,12 @@ pub fn doubling_long_lanes(
     lanes: u64,
 ) -> Built
     requires room { Room pool.old count (26 * lanes + 1) }
-    requires first_lt_count { (first.0 < count) × (second.0 < count) × Below (readIf (accumulates combine) d 0) count }
+    requires first_lt_count { (first.0 < count) × (second.0 < count) × Below (read_if (accumulates combine) d 0) count }
     requires le_lane_bits { (2 ≤ lane_bits) × (lane_bits ≤ 64) × (1 ≤ lanes) × (lane_bits * lanes ≤ 128) × (lane_bits / 2 * element.0 + lane_bits / 2 ≤ 128) }
     ensures { Lowers pool.old count pool.new result (26 * lanes + 1) (lane_bits * lanes)
-        (readIf (accumulates combine) d (lane_bits * lanes)) (read first (factorBits upper lane_bits lanes))
-        (read second (secondFactorBits by_element upper lane_bits lanes))
-        (λ d a b. doublingLongLanes combine upper by_element element.0 a b d lane_bits lanes) [] }
+        (read_if (accumulates combine) d (lane_bits * lanes)) (read first (factor_bits upper lane_bits lanes))
+        (read second (second_factor_bits by_element upper lane_bits lanes))
+        (λ d a b. doubling_long_lanes combine upper by_element element.0 a b d lane_bits lanes) [] }
 {
     if by_element {
         let one = lower_simd::extract_lane(pool, count, second, lane_bits / 2, element);

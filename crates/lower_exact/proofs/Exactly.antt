@@ -18,9 +18,9 @@ use Rattle.trees.specs.declared.SaturateTo.{SaturateTo}
 use Rattle.trees.specs.declared.Saturate.{Saturate}
 use Rattle.trees.specs.declared.SaturatingKind.{SaturatingKind}
 use Rattle.trees.specs.declared.SaturatingKind.TheVariants.{AddSub, Halving, Narrow, ShiftNarrow, DoublingMultiplyHigh, Unary}
-use Rattle.trees.specs.Arith.{plus_if, negated, kindBits, joined, twice, shifted, scaled, exactLane, exactBits}
+use Rattle.trees.specs.Arith.{plus_if, negated, kind_bits, joined, twice, shifted, scaled, exact_lane, exact_bits}
 use Rattle.lower.specs.Builds.{Builds1, Builds2, BuildsIf, MadeExtend}
-use Rattle.lower_kinds.specs.Sources.{usesSecond, KindIn}
+use Rattle.lower_kinds.specs.Sources.{uses_second, KindIn}
 
 -- ---- one builder on another's answer
 pub then1 : {w0 w1 w2 : List ℕ} {k m1 m2 : ℕ} {r1 r2 : Built} {a : Node} {wa u w : ℕ} {f g : Expr → Expr}
@@ -152,14 +152,14 @@ pub narrow : {w0 w1 w2 : List ℕ} {k : ℕ} {r1 r2 : Built} {a : Node} {half : 
     → half ≡ 2 ^ (shift - 1)
     → MadeExtend w0 k w1 r1 a (n * 2 + 1) signed
     → Builds1 w1 r1.count w2 r2 4 r1.node (n * 2 + 1) (n * 2 + 1) (λ v. shifted signed rounding v half shift (n * 2 + 1)) (r1.node.0 ∷ [])
-    → Builds1 w0 k w2 r2 5 a (n * 2) (n * 2 + 1) (λ a. exactLane (ShiftNarrow shift rounding to) a a n signed) (a.0 ∷ [])
+    → Builds1 w0 k w2 r2 5 a (n * 2) (n * 2 + 1) (λ a. exact_lane (ShiftNarrow shift rounding to) a a n signed) (a.0 ∷ [])
 narrow shift n signed rounding to l m p e1 e2 = rw (← p) (then1 (extended (omega arith) (omega arith) (omega arith) e1) e2)
 
 pub high : {w0 w1 w2 : List ℕ} {k : ℕ} {r1 r2 : Built} {a b : Node} {half : ℕ} (n : ℕ) (rounding : Bool)
     → half ≡ 2 ^ (n - 1)
     → Builds2 w0 k w1 r1 5 a n b n (n * 2 + 1) (λ a b. twice a b (n * 2 + 1)) (a.0 ∷ b.0 ∷ [])
     → Builds1 w1 r1.count w2 r2 4 r1.node (n * 2 + 1) (n * 2 + 1) (λ v. shifted true rounding v half n (n * 2 + 1)) (r1.node.0 ∷ [])
-    → Builds2 w0 k w2 r2 9 a n b n (n * 2 + 1) (λ a b. exactLane (DoublingMultiplyHigh rounding) a b n true) (a.0 ∷ b.0 ∷ [])
+    → Builds2 w0 k w2 r2 9 a n b n (n * 2 + 1) (λ a b. exact_lane (DoublingMultiplyHigh rounding) a b n true) (a.0 ∷ b.0 ∷ [])
 high n rounding p e1 e2 = rw (← p) (then2 e1 e2)
 
 -- ---- the opposite, and the absolute value
@@ -206,7 +206,7 @@ pub unary : {w0 w1 w2 : List ℕ} {k : ℕ} {r1 r2 : Built} {a : Node} {n : ℕ}
     → n ≤ 64
     → MadeExtend w0 k w1 r1 a (n + 1) true
     → Builds1 w1 r1.count w2 r2 4 r1.node (n + 1) (n + 1) (λ v. negated negate v (n + 1)) (r1.node.0 ∷ [])
-    → Builds1 w0 k w2 r2 5 a n (n + 1) (λ a. exactLane (Unary negate) a a n true) (a.0 ∷ [])
+    → Builds1 w0 k w2 r2 5 a n (n + 1) (λ a. exact_lane (Unary negate) a a n true) (a.0 ∷ [])
 unary negate l m e1 e2 = then1 (extended l (omega arith) (omega arith) e1) e2
 
 -- ---- each kind
@@ -214,8 +214,8 @@ unary negate l m e1 e2 = then1 (extended l (omega arith) (omega arith) e1) e2
 -- a lane has 64 bits at most; its exact value has as many bits or more, and 128 at most
 pub record ExactFits (kind : SaturatingKind) (n : ℕ) : Type 0 where
   pub lane : n ≤ 64
-  pub least : n ≤ exactBits kind n
-  pub most : exactBits kind n ≤ 128
+  pub least : n ≤ exact_bits kind n
+  pub most : exact_bits kind n ≤ 128
 
 pub exact-fits : (kind : SaturatingKind) (n : ℕ) → KindIn kind n → ExactFits kind n
 exact-fits (AddSub op to) n h = record { lane = omega arith; least = omega arith; most = omega arith }
@@ -227,7 +227,7 @@ exact-fits (DoublingMultiplyHigh rounding) n h = record { lane = omega arith; le
 
 abbrev pub Exact : (w0 : List ℕ) (k : ℕ) (w1 : List ℕ) (r : Built) (kind : SaturatingKind) (a b : Node) (n : ℕ) (signed : Bool) → Type 0
 Exact w0 k w1 r kind a b n signed =
-    BuildsIf w0 k w1 r 9 a (kindBits kind n) (usesSecond kind) b (kindBits kind n) (exactBits kind n) (λ a b. exactLane kind a b n signed)
+    BuildsIf w0 k w1 r 9 a (kind_bits kind n) (uses_second kind) b (kind_bits kind n) (exact_bits kind n) (λ a b. exact_lane kind a b n signed)
 
 module _ {w0 w1 : List ℕ} {k : ℕ} {r : Built} {kind : SaturatingKind} {a b : Node} (n : ℕ) (signed : Bool) where
   pub is-add-sub : {op : BinOp} {to : SaturateTo} → kind ≡ AddSub op to
@@ -235,19 +235,19 @@ module _ {w0 w1 : List ℕ} {k : ℕ} {r : Built} {kind : SaturatingKind} {a b :
   is-add-sub q e = rw q (record { sized = omega (arith, e.sized); made = λ v x y. e.made v x (y refl) })
 
   pub is-halving : {rounding : Bool} → kind ≡ Halving rounding
-      → Builds2 w0 k w1 r 7 a n b n (n + 1) (λ a b. exactLane (Halving rounding) a b n signed) (a.0 ∷ b.0 ∷ []) → Exact w0 k w1 r kind a b n signed
+      → Builds2 w0 k w1 r 7 a n b n (n + 1) (λ a b. exact_lane (Halving rounding) a b n signed) (a.0 ∷ b.0 ∷ []) → Exact w0 k w1 r kind a b n signed
   is-halving q e = rw q (record { sized = omega (arith, e.sized); made = λ v x y. e.made v x (y refl) })
 
   pub is-shift-narrow : {shift : ℕ} {rounding : Bool} {to : Saturate} → kind ≡ ShiftNarrow shift rounding to
-      → Builds1 w0 k w1 r 5 a (n * 2) (n * 2 + 1) (λ a. exactLane (ShiftNarrow shift rounding to) a a n signed) (a.0 ∷ []) → Exact w0 k w1 r kind a b n signed
+      → Builds1 w0 k w1 r 5 a (n * 2) (n * 2 + 1) (λ a. exact_lane (ShiftNarrow shift rounding to) a a n signed) (a.0 ∷ []) → Exact w0 k w1 r kind a b n signed
   is-shift-narrow q e = rw q (record { sized = omega (arith, e.sized); made = λ v x y. e.made v x })
 
   pub is-multiply-high : {rounding : Bool} → kind ≡ DoublingMultiplyHigh rounding
-      → Builds2 w0 k w1 r 9 a n b n (n * 2 + 1) (λ a b. exactLane (DoublingMultiplyHigh rounding) a b n true) (a.0 ∷ b.0 ∷ []) → Exact w0 k w1 r kind a b n signed
+      → Builds2 w0 k w1 r 9 a n b n (n * 2 + 1) (λ a b. exact_lane (DoublingMultiplyHigh rounding) a b n true) (a.0 ∷ b.0 ∷ []) → Exact w0 k w1 r kind a b n signed
   is-multiply-high q e = rw q (record { sized = omega (arith, e.sized); made = λ v x y. e.made v x (y refl) })
 
   pub is-unary : {negate : Bool} → kind ≡ Unary negate
-      → Builds1 w0 k w1 r 5 a n (n + 1) (λ a. exactLane (Unary negate) a a n true) (a.0 ∷ []) → Exact w0 k w1 r kind a b n signed
+      → Builds1 w0 k w1 r 5 a n (n + 1) (λ a. exact_lane (Unary negate) a a n true) (a.0 ∷ []) → Exact w0 k w1 r kind a b n signed
   is-unary q e = rw q (record { sized = omega (arith, e.sized); made = λ v x y. e.made v x })
 
 pub is-narrow : {ws : List ℕ} {k : ℕ} {r : Built} {kind : SaturatingKind} {a b : Node} (n : ℕ) (signed : Bool) {to : SaturateTo} → kind ≡ Narrow to

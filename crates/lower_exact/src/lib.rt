@@ -2,9 +2,9 @@
 // operations, at a width where it cannot overflow.
 ghost use Rattle.std.specs.Prelude.{◌≡◌, [], ◌∷◌, ◌+◌, ◌*◌, ◌≤◌, ◌<◌, ◌^◌};
 ghost use Rattle.pool.specs.Growth.{Room};
-ghost use Rattle.trees.specs.Arith.{kindBits, joined, shifted, scaled, exactLane, exactBits, kindTo};
+ghost use Rattle.trees.specs.Arith.{kind_bits, joined, shifted, scaled, exact_lane, exact_bits, kind_to};
 ghost use Rattle.lower.specs.Builds.{Builds1, Builds2, BuildsIf};
-ghost use Rattle.lower_kinds.specs.Sources.{usesSecond, KindIn};
+ghost use Rattle.lower_kinds.specs.Sources.{uses_second, KindIn};
 
 use lower_kinds::operators::shift_op;
 use pool::{Built, Node};
@@ -79,7 +79,7 @@ pub fn shift_up(
 
 // The range that a kind clamps its exact value into.
 pub fn kind_to(kind: SaturatingKind) -> Saturate
-    ensures { result ≡ kindTo kind }
+    ensures { result ≡ kind_to kind }
 {
     match kind {
         SaturatingKind::AddSub { op: _, to } => Saturate::Into(to),
@@ -98,7 +98,7 @@ pub fn kind_to(kind: SaturatingKind) -> Saturate
 // The bits of a kind's exact value.
 pub fn exact_bits(kind: SaturatingKind, lane_bits: u64) -> u64
     requires { lane_bits ≤ 64 }
-    ensures { result ≡ exactBits kind lane_bits }
+    ensures { result ≡ exact_bits kind lane_bits }
 {
     match kind {
         SaturatingKind::AddSub { op: _, to: _ } => lane_bits + 1,
@@ -127,7 +127,7 @@ fn exact_half(
     requires room { Room pool.old count 7 }
     requires a_lt_count { (a.0 < count) × (b.0 < count) × (1 ≤ lane_bits) × (lane_bits ≤ 64) }
     ensures { Builds2 pool.old count pool.new result 7 a lane_bits b lane_bits (lane_bits + 1)
-        (λ a b. exactLane (SaturatingKind.Halving rounding) a b lane_bits «signed») (a.0 ∷ b.0 ∷ []) }
+        (λ a b. exact_lane (SaturatingKind.Halving rounding) a b lane_bits «signed») (a.0 ∷ b.0 ∷ []) }
 {
     let wide = lane_bits + 1;
     let sum = join(
@@ -158,7 +158,7 @@ fn exact_narrow(
     requires room { Room pool.old count 5 }
     requires a_lt_count { (a.0 < count) × (1 ≤ shift) × (shift ≤ lane_bits) × (lane_bits ≤ 32) }
     ensures { Builds1 pool.old count pool.new result 5 a (lane_bits * 2) (lane_bits * 2 + 1)
-        (λ a. exactLane (SaturatingKind.ShiftNarrow shift rounding to) a a lane_bits «signed») (a.0 ∷ []) }
+        (λ a. exact_lane (SaturatingKind.ShiftNarrow shift rounding to) a a lane_bits «signed») (a.0 ∷ []) }
 {
     let wide = lane_bits * 2 + 1;
     let half = power(shift - 1);
@@ -187,8 +187,8 @@ pub fn exact_lane(
 ) -> Built
     requires room { Room pool.old count 9 }
     requires a_lt_count { (a.0 < count) × (b.0 < count) × (1 ≤ lane_bits) × KindIn kind lane_bits }
-    ensures { BuildsIf pool.old count pool.new result 9 a (kindBits kind lane_bits) (usesSecond kind) b (kindBits kind lane_bits)
-        (exactBits kind lane_bits) (λ a b. exactLane kind a b lane_bits signed_sources) }
+    ensures { BuildsIf pool.old count pool.new result 9 a (kind_bits kind lane_bits) (uses_second kind) b (kind_bits kind lane_bits)
+        (exact_bits kind lane_bits) (λ a b. exact_lane kind a b lane_bits signed_sources) }
 {
     match kind {
         SaturatingKind::AddSub { op, to: _ } => {

@@ -1,7 +1,7 @@
 // The exact values of SQNEG and SQABS.
 ghost use Rattle.std.specs.Prelude.{true, [], ◌∷◌, ◌+◌, ◌≤◌, ◌<◌};
 ghost use Rattle.pool.specs.Growth.{Room};
-ghost use Rattle.trees.specs.Arith.{negated as negatedTree, exactLane};
+ghost use Rattle.trees.specs.Arith.{negated as negatedTree, exact_lane};
 ghost use Rattle.lower.specs.Builds.{Builds1};
 
 use pool::{Built, Node};
@@ -28,7 +28,7 @@ pub fn exact_unary(pool: &mut [u64], count: usize, negate: bool, a: Node, lane_b
     requires room { Room pool.old count 5 }
     requires a_lt_count { (a.0 < count) × (1 ≤ lane_bits) × (lane_bits ≤ 64) }
     ensures { Builds1 pool.old count pool.new result 5 a lane_bits (lane_bits + 1)
-        (λ a. exactLane (SaturatingKind.Unary negate) a a lane_bits true) (a.0 ∷ []) }
+        (λ a. exact_lane (SaturatingKind.Unary negate) a a lane_bits true) (a.0 ∷ []) }
 {
     let wide = lane_bits + 1;
     let value = lower::extend(pool, count, a, wide, true);

@@ -1,7 +1,7 @@
 // The doubled product of two signed lanes, and its high half.
 ghost use Rattle.std.specs.Prelude.{true, [], ◌∷◌, ◌+◌, ◌*◌, ◌≤◌, ◌<◌};
 ghost use Rattle.pool.specs.Growth.{Room};
-ghost use Rattle.trees.specs.Arith.{twice, exactLane};
+ghost use Rattle.trees.specs.Arith.{twice, exact_lane};
 ghost use Rattle.lower.specs.Builds.{Builds2};
 
 use crate::{join, shift_down};
@@ -33,7 +33,7 @@ pub fn exact_high(
     requires room { Room pool.old count 9 }
     requires a_lt_count { (a.0 < count) × (b.0 < count) × (1 ≤ lane_bits) × (lane_bits ≤ 32) }
     ensures { Builds2 pool.old count pool.new result 9 a lane_bits b lane_bits (lane_bits * 2 + 1)
-        (λ a b. exactLane (SaturatingKind.DoublingMultiplyHigh rounding) a b lane_bits true) (a.0 ∷ b.0 ∷ []) }
+        (λ a b. exact_lane (SaturatingKind.DoublingMultiplyHigh rounding) a b lane_bits true) (a.0 ∷ b.0 ∷ []) }
 {
     let wide = lane_bits * 2 + 1;
     let half = power(lane_bits - 1);

@@ -10,9 +10,9 @@ use Rattle.pool.specs.declared.Node.{Node}
 use Rattle.pool.specs.declared.Built.{Built}
 use Rattle.pool_nodes.specs.Builders.{MadeBv, MadeExtract}
 use Rattle.pool.proofs.Steps.{start, step, finish, given, spare}
-use Rattle.trees.specs.Simd.{extractCollapsing}
+use Rattle.trees.specs.Simd.{extract_collapsing}
 use Rattle.trees.specs.Arith.{plus_if}
-use Rattle.trees.specs.Trees.{highAt, highNarrowLane}
+use Rattle.trees.specs.Trees.{high_at, high_narrow_lane}
 use Rattle.trees.specs.Width as Width
 use Rattle.lower_simd.specs.Cut.{MadeLane}
 use Rattle.lower.specs.Builds.{Builds1, Builds2, Lowers, read, unread}
@@ -20,7 +20,7 @@ use Rattle.lower.proofs.Lanes.{lane-fits}
 use Rattle.terms.specs.declared.BinOp.TheVariants.{Add, Sub}
 
 -- a sum is no Extract
-sum-plain : (rounding : Bool) (op : BinOp) (a b c : Expr) (hi lo : ℕ) → extractCollapsing (plus_if rounding (Bv op a b) c) hi lo ≡ Extract (plus_if rounding (Bv op a b) c) hi lo
+sum-plain : (rounding : Bool) (op : BinOp) (a b c : Expr) (hi lo : ℕ) → extract_collapsing (plus_if rounding (Bv op a b) c) hi lo ≡ Extract (plus_if rounding (Bv op a b) c) hi lo
 sum-plain true op a b c hi lo = refl
 sum-plain false op a b c hi lo = refl
 
@@ -33,8 +33,8 @@ pub high_lane : {w0 w1 w2 w3 : List ℕ} {k : ℕ} {r1 r2 r3 : Built} {a b : Nod
     → MadeBv w0 k w1 r1 op a b
     → Builds1 w1 r1.count w2 r2 2 r1.node (n * 2) (n * 2) (λ v. plus_if rounding v (Const p (n * 2))) (r1.node.0 ∷ [])
     → MadeExtract w2 r2.count w3 r3 r2.node (n * 2 - 1) n
-    → Builds2 w0 k w3 r3 4 a (n * 2) b (n * 2) n (λ a b. highNarrowLane subtract rounding a b n) (a.0 ∷ b.0 ∷ [])
-unfolding Width.highNarrowLane
+    → Builds2 w0 k w3 r3 4 a (n * 2) b (n * 2) n (λ a b. high_narrow_lane subtract rounding a b n) (a.0 ∷ b.0 ∷ [])
+unfolding Width.high_narrow_lane
 high_lane {a = a} {b = b} {op = op} {p = p} {n = n} subtract rounding l m f g e1 e2 e3 =
     rw (← f, ← g)
     (record {
@@ -50,8 +50,8 @@ pub high-at : {w0 w1 w2 w3 : List ℕ} {k : ℕ} {r1 r2 r3 : Built} {first secon
     → j < lanes
     → MadeLane w0 k w1 r1 first (n * 2) j
     → MadeLane w1 r1.count w2 r2 second (n * 2) j
-    → Builds2 w2 r2.count w3 r3 4 r1.node (n * 2) r2.node (n * 2) n (λ a b. highNarrowLane subtract rounding a b n) (r1.node.0 ∷ r2.node.0 ∷ [])
-    → Lowers w0 k w3 r3 6 n unread (read first (n * 2 * lanes)) (read second (n * 2 * lanes)) (λ d a b. highAt subtract rounding n a b j) []
+    → Builds2 w2 r2.count w3 r3 4 r1.node (n * 2) r2.node (n * 2) n (λ a b. high_narrow_lane subtract rounding a b n) (r1.node.0 ∷ r2.node.0 ∷ [])
+    → Lowers w0 k w3 r3 6 n unread (read first (n * 2 * lanes)) (read second (n * 2 * lanes)) (λ d a b. high_at subtract rounding n a b j) []
 high-at {first = first} {second = second} {n = n} {lanes = lanes} {j = j} subtract rounding h e1 e2 e3 =
     let fits : n * 2 * j + n * 2 ≤ n * 2 * lanes = lane-fits (n * 2) j lanes h (omega arith) in
     record {

@@ -1,9 +1,9 @@
 // The Rust's neon/lower/width.rs: high_narrow_lane and high_narrow_lanes, the high halves of sums and differences.
 ghost use Rattle.std.specs.Prelude.{[], ◌∷◌, ◌+◌, ◌-◌, ◌*◌, ◌≤◌, ◌<◌};
 ghost use Rattle.pool.specs.Growth.{Room};
-ghost use Rattle.trees.specs.Simd.{concatLanes};
-ghost use Rattle.trees.specs.Trees.{highAt, highNarrowLane, highNarrowLanes};
-ghost use Rattle.lower.specs.Builds.{Builds2, Lowers, read, readIf, unread, withLower, Below};
+ghost use Rattle.trees.specs.Simd.{concat_lanes};
+ghost use Rattle.trees.specs.Trees.{high_at, high_narrow_lane, high_narrow_lanes};
+ghost use Rattle.lower.specs.Builds.{Builds2, Lowers, read, read_if, unread, with_lower, Below};
 
 use lower_kinds::operators::sum_op;
 use neon::Lane;
@@ -23,7 +23,7 @@ fn high_narrow_lane(
     requires room { Room pool.old count 4 }
     requires a_lt_count { (a.0 < count) × (b.0 < count) × (1 ≤ lane_bits) × (lane_bits ≤ 64) }
     ensures { Builds2 pool.old count pool.new result 4 a (lane_bits * 2) b (lane_bits * 2) lane_bits
-        (λ a b. highNarrowLane subtract rounding a b lane_bits) (a.0 ∷ b.0 ∷ []) }
+        (λ a b. high_narrow_lane subtract rounding a b lane_bits) (a.0 ∷ b.0 ∷ []) }
 {
     let source_bits = lane_bits * 2;
     let op = sum_op(subtract);
@@ -55,7 +55,7 @@ fn high_at(
     requires first_lt_count { (first.0 < count) × (second.0 < count) }
     requires le_lane_bits { (1 ≤ lane_bits) × (lane_bits ≤ 64) × (index.0 < lanes) × (lane_bits * 2 * lanes ≤ 128) }
     ensures { Lowers pool.old count pool.new result 6 lane_bits unread (read first (lane_bits * 2 * lanes))
-        (read second (lane_bits * 2 * lanes)) (λ d a b. highAt subtract rounding lane_bits a b index.0) [] }
+        (read second (lane_bits * 2 * lanes)) (λ d a b. high_at subtract rounding lane_bits a b index.0) [] }
 {
     let source_bits = lane_bits * 2;
     let a = lower_simd::extract_lane(pool, count, first, source_bits, index);
@@ -79,7 +79,7 @@ fn narrowed_lanes(
     requires le_lane_bits { (1 ≤ lane_bits) × (lane_bits ≤ 64) × (1 ≤ lanes) × (lane_bits * 2 * lanes ≤ 128) }
     ensures { Lowers pool.old count pool.new result (7 * lanes) (lane_bits * lanes) unread
         (read first (lane_bits * 2 * lanes)) (read second (lane_bits * 2 * lanes))
-        (λ d a b. concatLanes (lanes - 1) (highAt subtract rounding lane_bits a b)) [] }
+        (λ d a b. concat_lanes (lanes - 1) (high_at subtract rounding lane_bits a b)) [] }
 {
     let mut acc = high_at(
         pool,
@@ -125,11 +125,11 @@ pub fn high_narrow_lanes(
     lanes: u64,
 ) -> Built
     requires room { Room pool.old count (7 * lanes + 2) }
-    requires first_lt_count { (first.0 < count) × (second.0 < count) × Below (readIf upper d 0) count }
+    requires first_lt_count { (first.0 < count) × (second.0 < count) × Below (read_if upper d 0) count }
     requires le_lane_bits { (8 ≤ lane_bits) × (lane_bits ≤ 32) × (1 ≤ lanes) × (lane_bits * 2 * lanes ≤ 128) }
-    ensures { Lowers pool.old count pool.new result (7 * lanes + 2) (withLower upper (lane_bits * lanes))
-        (readIf upper d (lane_bits * lanes * 2)) (read first (lane_bits * 2 * lanes)) (read second (lane_bits * 2 * lanes))
-        (λ d a b. highNarrowLanes subtract rounding upper a b d lane_bits lanes) [] }
+    ensures { Lowers pool.old count pool.new result (7 * lanes + 2) (with_lower upper (lane_bits * lanes))
+        (read_if upper d (lane_bits * lanes * 2)) (read first (lane_bits * 2 * lanes)) (read second (lane_bits * 2 * lanes))
+        (λ d a b. high_narrow_lanes subtract rounding upper a b d lane_bits lanes) [] }
 {
     let new = narrowed_lanes(
         pool, count, subtract, rounding, first, second, lane_bits, lanes,

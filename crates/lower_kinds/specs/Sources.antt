@@ -21,13 +21,13 @@ AmountIn (Register rounding saturate) n = Unit {0}
 
 -- ---- saturating kinds
 
-abbrev pub usesSecond : SaturatingKind → Bool
-usesSecond (AddSub op to) = true
-usesSecond (Halving rounding) = true
-usesSecond (Narrow to) = false
-usesSecond (ShiftNarrow shift rounding to) = false
-usesSecond (DoublingMultiplyHigh rounding) = true
-usesSecond (Unary negate) = false
+abbrev pub uses_second : SaturatingKind → Bool
+uses_second (AddSub op to) = true
+uses_second (Halving rounding) = true
+uses_second (Narrow to) = false
+uses_second (ShiftNarrow shift rounding to) = false
+uses_second (DoublingMultiplyHigh rounding) = true
+uses_second (Unary negate) = false
 
 -- a lane of n bits: at most 32 if the lane is computed at 2n bits or more, and a shift of 1 to n
 abbrev pub KindIn : SaturatingKind → ℕ → Type 0

@@ -1,7 +1,7 @@
 // The sources that a kind uses: whether there is a second, and the bits of a source lane.
 ghost use Rattle.std.specs.Prelude.{◌≡◌, ◌≤◌};
-ghost use Rattle.trees.specs.Arith.{narrowing as narrowingTree, kindBits};
-ghost use Rattle.lower_kinds.specs.Sources.{is_register, usesSecond};
+ghost use Rattle.trees.specs.Arith.{narrowing as narrowingTree, kind_bits};
+ghost use Rattle.lower_kinds.specs.Sources.{is_register, uses_second};
 
 use trees::{SaturatingKind, ShiftKind};
 
@@ -27,7 +27,7 @@ pub fn is_register(kind: ShiftKind) -> bool
 
 // The saturating kinds of two sources.
 pub fn uses_second(kind: SaturatingKind) -> bool
-    ensures { result ≡ usesSecond kind }
+    ensures { result ≡ uses_second kind }
 {
     match kind {
         SaturatingKind::AddSub { op: _, to: _ } => true,
@@ -64,7 +64,7 @@ pub fn narrowing(kind: SaturatingKind) -> bool
 // The bits of a source's lane.
 pub fn source_bits(kind: SaturatingKind, lane_bits: u64) -> u64
     requires { lane_bits ≤ 64 }
-    ensures { result ≡ kindBits kind lane_bits }
+    ensures { result ≡ kind_bits kind lane_bits }
 {
     if narrowing(kind) {
         return lane_bits * 2;

@@ -1,7 +1,7 @@
 // The Rust's neon/lower/arith.rs: mixed_sign_add_lanes, the sums of a signed and an unsigned number.
 ghost use Rattle.std.specs.Prelude.{[], ◌*◌, ◌≤◌, ◌<◌};
 ghost use Rattle.pool.specs.Growth.{Room};
-ghost use Rattle.trees.specs.Trees.{mixedAt, mixedSignAddLanes};
+ghost use Rattle.trees.specs.Trees.{mixed_at, mixed_sign_add_lanes};
 ghost use Rattle.lower.specs.Builds.{Lowers, read, unread};
 
 use lower_kinds::operators::mixed_to;
@@ -25,7 +25,7 @@ fn mixed_at(
     requires first_lt_count { (first.0 < count) × (d.0 < count) }
     requires le_lane_bits { (1 ≤ lane_bits) × (lane_bits ≤ 64) × (index.0 < lanes) × (lane_bits * lanes ≤ 128) }
     ensures { Lowers pool.old count pool.new result 12 lane_bits (read d (lane_bits * lanes)) (read first (lane_bits * lanes))
-        unread (λ d a b. mixedAt destination_signed lane_bits d a index.0) [] }
+        unread (λ d a b. mixed_at destination_signed lane_bits d a index.0) [] }
 {
     let wide = lane_bits + 2;
     let previous = lower_simd::extract_lane(pool, count, d, lane_bits, index);
@@ -65,7 +65,7 @@ pub fn mixed_sign_add_lanes(
     requires first_lt_count { (first.0 < count) × (d.0 < count) }
     requires le_lane_bits { (1 ≤ lane_bits) × (lane_bits ≤ 64) × (1 ≤ lanes) × (lane_bits * lanes ≤ 128) }
     ensures { Lowers pool.old count pool.new result (13 * lanes) (lane_bits * lanes) (read d (lane_bits * lanes))
-        (read first (lane_bits * lanes)) unread (λ d a b. mixedSignAddLanes destination_signed a d lane_bits lanes) [] }
+        (read first (lane_bits * lanes)) unread (λ d a b. mixed_sign_add_lanes destination_signed a d lane_bits lanes) [] }
 {
     let mut acc = mixed_at(
         pool,

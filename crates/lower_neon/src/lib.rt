@@ -1,12 +1,12 @@
 // The Rust's neon/lower.rs: neon_value, which hands an operation to the function of its family; and the lowering of a legal form.
 ghost use Rattle.std.specs.Prelude.{◌≡◌, [], ◌*◌, ◌≤◌, ◌<◌};
-ghost use Rattle.neon.specs.Op.{opAt, arrangementAt, view};
-ghost use Rattle.neon.specs.Form.{hasSecond, readsD, firstBits, secondBits};
-ghost use Rattle.neon.specs.Refusal.{mostNodes, formNumber};
-ghost use Rattle.trees.specs.Trees.{neonValue, resultTree};
+ghost use Rattle.neon.specs.Op.{op_at, arrangement_at, view};
+ghost use Rattle.neon.specs.Form.{has_second, reads_d, first_bits, second_bits};
+ghost use Rattle.neon.specs.Refusal.{most_nodes, form_number};
+ghost use Rattle.trees.specs.Trees.{neon_value, result_tree};
 ghost use Rattle.pool.specs.Growth.{Room};
-ghost use Rattle.lower.specs.Builds.{Lowers, Below, read, readIf, withLower};
-ghost use Rattle.lower_neon.specs.Family.{readsSecond, readsOld, keepsLower, oldWidth, firstWidth, secondWidth, FamilyIn};
+ghost use Rattle.lower.specs.Builds.{Lowers, Below, read, read_if, with_lower};
+ghost use Rattle.lower_neon.specs.Family.{reads_second, reads_old, keeps_lower, old_width, first_width, second_width, FamilyIn};
 
 use lower_absolute_difference::absolute_difference_lanes;
 use lower_bitwise_unary::bitwise_unary_lanes;
@@ -28,15 +28,15 @@ pub fn neon_value(
     second: Node,
     d: Node,
 ) -> Built
-    requires room { Room pool.old count mostNodes }
-    requires first_lt_count { (first.0 < count) × Below (readIf (readsSecond shape.op) second 0) count × Below (readIf (readsOld shape.op) d 0) count }
+    requires room { Room pool.old count most_nodes }
+    requires first_lt_count { (first.0 < count) × Below (read_if (reads_second shape.op) second 0) count × Below (read_if (reads_old shape.op) d 0) count }
     requires bound { (8 ≤ shape.lane_bits) × (shape.lane_bits ≤ 64) × (1 ≤ shape.lanes) × (shape.lane_bits * shape.lanes ≤ 128)
         × FamilyIn shape.op shape.lane_bits shape.lanes shape.source_index.0 }
-    ensures { Lowers pool.old count pool.new result mostNodes (withLower (keepsLower shape.op) (shape.lane_bits * shape.lanes))
-        (readIf (readsOld shape.op) d (oldWidth shape.op shape.lane_bits shape.lanes))
-        (read first (firstWidth shape.op shape.lane_bits shape.lanes))
-        (readIf (readsSecond shape.op) second (secondWidth shape.op shape.lane_bits shape.lanes))
-        (λ d a b. neonValue shape d a b) [] }
+    ensures { Lowers pool.old count pool.new result most_nodes (with_lower (keeps_lower shape.op) (shape.lane_bits * shape.lanes))
+        (read_if (reads_old shape.op) d (old_width shape.op shape.lane_bits shape.lanes))
+        (read first (first_width shape.op shape.lane_bits shape.lanes))
+        (read_if (reads_second shape.op) second (second_width shape.op shape.lane_bits shape.lanes))
+        (λ d a b. neon_value shape d a b) [] }
 {
     let op = shape.op;
     let n = shape.lane_bits;
@@ -102,15 +102,15 @@ pub fn lower_form(
     first: Node,
     second: Node,
 ) -> Built
-    requires room { Room pool.old count mostNodes }
-    requires i_value { formNumber operation arrangement i 0 ≡ 0 }
-    requires first_lt_count { (first.0 < count) × Below (readIf (hasSecond (opAt operation)) second 0) count
-        × Below (readIf (readsD (opAt operation) (arrangementAt arrangement)) d 0) count }
-    ensures { Lowers pool.old count pool.new result mostNodes (view (arrangementAt arrangement))
-        (readIf (readsD (opAt operation) (arrangementAt arrangement)) d (view (arrangementAt arrangement)))
-        (read first (firstBits (opAt operation) (arrangementAt arrangement)))
-        (readIf (hasSecond (opAt operation)) second (secondBits (opAt operation) (arrangementAt arrangement)))
-        (resultTree (opAt operation) (arrangementAt arrangement) i) [] }
+    requires room { Room pool.old count most_nodes }
+    requires i_value { form_number operation arrangement i 0 ≡ 0 }
+    requires first_lt_count { (first.0 < count) × Below (read_if (has_second (op_at operation)) second 0) count
+        × Below (read_if (reads_d (op_at operation) (arrangement_at arrangement)) d 0) count }
+    ensures { Lowers pool.old count pool.new result most_nodes (view (arrangement_at arrangement))
+        (read_if (reads_d (op_at operation) (arrangement_at arrangement)) d (view (arrangement_at arrangement)))
+        (read first (first_bits (op_at operation) (arrangement_at arrangement)))
+        (read_if (has_second (op_at operation)) second (second_bits (op_at operation) (arrangement_at arrangement)))
+        (result_tree (op_at operation) (arrangement_at arrangement) i) [] }
 {
     let shape = lower_shape::shape(operation, arrangement, i);
     neon_value(pool, count, shape, first, second, d)

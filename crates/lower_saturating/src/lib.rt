@@ -1,11 +1,11 @@
 // The Rust's neon/lower/arith.rs: saturating_lanes, the saturating, halving and narrowing operations lane by lane.
 ghost use Rattle.std.specs.Prelude.{◌≡◌, true, [], ◌+◌, ◌-◌, ◌*◌, ◌≤◌, ◌<◌};
 ghost use Rattle.pool.specs.Growth.{Room};
-ghost use Rattle.trees.specs.Simd.{concatLanes};
-ghost use Rattle.trees.specs.Arith.{kindBits};
-ghost use Rattle.trees.specs.Trees.{saturatingAt, saturatingLanes};
-ghost use Rattle.lower.specs.Builds.{Lowers, read, readIf, unread, Below, withLower};
-ghost use Rattle.lower_kinds.specs.Sources.{usesSecond, KindIn};
+ghost use Rattle.trees.specs.Simd.{concat_lanes};
+ghost use Rattle.trees.specs.Arith.{kind_bits};
+ghost use Rattle.trees.specs.Trees.{saturating_at, saturating_lanes};
+ghost use Rattle.lower.specs.Builds.{Lowers, read, read_if, unread, Below, with_lower};
+ghost use Rattle.lower_kinds.specs.Sources.{uses_second, KindIn};
 
 use lower_kinds::sources::{source_bits, uses_second};
 use neon::Lane;
@@ -25,10 +25,10 @@ fn saturating_at(
     index: Lane,
 ) -> Built
     requires room { Room pool.old count 18 }
-    requires first_lt_count { (first.0 < count) × Below (readIf (usesSecond kind) second 0) count }
-    requires le_lane_bits { (1 ≤ lane_bits) × (lane_bits ≤ 64) × KindIn kind lane_bits × (index.0 < lanes) × (kindBits kind lane_bits * lanes ≤ 128) }
-    ensures { Lowers pool.old count pool.new result 18 lane_bits unread (read first (kindBits kind lane_bits * lanes))
-        (readIf (usesSecond kind) second (kindBits kind lane_bits * lanes)) (λ d a b. saturatingAt kind signed_sources lane_bits a b index.0) [] }
+    requires first_lt_count { (first.0 < count) × Below (read_if (uses_second kind) second 0) count }
+    requires le_lane_bits { (1 ≤ lane_bits) × (lane_bits ≤ 64) × KindIn kind lane_bits × (index.0 < lanes) × (kind_bits kind lane_bits * lanes ≤ 128) }
+    ensures { Lowers pool.old count pool.new result 18 lane_bits unread (read first (kind_bits kind lane_bits * lanes))
+        (read_if (uses_second kind) second (kind_bits kind lane_bits * lanes)) (λ d a b. saturating_at kind signed_sources lane_bits a b index.0) [] }
 {
     let bits = source_bits(kind, lane_bits);
     let a = lower_simd::extract_lane(pool, count, first, bits, index);
@@ -59,10 +59,10 @@ fn made_lanes(
     lanes: u64,
 ) -> Built
     requires room { Room pool.old count (19 * lanes) }
-    requires first_lt_count { (first.0 < count) × Below (readIf (usesSecond kind) second 0) count }
-    requires le_lane_bits { (1 ≤ lane_bits) × (lane_bits ≤ 64) × KindIn kind lane_bits × (1 ≤ lanes) × (kindBits kind lane_bits * lanes ≤ 128) }
-    ensures { Lowers pool.old count pool.new result (19 * lanes) (lane_bits * lanes) unread (read first (kindBits kind lane_bits * lanes))
-        (readIf (usesSecond kind) second (kindBits kind lane_bits * lanes)) (λ d a b. concatLanes (lanes - 1) (saturatingAt kind signed_sources lane_bits a b)) [] }
+    requires first_lt_count { (first.0 < count) × Below (read_if (uses_second kind) second 0) count }
+    requires le_lane_bits { (1 ≤ lane_bits) × (lane_bits ≤ 64) × KindIn kind lane_bits × (1 ≤ lanes) × (kind_bits kind lane_bits * lanes ≤ 128) }
+    ensures { Lowers pool.old count pool.new result (19 * lanes) (lane_bits * lanes) unread (read first (kind_bits kind lane_bits * lanes))
+        (read_if (uses_second kind) second (kind_bits kind lane_bits * lanes)) (λ d a b. concat_lanes (lanes - 1) (saturating_at kind signed_sources lane_bits a b)) [] }
 {
     let mut acc = saturating_at(
         pool,
@@ -108,12 +108,12 @@ pub fn saturating_lanes(
     lanes: u64,
 ) -> Built
     requires room { Room pool.old count (19 * lanes + 2) }
-    requires first_lt_count { (first.0 < count) × Below (readIf (usesSecond kind) second 0) count × Below (readIf upper d 0) count }
-    requires le_lane_bits { (1 ≤ lane_bits) × (lane_bits ≤ 64) × KindIn kind lane_bits × (1 ≤ lanes) × (kindBits kind lane_bits * lanes ≤ 128)
+    requires first_lt_count { (first.0 < count) × Below (read_if (uses_second kind) second 0) count × Below (read_if upper d 0) count }
+    requires le_lane_bits { (1 ≤ lane_bits) × (lane_bits ≤ 64) × KindIn kind lane_bits × (1 ≤ lanes) × (kind_bits kind lane_bits * lanes ≤ 128)
         × (upper ≡ true → lane_bits * lanes ≤ 64) }
-    ensures { Lowers pool.old count pool.new result (19 * lanes + 2) (withLower upper (lane_bits * lanes))
-        (readIf upper d (lane_bits * lanes * 2)) (read first (kindBits kind lane_bits * lanes))
-        (readIf (usesSecond kind) second (kindBits kind lane_bits * lanes)) (λ d a b. saturatingLanes kind signed_sources upper a b d lane_bits lanes) [] }
+    ensures { Lowers pool.old count pool.new result (19 * lanes + 2) (with_lower upper (lane_bits * lanes))
+        (read_if upper d (lane_bits * lanes * 2)) (read first (kind_bits kind lane_bits * lanes))
+        (read_if (uses_second kind) second (kind_bits kind lane_bits * lanes)) (λ d a b. saturating_lanes kind signed_sources upper a b d lane_bits lanes) [] }
 {
     let new = made_lanes(
         pool,

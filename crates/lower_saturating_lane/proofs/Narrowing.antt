@@ -14,20 +14,20 @@ use Rattle.trees.specs.declared.Saturate.{Saturate}
 use Rattle.trees.specs.declared.Saturate.TheVariants.{Never, Into}
 use Rattle.trees.specs.declared.SaturatingKind.{SaturatingKind}
 use Rattle.trees.specs.declared.SaturatingKind.TheVariants.{AddSub, Halving, Narrow, ShiftNarrow, DoublingMultiplyHigh, Unary}
-use Rattle.trees.specs.Arith.{exactLane, exactBits, kindTo, kindBits}
-use Rattle.trees.specs.Trees.{clamp, saturatingLane}
+use Rattle.trees.specs.Arith.{exact_lane, exact_bits, kind_to, kind_bits}
+use Rattle.trees.specs.Trees.{clamp, saturating_lane}
 use Rattle.trees.specs.Arith as Arith
 use Rattle.lower.specs.Builds.{Builds1, BuildsIf}
-use Rattle.lower_kinds.specs.Sources.{usesSecond}
+use Rattle.lower_kinds.specs.Sources.{uses_second}
 use Rattle.lower_exact.proofs.Exactly.{then_if, same-tree}
-use Rattle.lower_saturating_lane.specs.Narrow.{narrowedPlain}
+use Rattle.lower_saturating_lane.specs.Narrow.{narrowed_plain}
 
 pub narrowed-never : {w0 w1 : List ℕ} {k : ℕ} {r : Built} {to : Saturate} {value : Node} {wide n : ℕ}
     → 1 ≤ n
     → n ≤ wide
     → to ≡ Never
     → MadeExtract w0 k w1 r value (n - 1) 0
-    → Builds1 w0 k w1 r 7 value wide n (λ v. narrowedPlain v wide n to) (value.0 ∷ [])
+    → Builds1 w0 k w1 r 7 value wide n (λ v. narrowed_plain v wide n to) (value.0 ∷ [])
 narrowed-never {value = value} {wide = wide} l m q e1 =
     rw q
     (record {
@@ -39,13 +39,13 @@ narrowed-never {value = value} {wide = wide} l m q e1 =
 
 pub narrowed-into : {w0 w1 : List ℕ} {k : ℕ} {r : Built} {to : Saturate} {target : SaturateTo} {value : Node} {wide n : ℕ} → to ≡ Into target
     → Builds1 w0 k w1 r 7 value wide n (λ v. clamp v wide n target) (value.0 ∷ [])
-    → Builds1 w0 k w1 r 7 value wide n (λ v. narrowedPlain v wide n to) (value.0 ∷ [])
+    → Builds1 w0 k w1 r 7 value wide n (λ v. narrowed_plain v wide n to) (value.0 ∷ [])
 narrowed-into q e = rw q e
 
 -- a lane is its exact value, narrowed; the value that is cut without a clamp is a shift, which is no Extract
 lane_of : (kind : SaturatingKind) (n : ℕ) (signed : Bool) (a b : Expr)
-    → saturatingLane kind a b n signed ≡ narrowedPlain (exactLane kind a b n signed) (exactBits kind n) n (kindTo kind)
-unfolding Arith.saturatingLane
+    → saturating_lane kind a b n signed ≡ narrowed_plain (exact_lane kind a b n signed) (exact_bits kind n) n (kind_to kind)
+unfolding Arith.saturating_lane
 lane_of (AddSub op to) n signed a b = refl
 lane_of (Halving rounding) n signed a b = refl
 lane_of (Narrow to) n signed a b = refl
@@ -55,9 +55,9 @@ lane_of (Unary negate) n signed a b = refl
 lane_of (DoublingMultiplyHigh rounding) n signed a b = refl
 
 pub saturating : {w0 w1 w2 : List ℕ} {k : ℕ} {r1 r2 : Built} (kind : SaturatingKind) {a b : Node} (n : ℕ) (signed : Bool) {wide : ℕ} {to : Saturate}
-    → wide ≡ exactBits kind n
-    → to ≡ kindTo kind
-    → BuildsIf w0 k w1 r1 9 a (kindBits kind n) (usesSecond kind) b (kindBits kind n) (exactBits kind n) (λ a b. exactLane kind a b n signed)
-    → Builds1 w1 r1.count w2 r2 7 r1.node wide n (λ v. narrowedPlain v wide n to) (r1.node.0 ∷ [])
-    → BuildsIf w0 k w2 r2 16 a (kindBits kind n) (usesSecond kind) b (kindBits kind n) n (λ a b. saturatingLane kind a b n signed)
-saturating kind n signed p q e1 e2 = same-tree (lane_of kind n signed) (then_if (usesSecond kind) e1 (rw (p, q) at e2))
+    → wide ≡ exact_bits kind n
+    → to ≡ kind_to kind
+    → BuildsIf w0 k w1 r1 9 a (kind_bits kind n) (uses_second kind) b (kind_bits kind n) (exact_bits kind n) (λ a b. exact_lane kind a b n signed)
+    → Builds1 w1 r1.count w2 r2 7 r1.node wide n (λ v. narrowed_plain v wide n to) (r1.node.0 ∷ [])
+    → BuildsIf w0 k w2 r2 16 a (kind_bits kind n) (uses_second kind) b (kind_bits kind n) n (λ a b. saturating_lane kind a b n signed)
+saturating kind n signed p q e1 e2 = same-tree (lane_of kind n signed) (then_if (uses_second kind) e1 (rw (p, q) at e2))

@@ -5,6 +5,6 @@ use Rattle.trees.specs.declared.Saturate.{Saturate}
 use Rattle.trees.specs.declared.Saturate.TheVariants.{Never, Into}
 use Rattle.trees.specs.Trees.{clamp}
 
-abbrev pub narrowedPlain : (value : Expr) (wide n : ℕ) → Saturate → Expr
-narrowedPlain value wide n Never = Extract value (n - 1) 0
-narrowedPlain value wide n (Into to) = clamp value wide n to
+abbrev pub narrowed_plain : (value : Expr) (wide n : ℕ) → Saturate → Expr
+narrowed_plain value wide n Never = Extract value (n - 1) 0
+narrowed_plain value wide n (Into to) = clamp value wide n to

@@ -2,11 +2,11 @@
 // a width where its result cannot overflow (lower_exact), and brings it down.
 ghost use Rattle.std.specs.Prelude.{[], ◌∷◌, ◌≤◌, ◌<◌};
 ghost use Rattle.pool.specs.Growth.{Room};
-ghost use Rattle.trees.specs.Arith.{kindBits};
-ghost use Rattle.trees.specs.Trees.{saturatingLane};
+ghost use Rattle.trees.specs.Arith.{kind_bits};
+ghost use Rattle.trees.specs.Trees.{saturating_lane};
 ghost use Rattle.lower.specs.Builds.{Builds1, BuildsIf};
-ghost use Rattle.lower_kinds.specs.Sources.{usesSecond, KindIn};
-ghost use Rattle.lower_saturating_lane.specs.Narrow.{narrowedPlain};
+ghost use Rattle.lower_kinds.specs.Sources.{uses_second, KindIn};
+ghost use Rattle.lower_saturating_lane.specs.Narrow.{narrowed_plain};
 
 use lower_exact::{exact_bits, exact_lane, kind_to};
 use pool::{Bit, Built, Node};
@@ -25,7 +25,7 @@ fn narrowed(
     requires room { Room pool.old count 7 }
     requires value_lt_count { (value.0 < count) × (1 ≤ lane_bits) × (lane_bits ≤ 64) × (lane_bits ≤ wide) × (wide ≤ 128) }
     ensures { Builds1 pool.old count pool.new result 7 value wide lane_bits
-        (λ v. narrowedPlain v wide lane_bits to) (value.0 ∷ []) }
+        (λ v. narrowed_plain v wide lane_bits to) (value.0 ∷ []) }
 {
     match to {
         Saturate::Never => pool_nodes::extract(pool, count, value, Bit(lane_bits - 1), Bit(0)),
@@ -45,8 +45,8 @@ pub fn saturating_lane(
 ) -> Built
     requires room { Room pool.old count 16 }
     requires a_lt_count { (a.0 < count) × (b.0 < count) × (1 ≤ lane_bits) × KindIn kind lane_bits }
-    ensures { BuildsIf pool.old count pool.new result 16 a (kindBits kind lane_bits) (usesSecond kind) b (kindBits kind lane_bits)
-        lane_bits (λ a b. saturatingLane kind a b lane_bits signed_sources) }
+    ensures { BuildsIf pool.old count pool.new result 16 a (kind_bits kind lane_bits) (uses_second kind) b (kind_bits kind lane_bits)
+        lane_bits (λ a b. saturating_lane kind a b lane_bits signed_sources) }
 {
     let wide = exact_bits(kind, lane_bits);
     let to = kind_to(kind);

@@ -6,8 +6,8 @@ use native.Mathlib.Omega.{arith}
 use lib.Dec.{leb}
 use borrow.Author.Tests.{leb-true}
 use Rattle.facts.proofs.Tests.{and_both}
-use Rattle.neon.specs.Op.{Op, Arrangement, laneBits, full}
-use Rattle.neon.specs.Form.{Immediate, Class, Reads, Form, Same, Narrow, Long, None, Left, Right, N, NM, DN, DNM, row, form, hasForm, least, most, isElement}
+use Rattle.neon.specs.Op.{Op, Arrangement, bits_of_lane, full}
+use Rattle.neon.specs.Form.{Immediate, Class, Reads, Form, Same, Narrow, Long, None, Left, Right, N, NM, DN, DNM, row, form, has_form, least, most, is_element}
 use Rattle.neon.proofs.Geometry.{sized}
 use Rattle.terms.specs.declared.BinOp.{BinOp}
 use Rattle.trees.specs.declared.BitwiseUnary.{BitwiseUnary}
@@ -17,39 +17,39 @@ use Rattle.trees.specs.declared.Saturate.{Saturate}
 use Rattle.trees.specs.declared.SaturateTo.{SaturateTo}
 use Rattle.trees.specs.declared.SaturatingKind.{SaturatingKind}
 use Rattle.trees.specs.declared.ShiftKind.{ShiftKind}
-use Rattle.trees.specs.Neon.{neonOp}
+use Rattle.trees.specs.Neon.{neon_op}
 
 -- d is read if the product is combined with it
-abbrev pub longReads : Combine → Reads
-longReads Combine.Nothing = NM
-longReads (Combine.With op) = DNM
+abbrev pub long_reads : Combine → Reads
+long_reads Combine.Nothing = NM
+long_reads (Combine.With op) = DNM
 
 -- A family at lanes of an arrangement v and an immediate i, with the form of its operations. Of the form's class only the bound on the
 -- lane's bits is kept, and that `long` needs a full view.
 pub data Family (v : Arrangement) (i : ℕ) : NeonOp → Form → Type 0 where
-  shift-left : {a : Saturate} {s : Bool} {c : Class} → i < laneBits v → Family v i (NeonOp.Shift (ShiftKind.LeftImmediate i a) s) (row Same Left c N)
-  shift-right : {r s : Bool} {c : Class} → 1 ≤ i → i ≤ laneBits v → Family v i (NeonOp.Shift (ShiftKind.RightImmediate i r) s) (row Same Right c N)
+  shift-left : {a : Saturate} {s : Bool} {c : Class} → i < bits_of_lane v → Family v i (NeonOp.Shift (ShiftKind.LeftImmediate i a) s) (row Same Left c N)
+  shift-right : {r s : Bool} {c : Class} → 1 ≤ i → i ≤ bits_of_lane v → Family v i (NeonOp.Shift (ShiftKind.RightImmediate i r) s) (row Same Right c N)
   shift-register : {r a s : Bool} {c : Class} → Family v i (NeonOp.Shift (ShiftKind.Register r a) s) (row Same None c NM)
-  insert-left : {c : Class} → i < laneBits v → Family v i (NeonOp.ShiftInsert true i) (row Same Left c DN)
-  insert-right : {c : Class} → 1 ≤ i → i ≤ laneBits v → Family v i (NeonOp.ShiftInsert false i) (row Same Right c DN)
+  insert-left : {c : Class} → i < bits_of_lane v → Family v i (NeonOp.ShiftInsert true i) (row Same Left c DN)
+  insert-right : {c : Class} → 1 ≤ i → i ≤ bits_of_lane v → Family v i (NeonOp.ShiftInsert false i) (row Same Right c DN)
   add-sub : {b : BinOp} {t : SaturateTo} {s : Bool} {c : Class} → Family v i (NeonOp.Saturating (SaturatingKind.AddSub b t) s false) (row Same None c NM)
   halving : {r s : Bool} {c : Class} → Family v i (NeonOp.Saturating (SaturatingKind.Halving r) s false) (row Same None c NM)
-  narrow : {t : SaturateTo} {s : Bool} {c : Class} → laneBits v ≤ 32 → Family v i (NeonOp.Saturating (SaturatingKind.Narrow t) s (full v)) (row Narrow None c N)
-  shift-narrow : {r : Bool} {a : Saturate} {s : Bool} {c : Class} → laneBits v ≤ 32 → 1 ≤ i → i ≤ laneBits v
+  narrow : {t : SaturateTo} {s : Bool} {c : Class} → bits_of_lane v ≤ 32 → Family v i (NeonOp.Saturating (SaturatingKind.Narrow t) s (full v)) (row Narrow None c N)
+  shift-narrow : {r : Bool} {a : Saturate} {s : Bool} {c : Class} → bits_of_lane v ≤ 32 → 1 ≤ i → i ≤ bits_of_lane v
       → Family v i (NeonOp.Saturating (SaturatingKind.ShiftNarrow i r a) s (full v)) (row Narrow Right c N)
   unary : {g : Bool} {c : Class} → Family v i (NeonOp.Saturating (SaturatingKind.Unary g) true false) (row Same None c N)
-  multiply-high : {r : Bool} {c : Class} → laneBits v ≤ 32 → Family v i (NeonOp.Saturating (SaturatingKind.DoublingMultiplyHigh r) true false) (row Same None c NM)
-  long : (x : Combine) {u : Bool} {e : Immediate} {c : Class} → full v ≡ true → i ≤ 256 / laneBits v - 1
-      → Family v i (NeonOp.DoublingLong x u (isElement e)) (row (Long u) e c (longReads x))
+  multiply-high : {r : Bool} {c : Class} → bits_of_lane v ≤ 32 → Family v i (NeonOp.Saturating (SaturatingKind.DoublingMultiplyHigh r) true false) (row Same None c NM)
+  long : (x : Combine) {u : Bool} {e : Immediate} {c : Class} → full v ≡ true → i ≤ 256 / bits_of_lane v - 1
+      → Family v i (NeonOp.DoublingLong x u (is_element e)) (row (Long u) e c (long_reads x))
   mixed-sign : {s : Bool} {c : Class} → Family v i (NeonOp.MixedSignAdd s) (row Same None c DN)
   difference : (accumulate : Bool) {s : Bool} {c : Class} → Family v i (NeonOp.AbsoluteDifference s accumulate) (row Same None c (cond accumulate DNM NM))
   bitwise : {k : BitwiseUnary} {c : Class} → Family v i (NeonOp.BitwiseUnary k) (row Same None c N)
-  high-narrow : {d r : Bool} {c : Class} → laneBits v ≤ 32 → Family v i (NeonOp.HighNarrow d r (full v)) (row Narrow None c NM)
+  high-narrow : {d r : Bool} {c : Class} → bits_of_lane v ≤ 32 → Family v i (NeonOp.HighNarrow d r (full v)) (row Narrow None c NM)
 
-all : (v : Arrangement) → (leb 32 (laneBits v) && full v) ≡ true → full v ≡ true
-all v h = (and_both (leb 32 (laneBits v)) _ h).1
+all : (v : Arrangement) → (leb 32 (bits_of_lane v) && full v) ≡ true → full v ≡ true
+all v h = (and_both (leb 32 (bits_of_lane v)) _ h).1
 
-pub family : (o : Op) (v : Arrangement) (i : ℕ) → hasForm o v ≡ true → least o ≤ i → i ≤ most o (laneBits v) → Family v i (neonOp o i (full v)) (form o)
+pub family : (o : Op) (v : Arrangement) (i : ℕ) → has_form o v ≡ true → least o ≤ i → i ≤ most o (bits_of_lane v) → Family v i (neon_op o i (full v)) (form o)
 family Op.SHL v i h l m = shift-left (omega (arith, m, (sized v).eight))
 family Op.SQSHLI v i h l m = shift-left (omega (arith, m, (sized v).eight))
 family Op.UQSHLI v i h l m = shift-left (omega (arith, m, (sized v).eight))
@@ -89,8 +89,8 @@ family Op.SQSHRUN v i h l m = shift-narrow (leb-true _ _ h) l m
 family Op.SQRSHRUN v i h l m = shift-narrow (leb-true _ _ h) l m
 family Op.SQABS v i h l m = unary
 family Op.SQNEG v i h l m = unary
-family Op.SQDMULH v i h l m = multiply-high (leb-true _ _ (and_both (leb 16 (laneBits v)) _ h).1)
-family Op.SQRDMULH v i h l m = multiply-high (leb-true _ _ (and_both (leb 16 (laneBits v)) _ h).1)
+family Op.SQDMULH v i h l m = multiply-high (leb-true _ _ (and_both (leb 16 (bits_of_lane v)) _ h).1)
+family Op.SQRDMULH v i h l m = multiply-high (leb-true _ _ (and_both (leb 16 (bits_of_lane v)) _ h).1)
 family Op.SQDMULL v i h l m = long _ (all v h) (omega (arith, m))
 family Op.SQDMLAL v i h l m = long _ (all v h) (omega (arith, m))
 family Op.SQDMLSL v i h l m = long _ (all v h) (omega (arith, m))

@@ -1,18 +1,18 @@
 // The Rust's neon/arith.rs: the resolvers of an operation's arguments, here by the operation's number (document 01, "Forms").
 ghost use Rattle.std.specs.Prelude.{◌≡◌, Bool, true, false, ◌⊎◌, ℕ, ◌≤◌};
-ghost use Rattle.neon.specs.Op.{opAt};
+ghost use Rattle.neon.specs.Op.{op_at};
 ghost use Rattle.trees.specs.declared.NeonOp.{NeonOp};
 ghost use Rattle.trees.specs.declared.Saturate.{Saturate};
 ghost use Rattle.trees.specs.declared.ShiftKind.{ShiftKind};
 ghost use Rattle.trees.specs.declared.SaturatingKind.{SaturatingKind};
-ghost use Rattle.trees.specs.Neon.{neonOp};
+ghost use Rattle.trees.specs.Neon.{neon_op};
 
 use terms::BinOp;
 use trees::{BitwiseUnary, Combine, NeonOp, Saturate, SaturateTo, SaturatingKind, ShiftKind};
 
 pub fn bitwise_unary_shape(operation: u64) -> NeonOp
     requires { (60 ≤ operation) × (operation ≤ 63) }
-    ensures { (i : ℕ) (upper : Bool) → result ≡ neonOp (opAt operation) i upper }
+    ensures { (i : ℕ) (upper : Bool) → result ≡ neon_op (op_at operation) i upper }
 {
     match operation {
         60 => NeonOp::BitwiseUnary(BitwiseUnary::PopulationCount), // CNT
@@ -30,7 +30,7 @@ fn integer(signed: bool, accumulate: bool) -> NeonOp
 
 pub fn absolute_difference_shape(operation: u64) -> NeonOp
     requires { (56 ≤ operation) × (operation ≤ 59) }
-    ensures { (i : ℕ) (upper : Bool) → result ≡ neonOp (opAt operation) i upper }
+    ensures { (i : ℕ) (upper : Bool) → result ≡ neon_op (op_at operation) i upper }
 {
     match operation {
         56 => integer(true, false), // SABD
@@ -64,7 +64,7 @@ fn register(rounding: bool, saturate: bool, signed: bool) -> NeonOp
 // SQSHL and UQSHL have a form by an immediate and one by a register.
 pub fn shift_shape(operation: u64, i: u64) -> NeonOp
     requires { (1 ≤ operation) × (operation ≤ 16) }
-    ensures { (upper : Bool) → result ≡ neonOp (opAt operation) i upper }
+    ensures { (upper : Bool) → result ≡ neon_op (op_at operation) i upper }
 {
     match operation {
         1 => left(i, Saturate::Never, false), // SHL
@@ -88,7 +88,7 @@ pub fn shift_shape(operation: u64, i: u64) -> NeonOp
 
 pub fn shift_insert_shape(operation: u64, i: u64) -> NeonOp
     requires { (17 ≤ operation) × (operation ≤ 18) }
-    ensures { (upper : Bool) → result ≡ neonOp (opAt operation) i upper }
+    ensures { (upper : Bool) → result ≡ neon_op (op_at operation) i upper }
 {
     let left = match operation {
         17 => true, // SLI
@@ -138,7 +138,7 @@ fn multiply_high(rounding: bool) -> NeonOp
 // UQSUB can go below 0, so its range is that of a signed value.
 fn saturating_same_width(operation: u64) -> NeonOp
     requires { (19 ≤ operation) × (operation ≤ 41) × ((operation ≤ 26) ⊎ (38 ≤ operation)) }
-    ensures { (i : ℕ) (upper : Bool) → result ≡ neonOp (opAt operation) i upper }
+    ensures { (i : ℕ) (upper : Bool) → result ≡ neon_op (op_at operation) i upper }
 {
     match operation {
         19 => add_sub(BinOp::Add, SaturateTo::Signed, true), // SQADD
@@ -181,7 +181,7 @@ fn clamped(shift: u64, rounding: bool, to: SaturateTo, signed: bool, upper: bool
 
 fn saturating_narrowing(operation: u64, i: u64, upper: bool) -> NeonOp
     requires { (27 ≤ operation) × (operation ≤ 37) }
-    ensures { result ≡ neonOp (opAt operation) i upper }
+    ensures { result ≡ neon_op (op_at operation) i upper }
 {
     match operation {
         27 => narrow(SaturateTo::Signed, true, upper), // SQXTN
@@ -200,7 +200,7 @@ fn saturating_narrowing(operation: u64, i: u64, upper: bool) -> NeonOp
 
 pub fn saturating_shape(operation: u64, i: u64, upper: bool) -> NeonOp
     requires { (19 ≤ operation) × (operation ≤ 41) }
-    ensures { result ≡ neonOp (opAt operation) i upper }
+    ensures { result ≡ neon_op (op_at operation) i upper }
 {
     if operation < 27 {
         return saturating_same_width(operation);
@@ -213,7 +213,7 @@ pub fn saturating_shape(operation: u64, i: u64, upper: bool) -> NeonOp
 
 pub fn mixed_sign_add_shape(operation: u64) -> NeonOp
     requires { (54 ≤ operation) × (operation ≤ 55) }
-    ensures { (i : ℕ) (upper : Bool) → result ≡ neonOp (opAt operation) i upper }
+    ensures { (i : ℕ) (upper : Bool) → result ≡ neon_op (op_at operation) i upper }
 {
     let destination_signed = match operation {
         54 => true, // SUQADD
@@ -235,7 +235,7 @@ fn long(combine: Combine, upper: bool, by_element: bool) -> NeonOp
 // From SQDMULL by an element on, the second source is one element.
 pub fn doubling_long_shape(operation: u64) -> NeonOp
     requires { (42 ≤ operation) × (operation ≤ 53) }
-    ensures { (i : ℕ) (upper : Bool) → result ≡ neonOp (opAt operation) i upper }
+    ensures { (i : ℕ) (upper : Bool) → result ≡ neon_op (op_at operation) i upper }
 {
     match operation {
         42 => long(Combine::Nothing, false, false), // SQDMULL

@@ -3,9 +3,9 @@ pub mod arith;
 pub mod width;
 
 ghost use Rattle.std.specs.Prelude.{◌≡◌, ◌≤◌};
-ghost use Rattle.neon.specs.Op.{opAt, arrangementAt, full};
-ghost use Rattle.neon.specs.Form.{form, is_narrow, madeBits};
-ghost use Rattle.trees.specs.Neon.{neonOp, shape_of};
+ghost use Rattle.neon.specs.Op.{op_at, arrangement_at, full};
+ghost use Rattle.neon.specs.Form.{form, is_narrow, made_bits};
+ghost use Rattle.trees.specs.Neon.{neon_op, shape_of};
 
 use neon::Lane;
 use trees::{NeonOp, NeonShape};
@@ -13,7 +13,7 @@ use trees::{NeonOp, NeonShape};
 // Whether source lanes have twice the result's bits.
 fn narrows(operation: u64) -> bool
     requires { operation ≤ 67 }
-    ensures { result ≡ is_narrow (form (opAt operation)).lanes }
+    ensures { result ≡ is_narrow (form (op_at operation)).lanes }
 {
     if operation < 27 {
         return false;
@@ -27,7 +27,7 @@ fn narrows(operation: u64) -> bool
 // The bits that are made: lanes that narrow fill one half of the view.
 fn made_bits(operation: u64, full: bool) -> u64
     requires { operation ≤ 67 }
-    ensures { result ≡ madeBits (form (opAt operation)).lanes full }
+    ensures { result ≡ made_bits (form (op_at operation)).lanes full }
 {
     if narrows(operation) {
         return 64;
@@ -38,7 +38,7 @@ fn made_bits(operation: u64, full: bool) -> u64
 // The Rust asks its resolvers one after the other; here an operation's number says whose it is.
 fn neon_op(operation: u64, i: u64, upper: bool) -> NeonOp
     requires { (1 ≤ operation) × (operation ≤ 67) }
-    ensures { result ≡ neonOp (opAt operation) i upper }
+    ensures { result ≡ neon_op (op_at operation) i upper }
 {
     if operation < 17 {
         return arith::shift_shape(operation, i);
@@ -66,7 +66,7 @@ fn neon_op(operation: u64, i: u64, upper: bool) -> NeonOp
 
 pub fn shape(operation: u64, arrangement: u64, i: u64) -> NeonShape
     requires { (1 ≤ operation) × (operation ≤ 67) × (arrangement ≤ 6) }
-    ensures { result ≡ shape_of (opAt operation) (arrangementAt arrangement) i }
+    ensures { result ≡ shape_of (op_at operation) (arrangement_at arrangement) i }
 {
     let full = neon_form::is_full(arrangement);
     let op = neon_op(operation, i, full);

@@ -1,8 +1,8 @@
 // The Rust's neon/lower/arith.rs: shift_lanes, the shifts lane by lane.
 ghost use Rattle.std.specs.Prelude.{[], ◌+◌, ◌*◌, ◌≤◌, ◌<◌};
 ghost use Rattle.pool.specs.Growth.{Room};
-ghost use Rattle.trees.specs.Trees.{shiftAt, shift_lanes};
-ghost use Rattle.lower.specs.Builds.{Lowers, read, readIf, unread, Below};
+ghost use Rattle.trees.specs.Trees.{shift_at, shift_lanes};
+ghost use Rattle.lower.specs.Builds.{Lowers, read, read_if, unread, Below};
 ghost use Rattle.lower_kinds.specs.Sources.{is_register, AmountIn};
 ghost use Rattle.lower_shift.specs.Lanes.{MadeAmount};
 
@@ -46,10 +46,10 @@ fn shift_at(
     index: Lane,
 ) -> Built
     requires room { Room pool.old count 24 }
-    requires first_lt_count { (first.0 < count) × Below (readIf (is_register kind) second 0) count }
+    requires first_lt_count { (first.0 < count) × Below (read_if (is_register kind) second 0) count }
     requires le_lane_bits { (8 ≤ lane_bits) × (lane_bits ≤ 64) × AmountIn kind lane_bits × (index.0 < lanes) × (lane_bits * lanes ≤ 128) }
     ensures { Lowers pool.old count pool.new result 24 lane_bits unread (read first (lane_bits * lanes))
-        (readIf (is_register kind) second (lane_bits * lanes)) (λ d a b. shiftAt kind signed lane_bits a b index.0) [] }
+        (read_if (is_register kind) second (lane_bits * lanes)) (λ d a b. shift_at kind signed lane_bits a b index.0) [] }
 {
     let value = lower_simd::extract_lane(pool, count, first, lane_bits, index);
     if is_register(kind) {
@@ -87,10 +87,10 @@ pub fn shift_lanes(
     lanes: u64,
 ) -> Built
     requires room { Room pool.old count (25 * lanes) }
-    requires first_lt_count { (first.0 < count) × Below (readIf (is_register kind) second 0) count }
+    requires first_lt_count { (first.0 < count) × Below (read_if (is_register kind) second 0) count }
     requires le_lane_bits { (8 ≤ lane_bits) × (lane_bits ≤ 64) × AmountIn kind lane_bits × (1 ≤ lanes) × (lane_bits * lanes ≤ 128) }
     ensures { Lowers pool.old count pool.new result (25 * lanes) (lane_bits * lanes) unread (read first (lane_bits * lanes))
-        (readIf (is_register kind) second (lane_bits * lanes)) (λ d a b. shift_lanes kind signed a b lane_bits lanes) [] }
+        (read_if (is_register kind) second (lane_bits * lanes)) (λ d a b. shift_lanes kind signed a b lane_bits lanes) [] }
 {
     let mut acc = shift_at(
         pool,

@@ -12,9 +12,9 @@ use Rattle.pool.specs.declared.Node.{Node}
 use Rattle.pool.specs.declared.Built.{Built}
 use Rattle.pool_nodes.specs.Builders.{MadeConst, MadeBv}
 use Rattle.pool.proofs.Steps.{start, step, finish, given, spare}
-use Rattle.trees.specs.Simd.{concatLanes}
-use Rattle.trees.specs.Arith.{keptBits, shiftInsertLane}
-use Rattle.trees.specs.Trees.{insertAt, shiftInsertLanes}
+use Rattle.trees.specs.Simd.{concat_lanes}
+use Rattle.trees.specs.Arith.{kept_bits, shift_insert_lane}
+use Rattle.trees.specs.Trees.{insert_at, shift_insert_lanes}
 use Rattle.trees.specs.Arith as Arith
 use Rattle.lower_simd.specs.Cut.{MadeLane}
 use Rattle.lower.specs.Builds.{Lowers, read, unread}
@@ -33,7 +33,7 @@ pub inserted : {w0 w1 w2 w3 w4 w5 w6 : List ℕ} {k : ℕ} {r1 r2 r3 r4 r5 r6 : 
     → MadeConst w3 r3.count w4 r4 kept 0 n
     → MadeBv w4 r4.count w5 r5 And r2.node r4.node
     → MadeBv w5 r5.count w6 r6 Or r3.node r5.node
-    → Lowers w0 k w6 r6 6 n (read d (n * lanes)) (read first (n * lanes)) (read amount n) (λ d a s. insertAt left kept n d a s j) (amount.0 ∷ [])
+    → Lowers w0 k w6 r6 6 n (read d (n * lanes)) (read first (n * lanes)) (read amount n) (λ d a s. insert_at left kept n d a s j) (amount.0 ∷ [])
 inserted {amount = amount} {first = first} {d = d} {n = n} {lanes = lanes} {j = j} {kept = kept} left l m h b c f e1 e2 e3 e4 e5 e6 =
     let fits : n * j + n ≤ n * lanes = lane-fits n j lanes h (omega arith) in
     rw (← f)
@@ -51,14 +51,14 @@ inserted {amount = amount} {first = first} {d = d} {n = n} {lanes = lanes} {j = 
 
 -- ---- the insert's amount and mask
 
-pub kept-lt : (left : Bool) (n shift : ℕ) → shift ≤ n → keptBits left n shift < 2 ^ n
+pub kept-lt : (left : Bool) (n shift : ℕ) → shift ≤ n → kept_bits left n shift < 2 ^ n
 kept-lt true n shift h = omega (arith, pow_mono h, pow_pos shift)
 kept-lt false n shift h = omega (arith, pow_pos n, pow_pos (n - shift))
 
-pub kept-left : {left : Bool} (n shift : ℕ) {kept : ℕ} → left ≡ true → kept ≡ 2 ^ shift - 1 → kept ≡ keptBits left n shift
+pub kept-left : {left : Bool} (n shift : ℕ) {kept : ℕ} → left ≡ true → kept ≡ 2 ^ shift - 1 → kept ≡ kept_bits left n shift
 kept-left n shift q e = rw q e
 
-pub kept-right : {left : Bool} (n shift : ℕ) {whole low : ℕ} → left ≡ false → whole ≡ 2 ^ n - 1 → low ≡ 2 ^ (n - shift) - 1 → whole - low ≡ keptBits left n shift
+pub kept-right : {left : Bool} (n shift : ℕ) {whole low : ℕ} → left ≡ false → whole ≡ 2 ^ n - 1 → low ≡ 2 ^ (n - shift) - 1 → whole - low ≡ kept_bits left n shift
 kept-right n shift q e f = rw q (omega (arith, e, f, pow_pos (n - shift)))
 
 pub low-le : (n shift : ℕ) {whole low : ℕ} → whole ≡ 2 ^ n - 1 → low ≡ 2 ^ (n - shift) - 1 → low ≤ whole
@@ -68,12 +68,12 @@ pub inserted-all : {w0 w1 w2 : List ℕ} {k : ℕ} {r1 r2 : Built} {first d : No
     → 1 ≤ n
     → n ≤ 64
     → shift ≤ n
-    → kept ≡ keptBits left n shift
+    → kept ≡ kept_bits left n shift
     → MadeConst w0 k w1 r1 shift 0 n
     → Lowers w1 r1.count w2 r2 (7 * lanes) (n * lanes) (read d (n * lanes)) (read first (n * lanes)) (read r1.node n)
-    (λ d a s. concatLanes (lanes - 1) (insertAt left kept n d a s)) (r1.node.0 ∷ [])
-    → Lowers w0 k w2 r2 (7 * lanes + 1) (n * lanes) (read d (n * lanes)) (read first (n * lanes)) unread (λ d a b. shiftInsertLanes left shift a d n lanes) []
-unfolding shiftInsertLane Arith.shiftInsertLanes
+    (λ d a s. concat_lanes (lanes - 1) (insert_at left kept n d a s)) (r1.node.0 ∷ [])
+    → Lowers w0 k w2 r2 (7 * lanes + 1) (n * lanes) (read d (n * lanes)) (read first (n * lanes)) unread (λ d a b. shift_insert_lanes left shift a d n lanes) []
+unfolding shift_insert_lane Arith.shift_insert_lanes
 inserted-all {n = n} {shift = shift} left lanes l m h e e1 e2 =
     rw (← e)
     (record {

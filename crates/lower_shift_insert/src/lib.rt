@@ -1,10 +1,10 @@
 // The Rust's neon/lower/arith.rs: shift_insert_lanes and low_bits.
 ghost use Rattle.std.specs.Prelude.{◌≡◌, [], ◌∷◌, ◌+◌, ◌*◌, ◌-◌, ◌≤◌, ◌<◌, ◌^◌};
 ghost use Rattle.pool.specs.Growth.{Room};
-ghost use Rattle.trees.specs.Simd.{concatLanes};
-ghost use Rattle.trees.specs.Lower.{unsignedMax};
-ghost use Rattle.trees.specs.Arith.{keptBits};
-ghost use Rattle.trees.specs.Trees.{insertAt, shiftInsertLanes};
+ghost use Rattle.trees.specs.Simd.{concat_lanes};
+ghost use Rattle.trees.specs.Lower.{unsigned_max};
+ghost use Rattle.trees.specs.Arith.{kept_bits};
+ghost use Rattle.trees.specs.Trees.{insert_at, shift_insert_lanes};
 ghost use Rattle.lower.specs.Builds.{Lowers, read, unread};
 
 use lower_kinds::operators::insert_op;
@@ -17,7 +17,7 @@ use wide::word::unsigned_max;
 // for 0 bits.
 fn low_bits(bits: u64) -> u64
     requires { bits ≤ 64 }
-    ensures { result ≡ unsignedMax bits }
+    ensures { result ≡ unsigned_max bits }
 {
     if bits == 0 {
         return 0;
@@ -28,7 +28,7 @@ fn low_bits(bits: u64) -> u64
 // The bits of the old destination that an insert keeps: the low ones, or the high ones.
 fn kept_bits(left: bool, lane_bits: u64, shift: u64) -> u64
     requires { (shift ≤ lane_bits) × (lane_bits ≤ 64) }
-    ensures { result ≡ keptBits left lane_bits shift }
+    ensures { result ≡ kept_bits left lane_bits shift }
 {
     if left {
         return low_bits(shift);
@@ -54,7 +54,7 @@ fn insert_at(
     requires amount_lt_count { (amount.0 < count) × (first.0 < count) × (d.0 < count) × (kept < 2 ^ lane_bits) }
     requires le_lane_bits { (1 ≤ lane_bits) × (lane_bits ≤ 64) × (index.0 < lanes) × (lane_bits * lanes ≤ 128) }
     ensures { Lowers pool.old count pool.new result 6 lane_bits (read d (lane_bits * lanes)) (read first (lane_bits * lanes))
-        (read amount lane_bits) (λ d a s. insertAt left kept lane_bits d a s index.0) (amount.0 ∷ []) }
+        (read amount lane_bits) (λ d a s. insert_at left kept lane_bits d a s index.0) (amount.0 ∷ []) }
 {
     let a = lower_simd::extract_lane(pool, count, first, lane_bits, index);
     let previous = lower_simd::extract_lane(pool, a.count, d, lane_bits, index);
@@ -80,7 +80,7 @@ fn insert_lanes(
     requires amount_lt_count { (amount.0 < count) × (first.0 < count) × (d.0 < count) × (kept < 2 ^ lane_bits) }
     requires le_lane_bits { (1 ≤ lane_bits) × (lane_bits ≤ 64) × (1 ≤ lanes) × (lane_bits * lanes ≤ 128) }
     ensures { Lowers pool.old count pool.new result (7 * lanes) (lane_bits * lanes) (read d (lane_bits * lanes))
-        (read first (lane_bits * lanes)) (read amount lane_bits) (λ d a s. concatLanes (lanes - 1) (insertAt left kept lane_bits d a s)) (amount.0 ∷ []) }
+        (read first (lane_bits * lanes)) (read amount lane_bits) (λ d a s. concat_lanes (lanes - 1) (insert_at left kept lane_bits d a s)) (amount.0 ∷ []) }
 {
     let mut acc = insert_at(
         pool,
@@ -129,7 +129,7 @@ pub fn shift_insert_lanes(
     requires first_lt_count { (first.0 < count) × (d.0 < count) × (shift ≤ lane_bits) }
     requires le_lane_bits { (1 ≤ lane_bits) × (lane_bits ≤ 64) × (1 ≤ lanes) × (lane_bits * lanes ≤ 128) }
     ensures { Lowers pool.old count pool.new result (7 * lanes + 1) (lane_bits * lanes) (read d (lane_bits * lanes))
-        (read first (lane_bits * lanes)) unread (λ d a b. shiftInsertLanes left shift a d lane_bits lanes) [] }
+        (read first (lane_bits * lanes)) unread (λ d a b. shift_insert_lanes left shift a d lane_bits lanes) [] }
 {
     let amount = pool_nodes::konst(pool, count, shift, 0, lane_bits);
     let kept = kept_bits(left, lane_bits, shift);

@@ -17,8 +17,8 @@ use Rattle.pool.proofs.Steps.{start, step, finish, given}
 use Rattle.trees.specs.declared.Saturate.{Saturate}
 use Rattle.trees.specs.declared.ShiftKind.{ShiftKind}
 use Rattle.trees.specs.declared.ShiftKind.TheVariants.{LeftImmediate, RightImmediate, Register}
-use Rattle.trees.specs.Arith.{roundingBits, leftBy, registerShiftMax}
-use Rattle.trees.specs.Trees.{shiftRight, leftImmediate, shifted_by}
+use Rattle.trees.specs.Arith.{rounding_bits, left_by, register_shift_max}
+use Rattle.trees.specs.Trees.{shift_right, left_immediate, shifted_by}
 use Rattle.trees.specs.Arith as Arith
 use Rattle.lower.specs.Builds.{Builds1, Builds2, BuildsIf, MadeExtend}
 use Rattle.lower_kinds.specs.Sources.{is_register}
@@ -51,7 +51,7 @@ by-constant {value = value} {n = n} {shift = shift} t l h m e1 e2 =
 -- ---- `shift_right`
 pub rounded-shift : {w0 w1 w2 w3 w4 w5 w6 w7 w8 : List ℕ} {k : ℕ} {r1 r2 r3 r4 r5 r6 r7 r8 : Built} {value amount : Node} {op : BinOp} {n wide : ℕ} {signed : Bool} (most : ℕ)
     → 1 ≤ n
-    → wide ≡ roundingBits n most
+    → wide ≡ rounding_bits n most
     → op ≡ cond signed AShr LShr
     → n + 1 ≤ wide
     → wide ≤ 129
@@ -63,8 +63,8 @@ pub rounded-shift : {w0 w1 w2 w3 w4 w5 w6 w7 w8 : List ℕ} {k : ℕ} {r1 r2 r3 
     → MadeBv w5 r5.count w6 r6 Add r5.node r4.node
     → MadeBv w6 r6.count w7 r7 op r6.node r1.node
     → MadeExtract w7 r7.count w8 r8 r7.node (n - 1) 0
-    → Builds2 w0 k w8 r8 8 value n amount n n (λ v a. shiftRight v a n signed true most) (value.0 ∷ amount.0 ∷ [])
-unfolding Arith.shiftRight
+    → Builds2 w0 k w8 r8 8 value n amount n n (λ v a. shift_right v a n signed true most) (value.0 ∷ amount.0 ∷ [])
+unfolding Arith.shift_right
 rounded-shift {value = value} {amount = amount} {n = n} {wide = wide} most l e f a b e1 e2 e3 e4 e5 e6 e7 e8 =
     let w : 1 ≤ wide = omega arith in
     let one-fits : 1 < 2 ^ wide = small 1 1 wide (omega arith) w in
@@ -84,8 +84,8 @@ rounded-shift {value = value} {amount = amount} {n = n} {wide = wide} most l e f
     })
 
 pub right-rounding : {w0 w1 : List ℕ} {k : ℕ} {r : Built} {value amount : Node} {n : ℕ} (signed : Bool) {rounding : Bool} (most : ℕ) → rounding ≡ true
-    → Builds2 w0 k w1 r 8 value n amount n n (λ v a. shiftRight v a n signed true most) (value.0 ∷ amount.0 ∷ [])
-    → Builds2 w0 k w1 r 8 value n amount n n (λ v a. shiftRight v a n signed rounding most) (value.0 ∷ amount.0 ∷ [])
+    → Builds2 w0 k w1 r 8 value n amount n n (λ v a. shift_right v a n signed true most) (value.0 ∷ amount.0 ∷ [])
+    → Builds2 w0 k w1 r 8 value n amount n n (λ v a. shift_right v a n signed rounding most) (value.0 ∷ amount.0 ∷ [])
 right-rounding signed most q d = rw q d
 
 pub right-plain : {w0 w1 : List ℕ} {k : ℕ} {r1 : Built} {value amount : Node} {op : BinOp} {n : ℕ} (signed rounding : Bool) (most : ℕ)
@@ -94,18 +94,18 @@ pub right-plain : {w0 w1 : List ℕ} {k : ℕ} {r1 : Built} {value amount : Node
     → rounding ≡ false
     → op ≡ cond signed AShr LShr
     → MadeBv w0 k w1 r1 op value amount
-    → Builds2 w0 k w1 r1 8 value n amount n n (λ v a. shiftRight v a n signed rounding most) (value.0 ∷ amount.0 ∷ [])
-unfolding Arith.shiftRight
+    → Builds2 w0 k w1 r1 8 value n amount n n (λ v a. shift_right v a n signed rounding most) (value.0 ∷ amount.0 ∷ [])
+unfolding Arith.shift_right
 right-plain signed rounding most l m q f e1 = rw (q, ← f) (one-op (omega arith) l m e1)
 
 -- ---- by a register
 pub registered : {w0 w1 w2 w3 w4 w5 w6 : List ℕ} {k : ℕ} {r1 r2 r3 r4 r5 r6 : Built} {value amount : Node} {n : ℕ} (rounding saturate signed : Bool)
     → 1 ≤ n
     → n ≤ 64
-    → Builds2 w0 k w1 r1 9 value n amount n n (λ v a. leftBy saturate v a n signed) (value.0 ∷ amount.0 ∷ [])
+    → Builds2 w0 k w1 r1 9 value n amount n n (λ v a. left_by saturate v a n signed) (value.0 ∷ amount.0 ∷ [])
     → MadeConst w1 r1.count w2 r2 0 0 n
     → MadeBv w2 r2.count w3 r3 Sub r2.node amount
-    → Builds2 w3 r3.count w4 r4 8 value n r3.node n n (λ v a. shiftRight v a n signed rounding registerShiftMax) (value.0 ∷ r3.node.0 ∷ [])
+    → Builds2 w3 r3.count w4 r4 8 value n r3.node n n (λ v a. shift_right v a n signed rounding register_shift_max) (value.0 ∷ r3.node.0 ∷ [])
     → MadeCompare w4 r4.count w5 r5 Slt amount r2.node
     → MadeIte w5 r5.count w6 r6 r5.node r4.node r1.node
     → Builds2 w0 k w6 r6 21 value n amount n n (λ v a. shifted_by (Register rounding saturate) signed v a n) (value.0 ∷ amount.0 ∷ [])
@@ -124,7 +124,7 @@ registered {value = value} {amount = amount} {n = n} rounding saturate signed l 
 
 -- ---- `shift_lane`, by its kinds
 pub lane-left : {w0 w1 : List ℕ} {k : ℕ} {r : Built} {kind : ShiftKind} {value amount : Node} {n shift : ℕ} {saturate : Saturate} (signed : Bool) → kind ≡ LeftImmediate shift saturate
-    → Builds1 w0 k w1 r 10 value n n (λ v. leftImmediate saturate v shift n signed) (value.0 ∷ [])
+    → Builds1 w0 k w1 r 10 value n n (λ v. left_immediate saturate v shift n signed) (value.0 ∷ [])
     → BuildsIf w0 k w1 r 21 value n (is_register kind) amount n n (λ v a. shifted_by kind signed v a n)
 lane-left signed q d = rw q (record { sized = omega (arith, d.sized); made = λ v x y. d.made v x })
 
@@ -139,8 +139,8 @@ pub lane-right : {w0 w1 w2 : List ℕ} {k : ℕ} {r1 r2 : Built} {kind : ShiftKi
     → shift ≤ n
     → n ≤ 64
     → MadeConst w0 k w1 r1 shift 0 n
-    → Builds2 w1 r1.count w2 r2 8 value n r1.node n n (λ v a. shiftRight v a n signed rounding shift) (value.0 ∷ r1.node.0 ∷ [])
+    → Builds2 w1 r1.count w2 r2 8 value n r1.node n n (λ v a. shift_right v a n signed rounding shift) (value.0 ∷ r1.node.0 ∷ [])
     → BuildsIf w0 k w2 r2 21 value n (is_register kind) amount n n (λ v a. shifted_by kind signed v a n)
 lane-right {n = n} {shift = shift} {rounding = rounding} signed q l h m e1 e2 =
-    let d = by-constant (λ v a. shiftRight v a n signed rounding shift) l h m e1 e2 in
+    let d = by-constant (λ v a. shift_right v a n signed rounding shift) l h m e1 e2 in
     rw q (record { sized = omega (arith, d.sized); made = λ v x y. d.made v x })

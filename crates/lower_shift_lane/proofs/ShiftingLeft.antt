@@ -17,9 +17,9 @@ use Rattle.trees.specs.declared.SaturateTo.{SaturateTo}
 use Rattle.trees.specs.declared.SaturateTo.TheVariants.{Signed, Unsigned, SignedToUnsigned}
 use Rattle.trees.specs.declared.Saturate.{Saturate}
 use Rattle.trees.specs.declared.Saturate.TheVariants.{Never, Into}
-use Rattle.trees.specs.Lower.{unsignedMax}
-use Rattle.trees.specs.Arith.{shiftBound, saturatingShiftLeft, leftBy}
-use Rattle.trees.specs.Trees.{leftImmediate}
+use Rattle.trees.specs.Lower.{unsigned_max}
+use Rattle.trees.specs.Arith.{shift_bound, saturating_shift_left, left_by}
+use Rattle.trees.specs.Trees.{left_immediate}
 use Rattle.lower.specs.Builds.{Builds1, Builds2}
 use Rattle.lower_shift_lane.proofs.Shifting.{one-op, by-constant}
 
@@ -34,7 +34,7 @@ pub bound-signed : {w0 w1 w2 w3 w4 w5 : List ℕ} {k : ℕ} {r1 r2 r3 r4 r5 : Bu
     → MadeConst w2 r2.count w3 r3 p 0 n
     → MadeConst w3 r3.count w4 r4 (p - 1) 0 n
     → MadeIte w4 r4.count w5 r5 r2.node r3.node r4.node
-    → Builds1 w0 k w5 r5 5 value n n (λ v. shiftBound v n signed) []
+    → Builds1 w0 k w5 r5 5 value n n (λ v. shift_bound v n signed) []
 bound-signed {value = value} {n = n} l m q e e1 e2 e3 e4 e5 =
     let power-fits : 2 ^ (n - 1) < 2 ^ n = pow-lt (omega arith) in
     rw q
@@ -53,9 +53,9 @@ pub bound-unsigned : {w0 w1 : List ℕ} {k : ℕ} {r1 : Built} {value : Node} {h
     → 1 ≤ n
     → n ≤ 64
     → signed ≡ false
-    → h ≡ unsignedMax n
+    → h ≡ unsigned_max n
     → MadeConst w0 k w1 r1 h 0 n
-    → Builds1 w0 k w1 r1 5 value n n (λ v. shiftBound v n signed) []
+    → Builds1 w0 k w1 r1 5 value n n (λ v. shift_bound v n signed) []
 bound-unsigned {value = value} {n = n} l m q e e1 =
     rw q
     (record {
@@ -72,10 +72,10 @@ pub saturating : {w0 w1 w2 w3 w4 w5 : List ℕ} {k : ℕ} {r1 r2 r3 r4 r5 : Buil
     → MadeBv w0 k w1 r1 Shl value amount
     → MadeBv w1 r1.count w2 r2 op r1.node amount
     → MadeCompare w2 r2.count w3 r3 Eq r2.node value
-    → Builds1 w3 r3.count w4 r4 5 value n n (λ v. shiftBound v n signed) []
+    → Builds1 w3 r3.count w4 r4 5 value n n (λ v. shift_bound v n signed) []
     → MadeIte w4 r4.count w5 r5 r3.node r1.node r4.node
-    → Builds2 w0 k w5 r5 9 value n amount n n (λ v a. saturatingShiftLeft v a n signed) (value.0 ∷ amount.0 ∷ [])
-unfolding saturatingShiftLeft
+    → Builds2 w0 k w5 r5 9 value n amount n n (λ v a. saturating_shift_left v a n signed) (value.0 ∷ amount.0 ∷ [])
+unfolding saturating_shift_left
 saturating {value = value} {amount = amount} {n = n} signed l m f e1 e2 e3 e4 e5 =
     rw (← f)
     (record {
@@ -92,12 +92,12 @@ saturating {value = value} {amount = amount} {n = n} signed l m f e1 e2 e3 e4 e5
 -- ---- by an immediate
 -- SQSHLU's clamp does not go by the flag
 pub left-exact : {w0 w1 : List ℕ} {k : ℕ} {r : Built} {value : Node} {n : ℕ} (shift : ℕ) (signed : Bool) {to : SaturateTo} → to ≡ SignedToUnsigned
-    → Builds1 w0 k w1 r 10 value n n (λ v. leftImmediate (Into SignedToUnsigned) v shift n true) (value.0 ∷ [])
-    → Builds1 w0 k w1 r 10 value n n (λ v. leftImmediate (Into to) v shift n signed) (value.0 ∷ [])
+    → Builds1 w0 k w1 r 10 value n n (λ v. left_immediate (Into SignedToUnsigned) v shift n true) (value.0 ∷ [])
+    → Builds1 w0 k w1 r 10 value n n (λ v. left_immediate (Into to) v shift n signed) (value.0 ∷ [])
 left-exact shift signed q d = rw q d
 
 clamps : (to : SaturateTo) → (to ≡ SignedToUnsigned → ⊥) → (v : Expr) (shift n : ℕ) (signed : Bool)
-    → leftImmediate (Into to) v shift n signed ≡ saturatingShiftLeft v (Const shift n) n signed
+    → left_immediate (Into to) v shift n signed ≡ saturating_shift_left v (Const shift n) n signed
 clamps Signed f v shift n signed = refl
 clamps Unsigned f v shift n signed = refl
 clamps SignedToUnsigned f v shift n signed = absurd (f refl)
@@ -108,10 +108,10 @@ pub left-clamped : {w0 w1 w2 : List ℕ} {k : ℕ} {r1 r2 : Built} {value : Node
     → shift < n
     → n ≤ 64
     → MadeConst w0 k w1 r1 shift 0 n
-    → Builds2 w1 r1.count w2 r2 9 value n r1.node n n (λ v a. saturatingShiftLeft v a n signed) (value.0 ∷ r1.node.0 ∷ [])
-    → Builds1 w0 k w2 r2 10 value n n (λ v. leftImmediate (Into to) v shift n signed) (value.0 ∷ [])
+    → Builds2 w1 r1.count w2 r2 9 value n r1.node n n (λ v a. saturating_shift_left v a n signed) (value.0 ∷ r1.node.0 ∷ [])
+    → Builds1 w0 k w2 r2 10 value n n (λ v. left_immediate (Into to) v shift n signed) (value.0 ∷ [])
 left-clamped {n = n} {shift = shift} to signed q l h m e1 e2 =
-    let d = by-constant (λ v a. saturatingShiftLeft v a n signed) l (omega arith) m e1 e2 in
+    let d = by-constant (λ v a. saturating_shift_left v a n signed) l (omega arith) m e1 e2 in
     record { sized = d.sized; made = λ {ta} v x. rw (clamps to q ta shift n signed) (d.made v x) }
 
 pub left-wrapping : {w0 w1 w2 : List ℕ} {k : ℕ} {r1 r2 : Built} {value : Node} {n shift : ℕ} {saturate : Saturate} (signed : Bool)
@@ -121,18 +121,18 @@ pub left-wrapping : {w0 w1 w2 : List ℕ} {k : ℕ} {r1 r2 : Built} {value : Nod
     → n ≤ 64
     → MadeConst w0 k w1 r1 shift 0 n
     → MadeBv w1 r1.count w2 r2 Shl value r1.node
-    → Builds1 w0 k w2 r2 10 value n n (λ v. leftImmediate saturate v shift n signed) (value.0 ∷ [])
+    → Builds1 w0 k w2 r2 10 value n n (λ v. left_immediate saturate v shift n signed) (value.0 ∷ [])
 left-wrapping signed q l h m e1 e2 = rw q (by-constant (Bv Shl) l (omega arith) m e1 (one-op {m = 9} (omega arith) l m e2))
 
 pub left-into : {w0 w1 : List ℕ} {k : ℕ} {r : Built} {value : Node} {n : ℕ} (shift : ℕ) (signed : Bool) {to : SaturateTo} {saturate : Saturate} → saturate ≡ Into to
-    → Builds1 w0 k w1 r 10 value n n (λ v. leftImmediate (Into to) v shift n signed) (value.0 ∷ [])
-    → Builds1 w0 k w1 r 10 value n n (λ v. leftImmediate saturate v shift n signed) (value.0 ∷ [])
+    → Builds1 w0 k w1 r 10 value n n (λ v. left_immediate (Into to) v shift n signed) (value.0 ∷ [])
+    → Builds1 w0 k w1 r 10 value n n (λ v. left_immediate saturate v shift n signed) (value.0 ∷ [])
 left-into shift signed q d = rw q d
 
 -- ---- by a register
 pub by-saturating : {w0 w1 : List ℕ} {k : ℕ} {r : Built} {value amount : Node} {n : ℕ} (signed : Bool) {saturate : Bool} → saturate ≡ true
-    → Builds2 w0 k w1 r 9 value n amount n n (λ v a. saturatingShiftLeft v a n signed) (value.0 ∷ amount.0 ∷ [])
-    → Builds2 w0 k w1 r 9 value n amount n n (λ v a. leftBy saturate v a n signed) (value.0 ∷ amount.0 ∷ [])
+    → Builds2 w0 k w1 r 9 value n amount n n (λ v a. saturating_shift_left v a n signed) (value.0 ∷ amount.0 ∷ [])
+    → Builds2 w0 k w1 r 9 value n amount n n (λ v a. left_by saturate v a n signed) (value.0 ∷ amount.0 ∷ [])
 by-saturating signed q d = rw q d
 
 pub by-wrapping : {w0 w1 : List ℕ} {k : ℕ} {r1 : Built} {value amount : Node} {n : ℕ} {saturate : Bool} (signed : Bool)
@@ -140,5 +140,5 @@ pub by-wrapping : {w0 w1 : List ℕ} {k : ℕ} {r1 : Built} {value amount : Node
     → 1 ≤ n
     → n ≤ 64
     → MadeBv w0 k w1 r1 Shl value amount
-    → Builds2 w0 k w1 r1 9 value n amount n n (λ v a. leftBy saturate v a n signed) (value.0 ∷ amount.0 ∷ [])
+    → Builds2 w0 k w1 r1 9 value n amount n n (λ v a. left_by saturate v a n signed) (value.0 ∷ amount.0 ∷ [])
 by-wrapping signed q l m e1 = rw q (one-op (omega arith) l m e1)

@@ -3,8 +3,8 @@ ghost use Rattle.std.specs.Prelude.{true, [], ◌∷◌, ◌≤◌, ◌<◌};
 ghost use Rattle.pool.specs.Growth.{Room};
 ghost use Rattle.trees.specs.declared.Saturate.{Saturate};
 ghost use Rattle.trees.specs.declared.SaturateTo.{SaturateTo};
-ghost use Rattle.trees.specs.Arith.{shiftBound, saturatingShiftLeft, leftBy};
-ghost use Rattle.trees.specs.Trees.{leftImmediate};
+ghost use Rattle.trees.specs.Arith.{shift_bound, saturating_shift_left, left_by};
+ghost use Rattle.trees.specs.Trees.{left_immediate};
 ghost use Rattle.lower.specs.Builds.{Builds1, Builds2};
 
 use lower_kinds::operators::shift_op;
@@ -17,7 +17,7 @@ use wide::word::{power, unsigned_max};
 fn shift_bound(pool: &mut [u64], count: usize, value: Node, lane_bits: u64, signed: bool) -> Built
     requires room { Room pool.old count 5 }
     requires value_lt_count { (value.0 < count) × (1 ≤ lane_bits) × (lane_bits ≤ 64) }
-    ensures { Builds1 pool.old count pool.new result 5 value lane_bits lane_bits (λ v. shiftBound v lane_bits signed) [] }
+    ensures { Builds1 pool.old count pool.new result 5 value lane_bits lane_bits (λ v. shift_bound v lane_bits signed) [] }
 {
     if signed {
         let magnitude = power(lane_bits - 1);
@@ -44,7 +44,7 @@ pub fn saturating_shift_left(
     requires room { Room pool.old count 9 }
     requires value_lt_count { (value.0 < count) × (amount.0 < count) × (1 ≤ lane_bits) × (lane_bits ≤ 64) }
     ensures { Builds2 pool.old count pool.new result 9 value lane_bits amount lane_bits lane_bits
-        (λ v a. saturatingShiftLeft v a lane_bits signed) (value.0 ∷ amount.0 ∷ []) }
+        (λ v a. saturating_shift_left v a lane_bits signed) (value.0 ∷ amount.0 ∷ []) }
 {
     let shifted = pool_nodes::bv(pool, count, BinOp::Shl, value, amount);
     let op = shift_op(signed);
@@ -66,7 +66,7 @@ fn exact_shift_left(
     requires room { Room pool.old count 10 }
     requires value_lt_count { (value.0 < count) × (shift < lane_bits) × (lane_bits ≤ 64) }
     ensures { Builds1 pool.old count pool.new result 10 value lane_bits lane_bits
-        (λ v. leftImmediate (Saturate.Into SaturateTo.SignedToUnsigned) v shift lane_bits true) (value.0 ∷ []) }
+        (λ v. left_immediate (Saturate.Into SaturateTo.SignedToUnsigned) v shift lane_bits true) (value.0 ∷ []) }
 {
     let wide = lane_bits + shift + 1;
     let exact = lower_exact::shift_up(pool, count, value, shift, lane_bits, wide);
@@ -93,7 +93,7 @@ fn saturated_left(
     requires room { Room pool.old count 10 }
     requires value_lt_count { (value.0 < count) × (shift < lane_bits) × (lane_bits ≤ 64) }
     ensures { Builds1 pool.old count pool.new result 10 value lane_bits lane_bits
-        (λ v. leftImmediate (Saturate.Into to) v shift lane_bits signed) (value.0 ∷ []) }
+        (λ v. left_immediate (Saturate.Into to) v shift lane_bits signed) (value.0 ∷ []) }
 {
     if let SaturateTo::SignedToUnsigned = to {
         return exact_shift_left(pool, count, value, shift, lane_bits);
@@ -114,7 +114,7 @@ pub fn left_immediate(
     requires room { Room pool.old count 10 }
     requires value_lt_count { (value.0 < count) × (shift < lane_bits) × (lane_bits ≤ 64) }
     ensures { Builds1 pool.old count pool.new result 10 value lane_bits lane_bits
-        (λ v. leftImmediate saturate v shift lane_bits signed) (value.0 ∷ []) }
+        (λ v. left_immediate saturate v shift lane_bits signed) (value.0 ∷ []) }
 {
     match saturate {
         Saturate::Never => {
@@ -138,7 +138,7 @@ pub fn left_by(
     requires room { Room pool.old count 9 }
     requires value_lt_count { (value.0 < count) × (amount.0 < count) × (1 ≤ lane_bits) × (lane_bits ≤ 64) }
     ensures { Builds2 pool.old count pool.new result 9 value lane_bits amount lane_bits lane_bits
-        (λ v a. leftBy saturate v a lane_bits signed) (value.0 ∷ amount.0 ∷ []) }
+        (λ v a. left_by saturate v a lane_bits signed) (value.0 ∷ amount.0 ∷ []) }
 {
     if saturate {
         return saturating_shift_left(pool, count, value, amount, lane_bits, signed);

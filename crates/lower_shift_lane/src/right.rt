@@ -1,8 +1,8 @@
 // The Rust's neon/lower/arith.rs: shift_right.
 ghost use Rattle.std.specs.Prelude.{◌≡◌, true, [], ◌∷◌, ◌+◌, ◌≤◌, ◌<◌};
 ghost use Rattle.pool.specs.Growth.{Room};
-ghost use Rattle.trees.specs.Arith.{roundingBits};
-ghost use Rattle.trees.specs.Trees.{shiftRight};
+ghost use Rattle.trees.specs.Arith.{rounding_bits};
+ghost use Rattle.trees.specs.Trees.{shift_right};
 ghost use Rattle.lower.specs.Builds.{Builds2};
 
 use lower_kinds::operators::shift_op;
@@ -12,7 +12,7 @@ use terms::BinOp;
 // The width of a rounding shift's sum: one bit above the lane and the largest amount, so that the half that is added is below the sign.
 fn rounding_bits(lane_bits: u64, max_shift: u64) -> u64
     requires { (lane_bits ≤ 64) × (max_shift ≤ 128) }
-    ensures { (result ≡ roundingBits lane_bits max_shift) × (lane_bits + 1 ≤ result) × (max_shift + 1 ≤ result) × (result ≤ 129) }
+    ensures { (result ≡ rounding_bits lane_bits max_shift) × (lane_bits + 1 ≤ result) × (max_shift + 1 ≤ result) × (result ≤ 129) }
 {
     if lane_bits < max_shift {
         return max_shift + 1;
@@ -33,7 +33,7 @@ fn shift_right_rounding(
     requires room { Room pool.old count 8 }
     requires value_lt_count { (value.0 < count) × (amount.0 < count) × (1 ≤ lane_bits) × (lane_bits ≤ 64) × (max_shift ≤ 128) }
     ensures { Builds2 pool.old count pool.new result 8 value lane_bits amount lane_bits lane_bits
-        (λ v a. shiftRight v a lane_bits signed true max_shift) (value.0 ∷ amount.0 ∷ []) }
+        (λ v a. shift_right v a lane_bits signed true max_shift) (value.0 ∷ amount.0 ∷ []) }
 {
     let wide = rounding_bits(lane_bits, max_shift);
     let wide_amount = pool_nodes::zero_ext(pool, count, amount, wide);
@@ -72,7 +72,7 @@ pub fn shift_right(
     requires room { Room pool.old count 8 }
     requires value_lt_count { (value.0 < count) × (amount.0 < count) × (1 ≤ lane_bits) × (lane_bits ≤ 64) × (max_shift ≤ 128) }
     ensures { Builds2 pool.old count pool.new result 8 value lane_bits amount lane_bits lane_bits
-        (λ v a. shiftRight v a lane_bits signed rounding max_shift) (value.0 ∷ amount.0 ∷ []) }
+        (λ v a. shift_right v a lane_bits signed rounding max_shift) (value.0 ∷ amount.0 ∷ []) }
 {
     if rounding {
         return shift_right_rounding(pool, count, value, amount, lane_bits, signed, max_shift);

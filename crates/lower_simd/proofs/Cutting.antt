@@ -11,19 +11,19 @@ use Rattle.facts.proofs.Tests.{and_both}
 use Rattle.terms.specs.Expr.{Expr, Extract}
 use Rattle.pool.specs.declared.Node.{Node}
 use Rattle.pool.specs.declared.Built.{Built}
-use Rattle.pool.specs.Node.{Kind, bad, var, const, bv, compare, ite, extract, concat, zext, sext, kinds, kind_at, code_of, Cell, cell_at, word_at, kindNumber, width_at}
+use Rattle.pool.specs.Node.{Kind, bad, var, const, bv, compare, ite, extract, concat, zext, sext, kinds, kind_at, code_of, Cell, cell_at, word_at, kind_number, width_at}
 use Rattle.pool_fields.specs.Fields.{op_a}
-use Rattle.pool.specs.Rules.{Valid, widthBefore}
-use Rattle.pool.specs.Unfold.{shape_of, unfoldAt}
+use Rattle.pool.specs.Rules.{Valid, width_before}
+use Rattle.pool.specs.Unfold.{shape_of, unfold_at}
 use Rattle.pool.specs.Growth.{NodeIs}
 use Rattle.pool_nodes.specs.Builders.{MadeExtract}
 use Rattle.pool.proofs.Laws.{unfold-step}
 use Rattle.pool.proofs.Facts.{kind-code, valid-node, ExtractRule, extract-rule}
 use Rattle.pool.proofs.Steps.{forget}
 use Rattle.pool_rules.proofs.Kept.{Ok, most-bad, most-var, most-const, most-bv, most-compare, most-ite, most-extract, most-concat, most-zext}
-use Rattle.trees.specs.Simd.{extractCollapsing as cut}
+use Rattle.trees.specs.Simd.{extract_collapsing as cut}
 use Rattle.trees.specs.Simd as Simd
-use Rattle.lower_simd.specs.Cut.{risesAt, Source, CutFrom, MadeCut, MadeLane}
+use Rattle.lower_simd.specs.Cut.{rises_at, Source, CutFrom, MadeCut, MadeLane}
 
 -- ---- no width of a valid pool is above 129
 
@@ -43,7 +43,7 @@ width-to : (ws : List ℕ) (k : ℕ) → Valid ws k → (f n : ℕ) → n < f �
 width-to ws k v zero n l h = absurd (not-suc-le-zero l)
 width-to ws k v (suc f) n l h =
     let c = cell_at ws n in
-    most-of n c (widthBefore ws n c.a) (widthBefore ws n c.b) (widthBefore ws n c.c)
+    most-of n c (width_before ws n c.a) (width_before ws n c.b) (width_before ws n c.c)
     (λ e. rw (lt-ltb c.a n e) (width-to ws k v f c.a (omega arith) (lt_trans e h))) c.kind (valid-node ws k n v h)
 
 width-most : (ws : List ℕ) (k n : ℕ) → Valid ws k → n < k → width_at ws n ≤ 129
@@ -76,11 +76,11 @@ kept-none ws v hi h =
 
 -- the tests that a cut rises
 pub record Rises (ws : List ℕ) (n hi : ℕ) : Type 0 where
-  pub code : kindNumber ws n ≡ 16
+  pub code : kind_number ws n ≡ 16
   pub down : op_a ws n < n
   pub room : word_at ws n 3 ≤ 128 - hi
 
-pub rising : (ws : List ℕ) (n hi : ℕ) → risesAt ws n hi ≡ true → Rises ws n hi
+pub rising : (ws : List ℕ) (n hi : ℕ) → rises_at ws n hi ≡ true → Rises ws n hi
 rising ws n hi e =
     let p2 = and_both _ _ e in
     let p1 = and_both _ _ p2.0 in
@@ -93,7 +93,7 @@ module _ {ws : List ℕ} {v hi n by : ℕ} (q : Kept ws v hi n by) where
       let c = cell_at ws n in
       let kind : c.kind ≡ extract = ap kind_at r.code in
       let rule : ExtractRule ws n c = extract-rule ws n c (rw kind at (valid-node ws k n val s.is.under)) in
-      let T = unfoldAt ws c.a in
+      let T = unfold_at ws c.a in
       let tree : s.term ≡ Extract T c.x c.y = sym s.is.tree ∙ (unfold-step ws n c refl ∙ rw (r.code, lt-ltb c.a n r.down)) in
       let fits : hi + by + c.y ≤ c.x = omega (arith, s.inside, s.is.wide, rule.wide_is, rule.ordered) in
       record {
@@ -134,14 +134,14 @@ extract-code n e =
     ⊎_elim (λ p. let z : ◌≡◌ {A = ℕ} 0 16 = ap code_of (sym p ∙ e) in absurd (omega arith)) (λ p. sym p ∙ ap code_of e) (kind-code n)
 
 module _ {ws : List ℕ} {v hi n by : ℕ} (q : Kept ws v hi n by) where
-  ended : risesAt ws n (hi + by) ≡ false → {k : ℕ} {t : Expr} → Valid ws k → Reached ws v hi n by k t → Source ws k t hi n by
+  ended : rises_at ws n (hi + by) ≡ false → {k : ℕ} {t : Expr} → Valid ws k → Reached ws v hi n by k t → Source ws k t hi n by
   ended e {k} {t} val s =
       let c = cell_at ws n in
       let no : c.kind ≡ extract → ⊥ = λ kind.
       let rule : ExtractRule ws n c = extract-rule ws n c (rw kind at (valid-node ws k n val s.is.under)) in
       let most : width_at ws c.a ≤ 129 = width-most ws k c.a val (lt_trans rule.earlier-a s.is.under) in
       let fits : c.y ≤ 128 - (hi + by) = omega (arith, s.inside, s.is.wide, rule.wide_is, rule.ordered, rule.inside) in
-      let z : true ≡ false = rw (extract-code (kindNumber ws n) kind, lt-ltb c.a n rule.earlier-a, le-leb c.y (128 - (hi + by)) fits) at e in
+      let z : true ≡ false = rw (extract-code (kind_number ws n) kind, lt-ltb c.a n rule.earlier-a, le-leb c.y (128 - (hi + by)) fits) at e in
       false≢true (sym z) in
       record {
         width = s.width;
@@ -152,7 +152,7 @@ module _ {ws : List ℕ} {v hi n by : ℕ} (q : Kept ws v hi n by) where
         same = s.same;
       }
 
-  pub from-kept : risesAt ws n (hi + by) ≡ false → CutFrom ws v hi n by
+  pub from-kept : rises_at ws n (hi + by) ≡ false → CutFrom ws v hi n by
   from-kept e = record { below = q.below; small = q.small; from = λ val i x. ended e val (q.at val i x) }
 
 pub cut-built : {old : List ℕ} {k : ℕ} {new : List ℕ} {r : Built} {value from : Node} {hi lo by : ℕ} → CutFrom old value.0 hi from.0 by
@@ -170,5 +170,5 @@ cut-built {hi = hi} {lo = lo} {by = by} c d =
 
 pub lane-built : {old : List ℕ} {k : ℕ} {new : List ℕ} {r : Built} {value : Node} {bits index : ℕ} → 1 ≤ bits → MadeCut old k new r value (bits * index + bits - 1) (bits * index)
     → MadeLane old k new r value bits index
-unfolding Simd.extractLane
+unfolding Simd.extract_lane
 lane-built b d = record { sized = d.sized; made = λ v l x. d.made v (omega arith) (omega arith) x }

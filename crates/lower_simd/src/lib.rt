@@ -1,8 +1,8 @@
-// The Rust's lift/simd.rs: cuts, and lanes put together. A cut of a cut is joined, as `extractCollapsing` of `trees` says.
+// The Rust's lift/simd.rs: cuts, and lanes put together. A cut of a cut is joined, as `extract_collapsing` of `trees` says.
 ghost use Rattle.std.specs.Prelude.{◌≡◌, ◌+◌, ◌*◌, ◌≤◌, ◌<◌, length};
 ghost use Rattle.pool.specs.Growth.{Room};
 ghost use Rattle.pool_nodes.specs.Builders.{MadeConcat};
-ghost use Rattle.lower_simd.specs.Cut.{risesAt, CutFrom, MadeCut, MadeLane};
+ghost use Rattle.lower_simd.specs.Cut.{rises_at, CutFrom, MadeCut, MadeLane};
 
 use neon::Lane;
 use pool::words::{Kind, kind_of};
@@ -10,7 +10,7 @@ use pool::{Bit, Built, Node};
 use pool_fields::{cut_lo, first};
 
 // The node that a cut is taken from, and by how much its bits rise.
-#[derive(Drop)]
+#[derive(Clone, Copy)]
 pub struct Cut {
     pub node: Node,
     pub by: Bit,
@@ -20,7 +20,7 @@ pub struct Cut {
 // below 129; of a damaged one the tests see to that.
 fn rises(pool: &[u64], value: Node, hi: Bit) -> bool
     requires { (4 * value.0 + 3 < length pool.now) × (hi.0 ≤ 128) }
-    ensures { result ≡ risesAt pool.now value.0 hi.0 }
+    ensures { result ≡ rises_at pool.now value.0 hi.0 }
 {
     (kind_of(pool, value) == Kind::EXTRACT)
         & (first(pool, value).0 < value.0)

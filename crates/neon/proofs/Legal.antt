@@ -8,20 +8,20 @@ use borrow.Author.Tests.{leb-true}
 use Rattle.facts.specs.Refuse.{unless}
 use Rattle.facts.proofs.Tests.{and_both, passed}
 use Rattle.neon.specs.declared.Instruction.{Instruction}
-use Rattle.neon.specs.Op.{Op, isOperation, opAt, Arrangement, isArrangement, arrangementAt, laneBits}
-use Rattle.neon.specs.Form.{hasForm, least, most, hasSecond}
-use Rattle.neon.specs.Refusal.{formNumber, Formed, shortElement, mostM, registersOk, recordNumber, Legal}
+use Rattle.neon.specs.Op.{Op, is_operation, op_at, Arrangement, is_arrangement, arrangement_at, bits_of_lane}
+use Rattle.neon.specs.Form.{has_form, least, most, has_second}
+use Rattle.neon.specs.Refusal.{form_number, Formed, short_element, most_m, registers_ok, record_number, Legal}
 
-pub formed : (operation arrangement i rest : ℕ) → formNumber operation arrangement i rest ≡ 0 → Formed operation arrangement i × (rest ≡ 0)
+pub formed : (operation arrangement i rest : ℕ) → form_number operation arrangement i rest ≡ 0 → Formed operation arrangement i × (rest ≡ 0)
 formed operation arrangement i rest e =
-    let o = opAt operation in
-    let v = arrangementAt arrangement in
-    let p = passed (isOperation operation) (λ z. omega arith) e in
-    let q = passed (isArrangement arrangement && hasForm o v) (λ z. omega arith) p.1 in
-    let s = passed (leb (least o) i && leb i (most o (laneBits v))) (λ z. omega arith) q.1 in
+    let o = op_at operation in
+    let v = arrangement_at arrangement in
+    let p = passed (is_operation operation) (λ z. omega arith) e in
+    let q = passed (is_arrangement arrangement && has_form o v) (λ z. omega arith) p.1 in
+    let s = passed (leb (least o) i && leb i (most o (bits_of_lane v))) (λ z. omega arith) q.1 in
     let pp = and_both (leb 1 operation) (leb operation 67) p.0 in
-    let qq = and_both (isArrangement arrangement) (hasForm o v) q.0 in
-    let ss = and_both (leb (least o) i) (leb i (most o (laneBits v))) s.0 in (
+    let qq = and_both (is_arrangement arrangement) (has_form o v) q.0 in
+    let ss = and_both (leb (least o) i) (leb i (most o (bits_of_lane v))) s.0 in (
       record {
         from_one = leb-true _ _ pp.0;
         to_last = leb-true _ _ pp.1;
@@ -38,20 +38,20 @@ pub record Accepted (c : Instruction) : Type 0 where
   pub form_of : Formed c.operation c.arrangement c.i
   pub at-d : c.d ≤ 31
   pub at_n : c.n ≤ 31
-  pub at-m : c.m ≤ mostM (opAt c.operation) (arrangementAt c.arrangement)
+  pub at-m : c.m ≤ most_m (op_at c.operation) (arrangement_at c.arrangement)
 
 pub accepted : (c : Instruction) → Legal c → Accepted c
-unfolding recordNumber
+unfolding record_number
 accepted c e =
-    let f = formed c.operation c.arrangement c.i (unless (registersOk c) 7 0) e in
-    let p = passed (registersOk c) (λ z. omega arith) f.1 in
-    let q = and_both (leb c.d 31 && leb c.n 31) (leb c.m (mostM (opAt c.operation) (arrangementAt c.arrangement))) p.0 in
+    let f = formed c.operation c.arrangement c.i (unless (registers_ok c) 7 0) e in
+    let p = passed (registers_ok c) (λ z. omega arith) f.1 in
+    let q = and_both (leb c.d 31 && leb c.n 31) (leb c.m (most_m (op_at c.operation) (arrangement_at c.arrangement))) p.0 in
     let s = and_both (leb c.d 31) (leb c.n 31) q.0 in
     record { form_of = f.0; at-d = leb-true _ _ s.0; at_n = leb-true _ _ s.1; at-m = leb-true _ _ q.1 }
 
 -- m names a register in any case
-pub m-le : (o : Op) (v : Arrangement) → mostM o v ≤ 31
-m-le o v = go (hasSecond o) (shortElement o v)
+pub m-le : (o : Op) (v : Arrangement) → most_m o v ≤ 31
+m-le o v = go (has_second o) (short_element o v)
   where
     go : (b s : Bool) → cond b (cond s 15 31) 0 ≤ 31
     go true true = omega arith
@@ -61,7 +61,7 @@ m-le o v = go (hasSecond o) (shortElement o v)
 pub registers-in : (c : Instruction) → Legal c → (c.d < 32) × (c.n < 32) × (c.m < 32)
 registers-in c l =
     let a = accepted c l in
-    (omega (arith, a.at-d), omega (arith, a.at_n), omega (arith, a.at-m, m-le (opAt c.operation) (arrangementAt c.arrangement)))
+    (omega (arith, a.at-d), omega (arith, a.at_n), omega (arith, a.at-m, m-le (op_at c.operation) (arrangement_at c.arrangement)))
 
 -- ---- what follows the tests on the form is looked at if they pass, and only then
 
@@ -80,15 +80,15 @@ first_of false b c rest f = refl
 
 module _ (operation arrangement i rest : ℕ) where
   abbrev o : Op
-  o = opAt operation
+  o = op_at operation
 
   abbrev v : Arrangement
-  v = arrangementAt arrangement
+  v = arrangement_at arrangement
 
-  pub form-rest : formNumber operation arrangement i 0 ≡ 0 → formNumber operation arrangement i rest ≡ rest
+  pub form-rest : form_number operation arrangement i 0 ≡ 0 → form_number operation arrangement i rest ≡ rest
   form-rest e =
-      rest_of (isOperation operation) (isArrangement arrangement && hasForm o v) (leb (least o) i && leb i (most o (laneBits v))) rest e
+      rest_of (is_operation operation) (is_arrangement arrangement && has_form o v) (leb (least o) i && leb i (most o (bits_of_lane v))) rest e
 
-  pub form-first : (formNumber operation arrangement i 0 ≡ 0 → ⊥) → formNumber operation arrangement i 0 ≡ formNumber operation arrangement i rest
+  pub form-first : (form_number operation arrangement i 0 ≡ 0 → ⊥) → form_number operation arrangement i 0 ≡ form_number operation arrangement i rest
   form-first f =
-      first_of (isOperation operation) (isArrangement arrangement && hasForm o v) (leb (least o) i && leb i (most o (laneBits v))) rest f
+      first_of (is_operation operation) (is_arrangement arrangement && has_form o v) (leb (least o) i && leb i (most o (bits_of_lane v))) rest f

@@ -1,7 +1,7 @@
 -- The forms of each operation, after the Arm Architecture Reference Manual (document 01, "Forms"): its source lanes, immediates,
 -- arrangements and the registers that it reads.
 use Rattle.std.specs.Prelude.{Bool, true, false, cond, ◌&&◌, ◌||◌, ℕ, ◌+◌, ◌-◌, ◌*◌, ◌/◌, leb, eqb}
-use Rattle.neon.specs.Op.{Op, opAt, isOperation, Arrangement, arrangementAt, isArrangement, laneBits, full, bitsIf}
+use Rattle.neon.specs.Op.{Op, op_at, is_operation, Arrangement, arrangement_at, is_arrangement, bits_of_lane, full, bits_if}
 
 -- a source lane has the result's bits; twice as many; or half as many, from the lower or the upper lanes
 pub data Lanes : Type 0 where
@@ -98,21 +98,21 @@ form Op.RADDHN = row Narrow None Not2D NM
 form Op.SUBHN = row Narrow None Not2D NM
 form Op.RSUBHN = row Narrow None Not2D NM
 
-abbrev pub inClass : Class → Arrangement → Bool
-inClass Every v = true
-inClass Not2D v = leb (laneBits v) 32
-inClass From4HTo4S v = leb 16 (laneBits v) && leb (laneBits v) 32
-inClass From4S v = leb 32 (laneBits v) && full v
-inClass Bytes v = eqb (laneBits v) 8
+abbrev pub in_class : Class → Arrangement → Bool
+in_class Every v = true
+in_class Not2D v = leb (bits_of_lane v) 32
+in_class From4HTo4S v = leb 16 (bits_of_lane v) && leb (bits_of_lane v) 32
+in_class From4S v = leb 32 (bits_of_lane v) && full v
+in_class Bytes v = eqb (bits_of_lane v) 8
 
-abbrev pub hasForm : Op → Arrangement → Bool
-hasForm o v = inClass (form o).class v
+abbrev pub has_form : Op → Arrangement → Bool
+has_form o v = in_class (form o).class v
 
-abbrev pub leastOf : Immediate → ℕ
-leastOf None = 0
-leastOf Left = 0
-leastOf Right = 1
-leastOf Element = 0
+abbrev pub least_of : Immediate → ℕ
+least_of None = 0
+least_of Left = 0
+least_of Right = 1
+least_of Element = 0
 
 -- an element has n / 2 bits of the register's 128
 abbrev pub most_of : Immediate → ℕ → ℕ
@@ -121,36 +121,36 @@ most_of Left n = n - 1
 most_of Right n = n
 most_of Element n = 256 / n - 1
 
-abbrev pub isElement : Immediate → Bool
-isElement None = false
-isElement Left = false
-isElement Right = false
-isElement Element = true
+abbrev pub is_element : Immediate → Bool
+is_element None = false
+is_element Left = false
+is_element Right = false
+is_element Element = true
 
-abbrev pub byElement : Op → Bool
-byElement o = isElement (form o).immediate
+abbrev pub by_element : Op → Bool
+by_element o = is_element (form o).immediate
 
 abbrev pub least : Op → ℕ
-least o = leastOf (form o).immediate
+least o = least_of (form o).immediate
 
 abbrev pub most : Op → ℕ → ℕ
 most o n = most_of (form o).immediate n
 
 -- whether m is read, and d
-abbrev pub mIn : Reads → Bool
-mIn N = false
-mIn NM = true
-mIn DN = false
-mIn DNM = true
+abbrev pub m_in : Reads → Bool
+m_in N = false
+m_in NM = true
+m_in DN = false
+m_in DNM = true
 
-abbrev pub dIn : Reads → Bool
-dIn N = false
-dIn NM = false
-dIn DN = true
-dIn DNM = true
+abbrev pub d_in : Reads → Bool
+d_in N = false
+d_in NM = false
+d_in DN = true
+d_in DNM = true
 
-abbrev pub hasSecond : Op → Bool
-hasSecond o = mIn (form o).reads
+abbrev pub has_second : Op → Bool
+has_second o = m_in (form o).reads
 
 abbrev pub is_narrow : Lanes → Bool
 is_narrow Same = false
@@ -158,66 +158,66 @@ is_narrow Narrow = true
 is_narrow (Long u) = false
 
 -- a narrowing "2" form keeps half of d
-abbrev pub readsD : Op → Arrangement → Bool
-readsD o v = dIn (form o).reads || is_narrow (form o).lanes && full v
+abbrev pub reads_d : Op → Arrangement → Bool
+reads_d o v = d_in (form o).reads || is_narrow (form o).lanes && full v
 
 -- whether the first source is read at 128 bits, and the second; d is read at the view
-abbrev pub firstFull : Lanes → Bool → Bool
-firstFull Same whole = whole
-firstFull Narrow whole = true
-firstFull (Long u) whole = u
+abbrev pub first_full : Lanes → Bool → Bool
+first_full Same whole = whole
+first_full Narrow whole = true
+first_full (Long u) whole = u
 
-abbrev pub secondFull : Lanes → (element : Bool) → Bool → Bool
-secondFull Same e whole = whole
-secondFull Narrow e whole = true
-secondFull (Long u) e whole = u || e
+abbrev pub second_full : Lanes → (element : Bool) → Bool → Bool
+second_full Same e whole = whole
+second_full Narrow e whole = true
+second_full (Long u) e whole = u || e
 
-abbrev pub firstBits : Op → Arrangement → ℕ
-firstBits o v = bitsIf (firstFull (form o).lanes (full v))
+abbrev pub first_bits : Op → Arrangement → ℕ
+first_bits o v = bits_if (first_full (form o).lanes (full v))
 
-abbrev pub secondBits : Op → Arrangement → ℕ
-secondBits o v = bitsIf (secondFull (form o).lanes (byElement o) (full v))
+abbrev pub second_bits : Op → Arrangement → ℕ
+second_bits o v = bits_if (second_full (form o).lanes (by_element o) (full v))
 
 -- the bits of a source lane
-abbrev pub sourceBits : Lanes → ℕ → ℕ
-sourceBits Same n = n
-sourceBits Narrow n = n * 2
-sourceBits (Long u) n = n / 2
+abbrev pub source_bits : Lanes → ℕ → ℕ
+source_bits Same n = n
+source_bits Narrow n = n * 2
+source_bits (Long u) n = n / 2
 
 -- the bits that are made: 64 if the lanes narrow, else the view
-abbrev pub madeBits : Lanes → Bool → ℕ
-madeBits l whole = cond (is_narrow l) 64 (bitsIf whole)
+abbrev pub made_bits : Lanes → Bool → ℕ
+made_bits l whole = cond (is_narrow l) 64 (bits_if whole)
 
-abbrev pub laneCount : Op → Arrangement → ℕ
-laneCount o v = madeBits (form o).lanes (full v) / laneBits v
+abbrev pub lane_count : Op → Arrangement → ℕ
+lane_count o v = made_bits (form o).lanes (full v) / bits_of_lane v
 
 -- the lane of the first source, and of the second, that goes into lane j of the k lanes of the result
-abbrev pub firstLane : Lanes → ℕ → ℕ → ℕ
-firstLane Same k j = j
-firstLane Narrow k j = j
-firstLane (Long u) k j = cond u (j + k) j
+abbrev pub first_lane : Lanes → ℕ → ℕ → ℕ
+first_lane Same k j = j
+first_lane Narrow k j = j
+first_lane (Long u) k j = cond u (j + k) j
 
-abbrev pub secondLane : Lanes → (element : Bool) → ℕ → ℕ → ℕ → ℕ
-secondLane Same e k i j = j
-secondLane Narrow e k i j = j
-secondLane (Long u) e k i j = cond e i (cond u (j + k) j)
+abbrev pub second_lane : Lanes → (element : Bool) → ℕ → ℕ → ℕ → ℕ
+second_lane Same e k i j = j
+second_lane Narrow e k i j = j
+second_lane (Long u) e k i j = cond e i (cond u (j + k) j)
 
 abbrev pub flag : Bool → ℕ → ℕ
 flag b k = cond b k 0
 
-abbrev pub immediateCode : Immediate → ℕ
-immediateCode None = 1
-immediateCode Left = 2
-immediateCode Right = 3
-immediateCode Element = 4
+abbrev pub immediate_code : Immediate → ℕ
+immediate_code None = 1
+immediate_code Left = 2
+immediate_code Right = 3
+immediate_code Element = 4
 
 -- one byte for each operation and arrangement, 0 if there is no such form
-unfoldable pub formCode : Op → Arrangement → ℕ
-formCode o v =
-    flag (hasForm o v)
-    (immediateCode (form o).immediate + flag (hasSecond o) 8 + flag (readsD o v) 16 + flag (firstFull (form o).lanes (full v)) 32
-    + flag (secondFull (form o).lanes (byElement o) (full v)) 64)
+unfoldable pub form_code : Op → Arrangement → ℕ
+form_code o v =
+    flag (has_form o v)
+    (immediate_code (form o).immediate + flag (has_second o) 8 + flag (reads_d o v) 16 + flag (first_full (form o).lanes (full v)) 32
+    + flag (second_full (form o).lanes (by_element o) (full v)) 64)
 
 -- by number, 0 if a number names nothing
-unfoldable pub formCodeAt : ℕ → ℕ → ℕ
-formCodeAt operation arrangement = flag (isOperation operation && isArrangement arrangement) (formCode (opAt operation) (arrangementAt arrangement))
+unfoldable pub form_code_at : ℕ → ℕ → ℕ
+form_code_at operation arrangement = flag (is_operation operation && is_arrangement arrangement) (form_code (op_at operation) (arrangement_at arrangement))

@@ -18,11 +18,11 @@ operations =
     SQDMLSLE ∷ SQDMULL2E ∷ SQDMLAL2E ∷ SQDMLSL2E ∷ SUQADD ∷ USQADD ∷ SABD ∷ UABD ∷ SABA ∷ UABA ∷ CNT ∷ CLZ ∷ CLS ∷ RBIT ∷ ADDHN ∷ RADDHN ∷ SUBHN ∷
     RSUBHN ∷ []
 
-abbrev pub isOperation : ℕ → Bool
-isOperation k = leb 1 k && leb k 67
+abbrev pub is_operation : ℕ → Bool
+is_operation k = leb 1 k && leb k 67
 
-unfoldable pub opAt : ℕ → Op
-opAt k = get_or operations (k - 1) SHL
+unfoldable pub op_at : ℕ → Op
+op_at k = get_or operations (k - 1) SHL
 
 pub data Arrangement : Type 0 where
   B8 B16 H4 H8 S2 S4 D2 : Arrangement
@@ -31,21 +31,21 @@ pub data Arrangement : Type 0 where
 unfoldable pub arrangements : List Arrangement
 arrangements = B8 ∷ B16 ∷ H4 ∷ H8 ∷ S2 ∷ S4 ∷ D2 ∷ []
 
-abbrev pub isArrangement : ℕ → Bool
-isArrangement k = leb k 6
+abbrev pub is_arrangement : ℕ → Bool
+is_arrangement k = leb k 6
 
-unfoldable pub arrangementAt : ℕ → Arrangement
-arrangementAt k = get_or arrangements k B8
+unfoldable pub arrangement_at : ℕ → Arrangement
+arrangement_at k = get_or arrangements k B8
 
 -- the bits of a destination lane, document 01's n
-abbrev pub laneBits : Arrangement → ℕ
-laneBits B8 = 8
-laneBits B16 = 8
-laneBits H4 = 16
-laneBits H8 = 16
-laneBits S2 = 32
-laneBits S4 = 32
-laneBits D2 = 64
+abbrev pub bits_of_lane : Arrangement → ℕ
+bits_of_lane B8 = 8
+bits_of_lane B16 = 8
+bits_of_lane H4 = 16
+bits_of_lane H8 = 16
+bits_of_lane S2 = 32
+bits_of_lane S4 = 32
+bits_of_lane D2 = 64
 
 -- whether the view has 128 bits, else it has 64
 abbrev pub full : Arrangement → Bool
@@ -57,8 +57,8 @@ full S2 = false
 full S4 = true
 full D2 = true
 
-abbrev pub bitsIf : Bool → ℕ
-bitsIf f = cond f 128 64
+abbrev pub bits_if : Bool → ℕ
+bits_if f = cond f 128 64
 
 abbrev pub view : Arrangement → ℕ
-view v = bitsIf (full v)
+view v = bits_if (full v)

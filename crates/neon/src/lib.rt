@@ -1,9 +1,9 @@
 // NEON instructions: records, lanes and the table of legal forms. What an instruction computes is in specs/.
 ghost use Rattle.std.specs.Prelude.{◌≡◌};
-ghost use Rattle.neon.specs.Form.{formCodeAt};
+ghost use Rattle.neon.specs.Form.{form_code_at};
 
 // A record of a block. d, n and m are registers; m is 0 if there is no second source.
-#[derive(Drop)]
+#[derive(Clone, Copy)]
 pub struct Instruction {
     pub operation: u64,
     pub arrangement: u64,
@@ -14,7 +14,7 @@ pub struct Instruction {
 }
 
 // The number of a lane, lane 0 lowest.
-#[derive(Drop)]
+#[derive(Clone, Copy)]
 pub struct Lane(pub u64);
 
 impl Lane {
@@ -103,7 +103,7 @@ const FORMS: [u64; 67] = [
 
 // The form code of an operation at an arrangement, 0 for numbers that name none.
 pub fn form_code(operation: u64, arrangement: u64) -> u64
-    ensures { result ≡ formCodeAt operation arrangement }
+    ensures { result ≡ form_code_at operation arrangement }
 {
     if operation < 1 {
         return 0;

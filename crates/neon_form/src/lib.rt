@@ -1,14 +1,14 @@
 // The form of an operation at an arrangement: whether the manual has it, and what its code says.
 ghost use Rattle.std.specs.Prelude.{◌≡◌, ◌≤◌};
-ghost use Rattle.neon.specs.Op.{arrangementAt, laneBits, full};
-ghost use Rattle.neon.specs.Form.{form, least, most, hasSecond, readsD, firstFull, secondFull, byElement};
-ghost use Rattle.neon.specs.Refusal.{formNumber};
+ghost use Rattle.neon.specs.Op.{arrangement_at, bits_of_lane, full};
+ghost use Rattle.neon.specs.Form.{form, least, most, has_second, reads_d, first_full, second_full, by_element};
+ghost use Rattle.neon.specs.Refusal.{form_number};
 ghost use Rattle.neon_form.specs.Code.{OfCode};
 
 // The bits of a destination lane.
 pub fn lane_bits(arrangement: u64) -> u64
     requires { arrangement ≤ 6 }
-    ensures { result ≡ laneBits (arrangementAt arrangement) }
+    ensures { result ≡ bits_of_lane (arrangement_at arrangement) }
 {
     match arrangement {
         0 => 8,
@@ -24,7 +24,7 @@ pub fn lane_bits(arrangement: u64) -> u64
 // Whether the view has 128 bits.
 pub fn is_full(arrangement: u64) -> bool
     requires { arrangement ≤ 6 }
-    ensures { result ≡ full (arrangementAt arrangement) }
+    ensures { result ≡ full (arrangement_at arrangement) }
 {
     match arrangement {
         0 => false,
@@ -39,35 +39,35 @@ pub fn is_full(arrangement: u64) -> bool
 
 // Whether a form code has a second source.
 pub fn has_second(code: u64) -> bool
-    ensures { OfCode code (λ o v. result ≡ hasSecond o) }
+    ensures { OfCode code (λ o v. result ≡ has_second o) }
 {
     code / 8 % 2 == 1
 }
 
 // Whether d is read.
 pub fn reads_d(code: u64) -> bool
-    ensures { OfCode code (λ o v. result ≡ readsD o v) }
+    ensures { OfCode code (λ o v. result ≡ reads_d o v) }
 {
     code / 16 % 2 == 1
 }
 
 // Whether the first source is read at 128 bits.
 pub fn first_full(code: u64) -> bool
-    ensures { OfCode code (λ o v. result ≡ firstFull (form o).lanes (full v)) }
+    ensures { OfCode code (λ o v. result ≡ first_full (form o).lanes (full v)) }
 {
     code / 32 % 2 == 1
 }
 
 // Whether the second source is.
 pub fn second_full(code: u64) -> bool
-    ensures { OfCode code (λ o v. result ≡ secondFull (form o).lanes (byElement o) (full v)) }
+    ensures { OfCode code (λ o v. result ≡ second_full (form o).lanes (by_element o) (full v)) }
 {
     code / 64 % 2 == 1
 }
 
 // Whether the second source is one element.
 pub fn by_element(code: u64) -> bool
-    ensures { OfCode code (λ o v. result ≡ byElement o) }
+    ensures { OfCode code (λ o v. result ≡ by_element o) }
 {
     code % 8 == 4
 }
@@ -95,7 +95,7 @@ pub fn most_immediate(code: u64, bits: u64) -> u64
 
 // 2, 3 or 4 for the first of operation, form and immediate that the manual has not, else 0.
 pub fn form_number(operation: u64, arrangement: u64, i: u64) -> u64
-    ensures { result ≡ formNumber operation arrangement i 0 }
+    ensures { result ≡ form_number operation arrangement i 0 }
 {
     if operation < 1 {
         return 2;

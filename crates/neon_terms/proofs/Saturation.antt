@@ -4,8 +4,8 @@ use mathlib.Core.List.{List}
 use Prim.Native.Nat.{ℕ}
 use lib.ListN.{get_or}
 use Rattle.terms.specs.Value.{value}
-use Rattle.pool.specs.Unfold.{unfoldAt}
-use Rattle.wide.specs.Registers.{registersOf}
+use Rattle.pool.specs.Unfold.{unfold_at}
+use Rattle.wide.specs.Registers.{registers_of}
 use Rattle.block_results.proofs.Putting.{flagged-node, flagged-bit}
 use Rattle.saturation_block.proofs.Equal as flagged
 use Rattle.run_agreement.proofs.Equal.{runner-is-flagged}
@@ -13,13 +13,13 @@ use Rattle.neon_terms.specs.Demand.{BitHolds, FlaggedRegistersHold, FlaggedEqual
 
 pub bit-holds : BitHolds
 bit-holds old cs new results number (a, answered, same, words) z start =
-    ap (λ (n : ℕ). value start (unfoldAt new n)) (ap (λ (ws : List ℕ). get_or ws 34 0) words ∙ flagged-bit a.map a.position a.bit.0)
+    ap (λ (n : ℕ). value start (unfold_at new n)) (ap (λ (ws : List ℕ). get_or ws 34 0) words ∙ flagged-bit a.map a.position a.bit.0)
     ∙ flagged.bit-holds old cs new a answered (sym same ∙ z) start
 
 pub flagged-registers-hold : FlaggedRegistersHold
 flagged-registers-hold old cs new results number (a, answered, same, words) z start r l =
     flagged.registers-hold old cs new a answered (sym same ∙ z) start r l
-    ∙ ap (λ (n : ℕ). value start (unfoldAt new n)) (sym (ap (λ (ws : List ℕ). get_or ws r 0) words ∙ flagged-node a.map a.position a.bit.0 r l))
+    ∙ ap (λ (n : ℕ). value start (unfold_at new n)) (sym (ap (λ (ws : List ℕ). get_or ws r 0) words ∙ flagged-node a.map a.position a.bit.0 r l))
 
 pub flagged-equal-when-terms-are : FlaggedEqualWhenTermsAre
 flagged-equal-when-terms-are old cs new results number h z old' cs' new' results' number' h' z' start r r' l l' =
@@ -37,5 +37,5 @@ runner-agrees old cs new results number (a, answered, same, words) z start after
     let agreed = runner-is-flagged old cs new a answered (sym same ∙ z) start k (get_or ws 0 0) after saturated ran flag in (
       agreed.0,
       at ∙ agreed.2
-          ∙ ap (λ (n : ℕ). value (registersOf start) (unfoldAt new n)) (sym (ap (λ (xs : List ℕ). get_or xs 34 0) words ∙ flagged-bit a.map a.position a.bit.0)),
+          ∙ ap (λ (n : ℕ). value (registers_of start) (unfold_at new n)) (sym (ap (λ (xs : List ℕ). get_or xs 34 0) words ∙ flagged-bit a.map a.position a.bit.0)),
     )

@@ -11,13 +11,13 @@ mod version;
 mod words;
 
 ghost use Rattle.std.specs.Prelude.{◌≡◌};
-ghost use Rattle.neon.specs.Form.{formCodeAt};
-ghost use Rattle.pool.specs.Rules.{poolOk};
+ghost use Rattle.neon.specs.Form.{form_code_at};
+ghost use Rattle.pool.specs.Rules.{pool_ok};
 ghost use Rattle.text.specs.Answer.{Answered as TextAnswered};
 ghost use Rattle.text_length.specs.Answer.{Measured};
 ghost use Rattle.pool_registers.specs.Answer.{Named};
 ghost use Rattle.instruction.specs.Lowering.{Answers};
-ghost use Rattle.block_check.specs.Records.{recordsOf};
+ghost use Rattle.block_check.specs.Records.{records_of};
 ghost use Rattle.neon_terms.specs.Results.{BlockGiven};
 
 use block_results::answer_words;
@@ -25,14 +25,14 @@ use block_results::answer_words;
 // The form code of crate `neon`: what an operation reads at an arrangement, and 0 if there is no such form.
 #[unsafe(no_mangle)]
 pub extern "C" fn neon_form_code(operation: u64, arrangement: u64) -> u64
-    ensures { result ≡ formCodeAt operation arrangement }
+    ensures { result ≡ form_code_at operation arrangement }
 {
     neon::form_code(operation, arrangement)
 }
 
 #[unsafe(no_mangle)]
 pub extern "C" fn neon_pool_check(pool: &[u64], count: usize) -> bool
-    ensures { result ≡ poolOk pool.now count }
+    ensures { result ≡ pool_ok pool.now count }
 {
     pool_check::pool_check(pool, count)
 }
@@ -66,7 +66,7 @@ pub extern "C" fn neon_lower_block(
     records: &[u64],
     results: &mut [u64; 34],
 ) -> u64
-    ensures { BlockGiven pool.old (recordsOf records.now) pool.new results.new result }
+    ensures { BlockGiven pool.old (records_of records.now) pool.new results.new result }
 {
     let answer = block::lower_block(pool, records);
     let map = answer.map;

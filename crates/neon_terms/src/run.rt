@@ -1,7 +1,7 @@
 // A block on the device's numbers.
 ghost use Rattle.std.specs.Prelude.{◌≡◌};
 ghost use Rattle.terms.specs.Value.{bit};
-ghost use Rattle.block_check.specs.Records.{recordsOf};
+ghost use Rattle.block_check.specs.Records.{records_of};
 ghost use Rattle.neon_terms.specs.Results.{RunGiven};
 
 use run_block::Registers;
@@ -23,7 +23,7 @@ pub extern "C" fn neon_run_block(
     records: &[u64],
     results: &mut [u64; 2],
 ) -> u64
-    ensures { RunGiven registers.old (recordsOf records.now) registers.new results.new result }
+    ensures { RunGiven registers.old (records_of records.now) registers.new results.new result }
 {
     let words = *registers;
     let answer = run_block::run(Registers { words }, records);

@@ -1,5 +1,5 @@
 // A block with its saturation bit.
-ghost use Rattle.block_check.specs.Records.{recordsOf};
+ghost use Rattle.block_check.specs.Records.{records_of};
 ghost use Rattle.neon_terms.specs.Results.{SaturationGiven};
 
 use block_results::flagged_words;
@@ -11,7 +11,7 @@ pub extern "C" fn neon_lower_block_saturation(
     records: &[u64],
     results: &mut [u64; 35],
 ) -> u64
-    ensures { SaturationGiven pool.old (recordsOf records.now) pool.new results.new result }
+    ensures { SaturationGiven pool.old (records_of records.now) pool.new results.new result }
 {
     let answer = saturation_block::lower_block_saturation(pool, records);
     let map = answer.map;

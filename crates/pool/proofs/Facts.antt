@@ -14,7 +14,7 @@ use Rattle.facts.proofs.Table.{tabulate, entry}
 use Rattle.terms.specs.Expr.{Expr, Var, Const, Bv, Compare, Ite, Extract, Concat, ZeroExtend, SignExtend, width}
 use Rattle.terms.specs.Rules.{Good}
 use Rattle.pool.specs.Node.{bad, extract, kinds, kind_at, code_of, Cell, cell_at, width_at, set_at}
-use Rattle.pool.specs.Rules.{widthBefore, setRule, okKind, okCell, okNode, okPool, Valid}
+use Rattle.pool.specs.Rules.{width_before, set_rule, ok_kind, ok_cell, ok_node, ok_pool, Valid}
 
 -- the twenty numbers are those of their kinds, as antt computes; any other is bad
 code_below : (n : ℕ) → n < 20 → code_of (kind_at n) ≡ n
@@ -29,20 +29,20 @@ kind-code n = go (ltb n 20) refl
     go false e = inl (unfold kind_at kinds in get_or-eq_default kinds bad (ltb-false n 20 e))
 
 -- each node of a valid pool keeps the rules
-both-rules : (ws : List ℕ) (k n : ℕ) → Valid ws k → n < k → okNode ws n ≡ true
-unfolding okPool
+both-rules : (ws : List ℕ) (k n : ℕ) → Valid ws k → n < k → ok_node ws n ≡ true
+unfolding ok_pool
 both-rules ws zero n v l = absurd (not-suc-le-zero l)
 both-rules ws (suc k) n v l =
-    let p = and_both (okPool ws k) (okNode ws k) v in
-    ⊎_elim (λ e. subst (λ (m : ℕ). okNode ws m ≡ true) (sym e) p.1) (λ h. both-rules ws k n p.0 h) (eq-or-lt_of_le (le_of_suc-le-suc l))
+    let p = and_both (ok_pool ws k) (ok_node ws k) v in
+    ⊎_elim (λ e. subst (λ (m : ℕ). ok_node ws m ≡ true) (sym e) p.1) (λ h. both-rules ws k n p.0 h) (eq-or-lt_of_le (le_of_suc-le-suc l))
 
 -- that of its kind
-pub valid-node : (ws : List ℕ) (k n : ℕ) → Valid ws k → n < k → okCell ws n (cell_at ws n) ≡ true
-valid-node ws k n v l = (and_both (okCell ws n (cell_at ws n)) _ (both-rules ws k n v l)).0
+pub valid-node : (ws : List ℕ) (k n : ℕ) → Valid ws k → n < k → ok_cell ws n (cell_at ws n) ≡ true
+valid-node ws k n v l = (and_both (ok_cell ws n (cell_at ws n)) _ (both-rules ws k n v l)).0
 
 -- and that of its set
-pub valid-set : (ws : List ℕ) (k n : ℕ) → Valid ws k → n < k → set_at ws n ≡ setRule ws n (cell_at ws n)
-valid-set ws k n v l = eqb-true _ _ (and_both (okCell ws n (cell_at ws n)) _ (both-rules ws k n v l)).1
+pub valid-set : (ws : List ℕ) (k n : ℕ) → Valid ws k → n < k → set_at ws n ≡ set_rule ws n (cell_at ws n)
+valid-set ws k n v l = eqb-true _ _ (and_both (ok_cell ws n (cell_at ws n)) _ (both-rules ws k n v l)).1
 
 -- what the rules say of an Extract
 pub record ExtractRule (ws : List ℕ) (n : ℕ) (c : Cell) : Type 0 where
@@ -51,7 +51,7 @@ pub record ExtractRule (ws : List ℕ) (n : ℕ) (c : Cell) : Type 0 where
   pub inside : c.x < width_at ws c.a
   pub wide_is : c.width ≡ c.x - c.y + 1
 
-pub extract-rule : (ws : List ℕ) (n : ℕ) (c : Cell) → okKind extract n c (widthBefore ws n c.a) (widthBefore ws n c.b) (widthBefore ws n c.c) ≡ true
+pub extract-rule : (ws : List ℕ) (n : ℕ) (c : Cell) → ok_kind extract n c (width_before ws n c.a) (width_before ws n c.b) (width_before ws n c.c) ≡ true
     → ExtractRule ws n c
 extract-rule ws n c h =
     let p5 = and_both _ _ h in

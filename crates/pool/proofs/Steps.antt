@@ -43,22 +43,22 @@ abbrev pub clears : List ℕ → List Entry → List Entry
 clears [] l = l
 clears (j ∷ js) l = clear j (clears js l)
 
-abbrev pub nodeAt : List Entry → ℕ → ℕ
-nodeAt [] j = 0
-nodeAt (e ∷ l) zero = e.node
-nodeAt (e ∷ l) (suc j) = nodeAt l j
+abbrev pub node_at : List Entry → ℕ → ℕ
+node_at [] j = 0
+node_at (e ∷ l) zero = e.node
+node_at (e ∷ l) (suc j) = node_at l j
 
 abbrev pub picks : List Entry → List ℕ → List ℕ
 picks l [] = []
-picks l (j ∷ js) = nodeAt l j ∷ picks l js
+picks l (j ∷ js) = node_at l j ∷ picks l js
 
-abbrev pub nodeIf : Bool → ℕ → List ℕ → List ℕ
-nodeIf true n l = n ∷ l
-nodeIf false n l = l
+abbrev pub node_if : Bool → ℕ → List ℕ → List ℕ
+node_if true n l = n ∷ l
+node_if false n l = l
 
-abbrev pub liveNodes : List Entry → List ℕ
-liveNodes [] = []
-liveNodes (e ∷ l) = nodeIf e.live e.node (liveNodes l)
+abbrev pub live_nodes : List Entry → List ℕ
+live_nodes [] = []
+live_nodes (e ∷ l) = node_if e.live e.node (live_nodes l)
 
 -- m is reached from an entry whose flag is up
 abbrev pub Lives : List ℕ → List Entry → ℕ → Type 0
@@ -95,14 +95,14 @@ all-clears : (ws : List ℕ) (c : ℕ) (js : List ℕ) (l : List Entry) → All 
 all-clears ws c [] l h = h
 all-clears ws c (j ∷ js) l h = all-clear ws c j (clears js l) (all-clears ws c js l h)
 
-node-clear : (i : ℕ) (l : List Entry) (j : ℕ) → nodeAt (clear i l) j ≡ nodeAt l j
+node-clear : (i : ℕ) (l : List Entry) (j : ℕ) → node_at (clear i l) j ≡ node_at l j
 node-clear i [] j = refl
 node-clear zero (e ∷ l) zero = refl
 node-clear zero (e ∷ l) (suc j) = refl
 node-clear (suc i) (e ∷ l) zero = refl
 node-clear (suc i) (e ∷ l) (suc j) = node-clear i l j
 
-node-clears : (js : List ℕ) (l : List Entry) (j : ℕ) → nodeAt (clears js l) j ≡ nodeAt l j
+node-clears : (js : List ℕ) (l : List Entry) (j : ℕ) → node_at (clears js l) j ≡ node_at l j
 node-clears [] l j = refl
 node-clears (i ∷ js) l j = node-clear i (clears js l) j ∙ node-clears js l j
 
@@ -110,7 +110,7 @@ lives-kept : {a b : List ℕ} {k k' : ℕ} → Grown a k b k' → (l : List Entr
 lives-kept g [] m h x = x
 lives-kept g (e ∷ l) m h x = ⊎_elim (λ y. inl (y.0, reach-kept g h.0.under y.1)) (λ y. inr (lives-kept g l m h.1 y)) x
 
-lives-clear : (ws : List ℕ) (r j : ℕ) (l : List Entry) (m : ℕ) → Reach ws r (nodeAt l j) → Lives ws l m → Reach ws r m ⊎ Lives ws (clear j l) m
+lives-clear : (ws : List ℕ) (r j : ℕ) (l : List Entry) (m : ℕ) → Reach ws r (node_at l j) → Lives ws l m → Reach ws r m ⊎ Lives ws (clear j l) m
 lives-clear ws r j [] m h x = absurd x
 lives-clear ws r zero (e ∷ l) m h x = ⊎_elim (λ y. inl (reach-trans h y.1)) (λ y. inr (inr y)) x
 lives-clear ws r (suc j) (e ∷ l) m h x = ⊎_elim (λ y. inr (inl y)) (λ y. ⊎_elim inl (λ z. inr (inr z)) (lives-clear ws r j l m h y)) x
@@ -126,16 +126,16 @@ all_live ws ws' l l' (m ∷ ms) f h = (f m h.0, all_live ws ws' l l' ms f h.1)
 
 -- ---- the run
 
-live-next : (ws : List ℕ) (l : List Entry) (e : Entry) (b : Bool) (ms : List ℕ) → e.live ≡ b → AllLive ws (e ∷ l) ms → AllLive ws (e ∷ l) (nodeIf b e.node ms)
+live-next : (ws : List ℕ) (l : List Entry) (e : Entry) (b : Bool) (ms : List ℕ) → e.live ≡ b → AllLive ws (e ∷ l) ms → AllLive ws (e ∷ l) (node_if b e.node ms)
 live-next ws l e true ms q h = (inl (subst (λ (b : Bool). T b) (sym q) tt, Reach.here), h)
 live-next ws l e false ms q h = h
 
-live-self : (ws : List ℕ) (l : List Entry) → AllLive ws l (liveNodes l)
+live-self : (ws : List ℕ) (l : List Entry) → AllLive ws l (live_nodes l)
 live-self ws [] = tt
-live-self ws (e ∷ l) = live-next ws l e e.live (liveNodes l) refl (all_live ws ws l (e ∷ l) (liveNodes l) (λ m x. inr x) (live-self ws l))
+live-self ws (e ∷ l) = live-next ws l e e.live (live_nodes l) refl (all_live ws ws l (e ∷ l) (live_nodes l) (λ m x. inr x) (live-self ws l))
 
 -- it begins with nodes of the pool, of which the answer has to reach those whose flag is up
-pub start : {ws : List ℕ} {k : ℕ} → Valid ws k → (l : List Entry) → All ws k l → St ws k (liveNodes l) ws k l
+pub start : {ws : List ℕ} {k : ℕ} → Valid ws k → (l : List Entry) → All ws k l → St ws k (live_nodes l) ws k l
 start {ws} {k} v l h =
     record { grown = grown-refl ws k; valid = v; env = h; live = λ m p q. absurd (not-le_of_lt q p); inputs = live-self ws l }
 
@@ -153,7 +153,7 @@ step {old} {k} {ins} {ws} {c} {l} s js {ws'} {r} {c'} {w} {t} d =
     }
   where
     on : (m : ℕ) → Lives ws l m → Lives ws' (entry r w t true ∷ clears js l) m
-    on m x = ⊎_elim (λ y. inl (tt, y)) inr (lives-clears ws' r js l m d.ins-reached (lives-kept d.grown l m s.env x))
+    on m x = ⊎_elim (λ y. inl (tt, y)) inr (lives-clears ws' r js l m d.ins_reached (lives-kept d.grown l m s.env x))
 
 down-flag : (b c : Bool) → T (not b && c) → (T b → ⊥) × T c
 down-flag true c h = absurd h
@@ -168,7 +168,7 @@ finish {old} {k} {ins} {ws} {c} {e} {l} s q =
       valid = s.valid;
       is = s.env.0;
       all = λ m p h. top m (s.live m p h);
-      ins-reached = tops ins s.inputs;
+      ins_reached = tops ins s.inputs;
     }
   where
     none : (l : List Entry) → T (quiet l) → (m : ℕ) → Lives ws l m → ⊥
@@ -184,8 +184,8 @@ finish {old} {k} {ins} {ws} {c} {e} {l} s q =
 
 -- what is made, with nothing said of the inputs
 pub forget : {old : List ℕ} {k : ℕ} {new : List ℕ} {r k' w : ℕ} {t : Expr} {ins : List ℕ} → Made old k new r k' w t ins → Made old k new r k' w t []
-forget d = record { grown = d.grown; valid = d.valid; is = d.is; all = d.all; ins-reached = tt }
+forget d = record { grown = d.grown; valid = d.valid; is = d.is; all = d.all; ins_reached = tt }
 
 -- a node that is there already
 pub stay : {ws : List ℕ} {k n w : ℕ} {t : Expr} → Valid ws k → NodeIs ws k n w t → Made ws k ws n k w t (n ∷ [])
-stay {ws} {k} v h = record { grown = grown-refl ws k; valid = v; is = h; all = λ m p q. absurd (not-le_of_lt q p); ins-reached = (Reach.here, tt) }
+stay {ws} {k} v h = record { grown = grown-refl ws k; valid = v; is = h; all = λ m p q. absurd (not-le_of_lt q p); ins_reached = (Reach.here, tt) }

@@ -2,26 +2,26 @@
 use mathlib.Core.List.{List, [], ◌∷◌, Memᴰ}
 use Rattle.std.specs.Prelude.{◌≡◌, ℕ, ◌+◌, ◌*◌, ◌≤◌, ◌<◌, length, get_or}
 use Rattle.terms.specs.Expr.{Expr}
-use Rattle.pool.specs.Node.{Kind, bad, var, const, bv, compare, ite, extract, concat, zext, sext, Cell, cell_at, kindNumber, width_at, writeNode, none}
+use Rattle.pool.specs.Node.{Kind, bad, var, const, bv, compare, ite, extract, concat, zext, sext, Cell, cell_at, kind_number, width_at, write_node, none}
 use Rattle.pool.specs.Rules.{Valid}
-use Rattle.pool.specs.Unfold.{unfoldAt}
+use Rattle.pool.specs.Unfold.{unfold_at}
 
 -- ---- reaching
 
-abbrev pub operandsOf : Kind → Cell → List ℕ
-operandsOf bad k = []
-operandsOf var k = []
-operandsOf const k = []
-operandsOf (bv o) k = k.a ∷ k.b ∷ []
-operandsOf (compare o) k = k.a ∷ k.b ∷ []
-operandsOf ite k = k.a ∷ k.b ∷ k.c ∷ []
-operandsOf extract k = k.a ∷ []
-operandsOf concat k = k.a ∷ k.b ∷ []
-operandsOf zext k = k.a ∷ []
-operandsOf sext k = k.a ∷ []
+abbrev pub operands_of : Kind → Cell → List ℕ
+operands_of bad k = []
+operands_of var k = []
+operands_of const k = []
+operands_of (bv o) k = k.a ∷ k.b ∷ []
+operands_of (compare o) k = k.a ∷ k.b ∷ []
+operands_of ite k = k.a ∷ k.b ∷ k.c ∷ []
+operands_of extract k = k.a ∷ []
+operands_of concat k = k.a ∷ k.b ∷ []
+operands_of zext k = k.a ∷ []
+operands_of sext k = k.a ∷ []
 
 abbrev pub operands : Cell → List ℕ
-operands k = operandsOf k.kind k
+operands k = operands_of k.kind k
 
 -- m is reached from r: it is r, or an operand of a node that is reached
 pub data Reach (ws : List ℕ) (r : ℕ) : ℕ → Type 0 where
@@ -41,13 +41,13 @@ pub record Grown (old : List ℕ) (k : ℕ) (new : List ℕ) (k' : ℕ) : Type 0
   pub more : k ≤ k'
   pub below : (i : ℕ) → i < 4 * k → get_or new i 0 ≡ get_or old i 0
   pub above : (i : ℕ) → 4 * k' ≤ i → get_or new i 0 ≡ get_or old i 0
-  pub plain : (n : ℕ) → 32 ≤ n → k ≤ n → n < k' → kindNumber new n ≡ 1 → ⊥
+  pub plain : (n : ℕ) → 32 ≤ n → k ≤ n → n < k' → kind_number new n ≡ 1 → ⊥
 
 -- node n, of count c, has width w and unfolds to t
 pub record NodeIs (ws : List ℕ) (c n w : ℕ) (t : Expr) : Type 0 where
   pub under : n < c
   pub wide : width_at ws n ≡ w
-  pub tree : unfoldAt ws n ≡ t
+  pub tree : unfold_at ws n ≡ t
 
 -- room for m nodes after the first k
 pub record Room (ws : List ℕ) (k m : ℕ) : Type 0 where
@@ -58,7 +58,7 @@ pub record Room (ws : List ℕ) (k m : ℕ) : Type 0 where
 pub record Pushed (old : List ℕ) (k : ℕ) (new : List ℕ) (r k' : ℕ) (w0 w1 w2 w3 : ℕ) : Type 0 where
   pub at : r ≡ k
   pub next : k' ≡ k + 1
-  pub words : new ≡ writeNode old k w0 w1 w2 w3
+  pub words : new ≡ write_node old k w0 w1 w2 w3
 
 -- what a builder of at most m nodes says of the numbers, whatever the pool holds: its answer r is below the new count k'
 pub record Sized (old : List ℕ) (k : ℕ) (new : List ℕ) (r k' m : ℕ) : Type 0 where
@@ -74,4 +74,4 @@ pub record Made (old : List ℕ) (k : ℕ) (new : List ℕ) (r k' w : ℕ) (t : 
   pub valid : Valid new k'
   pub is : NodeIs new k' r w t
   pub all : (m : ℕ) → k ≤ m → m < k' → Reach new r m
-  pub ins-reached : AllReached new r ins
+  pub ins_reached : AllReached new r ins

@@ -25,12 +25,12 @@ earlier true e = e
 earlier false e = Var 0
 
 -- at most f levels deep
-unfoldable pub unfoldTo : ℕ → List ℕ → ℕ → Expr
-unfoldTo zero ws n = Var 0
-unfoldTo (suc f) ws n =
+unfoldable pub unfold_to : ℕ → List ℕ → ℕ → Expr
+unfold_to zero ws n = Var 0
+unfold_to (suc f) ws n =
     let k = cell_at ws n in
-    shape k (earlier (ltb k.a n) (unfoldTo f ws k.a)) (earlier (ltb k.b n) (unfoldTo f ws k.b)) (earlier (ltb k.c n) (unfoldTo f ws k.c))
+    shape k (earlier (ltb k.a n) (unfold_to f ws k.a)) (earlier (ltb k.b n) (unfold_to f ws k.b)) (earlier (ltb k.c n) (unfold_to f ws k.c))
 
 -- operands have smaller numbers, so n + 1 levels are enough
-unfoldable pub unfoldAt : List ℕ → ℕ → Expr
-unfoldAt ws n = unfoldTo (suc n) ws n
+unfoldable pub unfold_at : List ℕ → ℕ → Expr
+unfold_at ws n = unfold_to (suc n) ws n

@@ -6,7 +6,7 @@ ghost use Rattle.pool.specs.Growth.{Room, Pushed};
 pub mod words;
 
 // The number of a node of a pool.
-#[derive(Drop)]
+#[derive(Clone, Copy)]
 pub struct Node(pub usize);
 
 impl Node {
@@ -23,11 +23,11 @@ impl Node {
 }
 
 // The number of a bit of a term, bit 0 lowest.
-#[derive(Drop)]
+#[derive(Clone, Copy)]
 pub struct Bit(pub u64);
 
 // A node that was built, and the count after it.
-#[derive(Drop)]
+#[derive(Clone, Copy)]
 pub struct Built {
     pub node: Node,
     pub count: usize,

@@ -1,12 +1,12 @@
 // Word 0 of a node: its kind, its width and the set of the registers beneath it (document 01, "Pool"; document 02, S-4). The libraries read
 // it and make it here only. So do they make word 1, a node's operands; pool_fields reads it.
 ghost use Rattle.std.specs.Prelude.{◌≡◌, ◌+◌, ◌*◌, ◌<◌, ◌^◌, length, get_or};
-ghost use Rattle.pool.specs.Node.{kindWord, operand_word, kindNumber, width_at, set_at};
+ghost use Rattle.pool.specs.Node.{kind_word, operand_word, kind_number, width_at, set_at};
 
 use crate::Node;
 
 // The numbers of the kinds of node, in document 01's order: Var and Const have no operand, Add to AShr are of vectors, Eq to Slt conditions.
-#[derive(Drop)]
+#[derive(Clone, Copy)]
 pub struct Kind(pub u64);
 
 impl Kind {
@@ -51,7 +51,7 @@ impl Kind {
 
 pub fn kind_word(kind: u64, width: u64, set: u64) -> u64
     requires { (kind < 65536) × (width < 65536) × (set < 2 ^ 32) }
-    ensures { result ≡ kindWord kind width set }
+    ensures { result ≡ kind_word kind width set }
 {
     kind + 65536 * width + 4294967296 * set
 }
@@ -75,7 +75,7 @@ pub fn kind_word_at(p: &[u64], n: Node) -> u64
 
 pub fn kind_of(p: &[u64], n: Node) -> u64
     requires { 4 * n.0 + 3 < length p.now }
-    ensures { result ≡ kindNumber p.now n.0 }
+    ensures { result ≡ kind_number p.now n.0 }
 {
     let at = 4 * n.0;
     p[at] % 65536

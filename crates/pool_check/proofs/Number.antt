@@ -8,7 +8,7 @@ use lib.Dec.{ltb}
 use borrow.Author.Tests.{lt-ltb, le-ltb, ltb-true}
 use Rattle.facts.specs.Refuse.{unless}
 use Rattle.facts.proofs.Tests.{passed}
-use Rattle.pool.specs.Rules.{poolOk, nodeNumber}
+use Rattle.pool.specs.Rules.{pool_ok, node_number}
 
 not-zero : {k : ℕ} → 0 < k → k ≡ 0 → ⊥
 not-zero h e = omega arith
@@ -20,21 +20,21 @@ same-refusal true false rest h = refl
 same-refusal true true rest h = absurd (not-zero h refl)
 
 module _ (ws : List ℕ) (count n : ℕ) where
-  pub bad-pool : (rest : ℕ) → poolOk ws count ≡ false → nodeNumber ws count n rest ≡ 1
+  pub bad-pool : (rest : ℕ) → pool_ok ws count ≡ false → node_number ws count n rest ≡ 1
   bad-pool rest h = rw h
 
-  pub bad-node : (rest : ℕ) → poolOk ws count ≡ true → count ≤ n → nodeNumber ws count n rest ≡ 5
+  pub bad-node : (rest : ℕ) → pool_ok ws count ≡ true → count ≤ n → node_number ws count n rest ≡ 5
   bad-node rest h l = rw (h, le-ltb n count l)
 
-  pub good-node : (rest : ℕ) → poolOk ws count ≡ true → n < count → nodeNumber ws count n rest ≡ rest
+  pub good-node : (rest : ℕ) → pool_ok ws count ≡ true → n < count → node_number ws count n rest ≡ rest
   good-node rest h l = rw (h, lt-ltb n count l)
 
-  pub first-refusal : (rest : ℕ) → 0 < nodeNumber ws count n 0 → nodeNumber ws count n 0 ≡ nodeNumber ws count n rest
-  first-refusal rest h = same-refusal (poolOk ws count) (ltb n count) rest h
+  pub first-refusal : (rest : ℕ) → 0 < node_number ws count n 0 → node_number ws count n 0 ≡ node_number ws count n rest
+  first-refusal rest h = same-refusal (pool_ok ws count) (ltb n count) rest h
 
   -- a pool and a node that are not refused
-  pub accepted : (rest : ℕ) → nodeNumber ws count n rest ≡ 0 → (poolOk ws count ≡ true) × (n < count) × (rest ≡ 0)
+  pub accepted : (rest : ℕ) → node_number ws count n rest ≡ 0 → (pool_ok ws count ≡ true) × (n < count) × (rest ≡ 0)
   accepted rest e =
-      let p = passed (poolOk ws count) (not-zero (omega arith)) e in
+      let p = passed (pool_ok ws count) (not-zero (omega arith)) e in
       let q = passed (ltb n count) (not-zero (omega arith)) p.1 in
       (p.0, ltb-true _ _ q.0, q.1)

@@ -9,27 +9,27 @@ use lib.ListN.{length}
 use borrow.Author.Tests.{leb-true, ltb-true, eqb-true}
 use Rattle.facts.proofs.Tests.{and_both}
 use Rattle.pool.specs.Node.{places, width_at}
-use Rattle.pool.specs.Rules.{okPool, poolOk, Valid, ofWidth}
+use Rattle.pool.specs.Rules.{ok_pool, pool_ok, Valid, of_width}
 
 module _ (ws : List ℕ) (count : ℕ) where
-  both : poolOk ws count ≡ true → (leb count (places ws) ≡ true) × (okPool ws count ≡ true)
-  both = and_both (leb count (places ws)) (okPool ws count)
+  both : pool_ok ws count ≡ true → (leb count (places ws) ≡ true) × (ok_pool ws count ≡ true)
+  both = and_both (leb count (places ws)) (ok_pool ws count)
 
   -- it has places for its nodes
-  pub within-places : poolOk ws count ≡ true → count ≤ places ws
+  pub within-places : pool_ok ws count ≡ true → count ≤ places ws
   within-places h = leb-true count (places ws) (both h).0
 
-  pub words-for : poolOk ws count ≡ true → 4 * count ≤ length ws
+  pub words-for : pool_ok ws count ≡ true → 4 * count ≤ length ws
   words-for h = omega (arith, within-places h)
 
-  pub few : poolOk ws count ≡ true → count ≤ 65535
+  pub few : pool_ok ws count ≡ true → count ≤ 65535
   few h = omega (arith, within-places h)
 
-  pub keeps : poolOk ws count ≡ true → Valid ws count
+  pub keeps : pool_ok ws count ≡ true → Valid ws count
   keeps h = (both h).1
 
   -- a node of that many bits
-  module _ (n bits : ℕ) (h : ofWidth ws count n bits ≡ true) where
+  module _ (n bits : ℕ) (h : of_width ws count n bits ≡ true) where
     parts : (ltb n count ≡ true) × (eqb (width_at ws n) bits ≡ true)
     parts = and_both (ltb n count) (eqb (width_at ws n) bits) h
 

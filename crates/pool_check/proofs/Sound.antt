@@ -10,8 +10,8 @@ use borrow.Author.Tests.{lt-ltb}
 use Rattle.terms.specs.Expr.{Expr, width}
 use Rattle.terms.specs.Rules.{Good}
 use Rattle.pool.specs.Node.{Kind, bad, var, const, bv, compare, ite, extract, concat, zext, sext, Cell, cell_at, width_at}
-use Rattle.pool.specs.Rules.{okKind, widthBefore, Valid}
-use Rattle.pool.specs.Unfold.{shape_of, earlier, unfoldTo, unfoldAt}
+use Rattle.pool.specs.Rules.{ok_kind, width_before, Valid}
+use Rattle.pool.specs.Unfold.{shape_of, earlier, unfold_to, unfold_at}
 use Rattle.pool.proofs.Facts.{valid-node}
 use Rattle.pool_rules.proofs.Kept.{wide-one, wide-most, register, var-wide, const-wide, const_fits, bv-tests, compare-tests, ite-tests, extract-tests, concat-tests, zext-tests}
 
@@ -22,7 +22,7 @@ pub record Sound (t : Expr) (w : ℕ) : Type 0 where
 
 -- a node n with the cell k, over the terms a, b and c of its operands, whose widths are A, B and C
 module _ (n : ℕ) (k : Cell) (A B C : ℕ) (a b c : Expr) (sa : k.a < n → Sound a A) (sb : k.b < n → Sound b B) (sc : k.c < n → Sound c C) where
-  by_kind : (κ : Kind) → okKind κ n k A B C ≡ true → Sound (shape_of κ k a b c) k.width
+  by_kind : (κ : Kind) → ok_kind κ n k A B C ≡ true → Sound (shape_of κ k a b c) k.width
   unfolding Good width
   by_kind bad h = absurd (false≢true h)
   by_kind var h = record { ok = register n k A B C h; wide = sym (var-wide n k A B C h) }
@@ -77,17 +77,17 @@ module _ (n : ℕ) (k : Cell) (A B C : ℕ) (a b c : Expr) (sa : k.a < n → Sou
 
 module _ (ws : List ℕ) (count : ℕ) (v : Valid ws count) where
   -- an operand, if it has a smaller number
-  operand : (f n m : ℕ) → m < n → Sound (unfoldTo f ws m) (width_at ws m) → Sound (earlier (ltb m n) (unfoldTo f ws m)) (widthBefore ws n m)
+  operand : (f n m : ℕ) → m < n → Sound (unfold_to f ws m) (width_at ws m) → Sound (earlier (ltb m n) (unfold_to f ws m)) (width_before ws n m)
   operand f n m h s = rw (lt-ltb m n h) s
 
-  sound-to : (f n : ℕ) → n < f → n < count → Sound (unfoldTo f ws n) (width_at ws n)
-  unfolding unfoldTo
+  sound-to : (f n : ℕ) → n < f → n < count → Sound (unfold_to f ws n) (width_at ws n)
+  unfolding unfold_to
   sound-to zero n l h = absurd (omega (arith, l))
   sound-to (suc f) n l h =
       let k = cell_at ws n in
-      let at : (m : ℕ) → m < n → Sound (earlier (ltb m n) (unfoldTo f ws m)) (widthBefore ws n m) = λ m e. operand f n m e (sound-to f m (omega (arith, l, e)) (omega (arith, h, e))) in
+      let at : (m : ℕ) → m < n → Sound (earlier (ltb m n) (unfold_to f ws m)) (width_before ws n m) = λ m e. operand f n m e (sound-to f m (omega (arith, l, e)) (omega (arith, h, e))) in
       by_kind n k _ _ _ _ _ _ (at k.a) (at k.b) (at k.c) k.kind (valid-node ws count n v h)
 
-  pub sound : (n : ℕ) → n < count → Sound (unfoldAt ws n) (width_at ws n)
-  unfolding unfoldAt
+  pub sound : (n : ℕ) → n < count → Sound (unfold_at ws n) (width_at ws n)
+  unfolding unfold_at
   sound n h = sound-to (suc n) n (omega arith) h

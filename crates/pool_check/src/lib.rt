@@ -1,8 +1,8 @@
 // The pool check of document 01: whether every node below the count keeps the pool's rules; and the numbers 1 and 5 of what is asked of a node.
 ghost use Rattle.std.specs.Prelude.{◌&&◌, ◌≡◌, ◌+◌, ◌*◌, ◌≤◌, ◌<◌, eqb, length};
 ghost use Rattle.pool.specs.Node.{none};
-ghost use Rattle.pool.specs.Rules.{okNode, okPool, poolOk, nodeNumber, ofWidth};
-ghost use Rattle.pool_check.specs.Plain.{plainAt, plainFrom};
+ghost use Rattle.pool.specs.Rules.{ok_node, ok_pool, pool_ok, node_number, of_width};
+ghost use Rattle.pool_check.specs.Plain.{plain_at, plain_from};
 
 use pool::Node;
 use pool::words::{Kind, kind_of, width_of};
@@ -12,7 +12,7 @@ use pool_rules::{const_ok, extend_ok, extract_ok, ite_ok, pair_ok, var_ok};
 // by one: if kinds come in random order the processor then guesses wrong less often.
 fn node_ok(pool: &[u64], n: Node, plain: Node) -> bool
     requires { (4 * n.0 + 3 < length pool.now) × (n.0 < none) }
-    ensures { result ≡ (okNode pool.now n.0 && plainAt pool.now plain.0 n.0) }
+    ensures { result ≡ (ok_node pool.now n.0 && plain_at pool.now plain.0 n.0) }
 {
     let kind = kind_of(pool, n);
     if kind == Kind::CONST {
@@ -46,7 +46,7 @@ fn node_ok(pool: &[u64], n: Node, plain: Node) -> bool
 // The first node below count that node_ok refuses; count if there is none.
 fn first_refused(pool: &[u64], count: usize, plain: Node) -> Node
     requires { (4 * count ≤ length pool.now) × (count ≤ none) }
-    ensures { eqb result.0 count ≡ (okPool pool.now count && plainFrom pool.now plain.0 count) }
+    ensures { eqb result.0 count ≡ (ok_pool pool.now count && plain_from pool.now plain.0 count) }
 {
     let mut n = 0;
     while n < count {
@@ -60,7 +60,7 @@ fn first_refused(pool: &[u64], count: usize, plain: Node) -> Node
 
 // Whether the pool has count places, each node below count obeys the rules, and none from node `plain` on is a Var.
 pub fn check_plain(pool: &[u64], count: usize, plain: Node) -> bool
-    ensures { result ≡ (poolOk pool.now count && plainFrom pool.now plain.0 count) }
+    ensures { result ≡ (pool_ok pool.now count && plain_from pool.now plain.0 count) }
 {
     if pool::places(pool) < count {
         return false;
@@ -70,14 +70,14 @@ pub fn check_plain(pool: &[u64], count: usize, plain: Node) -> bool
 
 // Whether the pool has count places, and each node below count obeys the rules.
 pub fn pool_check(pool: &[u64], count: usize) -> bool
-    ensures { result ≡ poolOk pool.now count }
+    ensures { result ≡ pool_ok pool.now count }
 {
     check_plain(pool, count, Node(count))
 }
 
 // 1 for a bad pool, 5 for a node that it has not, else 0.
 pub fn node_number(pool: &[u64], count: usize, n: Node) -> u64
-    ensures { result ≡ nodeNumber pool.now count n.0 0 }
+    ensures { result ≡ node_number pool.now count n.0 0 }
 {
     if !pool_check(pool, count) {
         return 1;
@@ -91,7 +91,7 @@ pub fn node_number(pool: &[u64], count: usize, n: Node) -> u64
 // Whether there is a node n, and it has so many bits.
 pub fn of_width(pool: &[u64], count: usize, n: Node, bits: u64) -> bool
     requires { 4 * count ≤ length pool.now }
-    ensures { result ≡ ofWidth pool.now count n.0 bits }
+    ensures { result ≡ of_width pool.now count n.0 bits }
 {
     if n.0 < count {
         return width_of(pool, n) == bits;

@@ -1,7 +1,7 @@
 // A node's operands and data (document 01, "Pool"), read one by one.
 ghost use Rattle.std.specs.Prelude.{◌≡◌, ◌+◌, ◌*◌, ◌/◌, ◌<◌, length};
 ghost use Rattle.pool.specs.Node.{word_at};
-ghost use Rattle.pool_fields.specs.Fields.{op_a, op_b, op_c, left_of, rightOf};
+ghost use Rattle.pool_fields.specs.Fields.{op_a, op_b, op_c, left_of, right_of};
 
 use pool::words::{Kind, kind_of};
 use pool::{Bit, Node};
@@ -62,7 +62,7 @@ pub fn left(p: &[u64], n: Node) -> Node
 
 pub fn right(p: &[u64], n: Node) -> Node
     requires { 4 * n.0 + 3 < length p.now }
-    ensures { result.0 ≡ rightOf p.now n.0 }
+    ensures { result.0 ≡ right_of p.now n.0 }
 {
     if kind_of(p, n) == Kind::ITE {
         third(p, n)

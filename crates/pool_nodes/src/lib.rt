@@ -1,8 +1,8 @@
 // A constructor for each kind of node, which appends one to a pool.
 ghost use Rattle.std.specs.Prelude.{◌≡◌, ◌+◌, ◌*◌, ◌≤◌, ◌<◌, ◌%◌, ◌^◌, length};
-ghost use Rattle.pool.specs.Node.{width_at, bvCode, compare_code};
+ghost use Rattle.pool.specs.Node.{width_at, bv_code, compare_code};
 ghost use Rattle.pool.specs.Growth.{Room};
-ghost use Rattle.pool_nodes.specs.Builders.{unionAt, MadeVar, MadeConst, MadeBv, MadeCompare, MadeIte, MadeExtract, MadeConcat, MadeZeroExtend, MadeSignExtend};
+ghost use Rattle.pool_nodes.specs.Builders.{union_at, MadeVar, MadeConst, MadeBv, MadeCompare, MadeIte, MadeExtract, MadeConcat, MadeZeroExtend, MadeSignExtend};
 
 use pool::words::{Kind, kind_word, operands_word, set_of, width_of};
 use pool::{Bit, Built, Node, push};
@@ -19,7 +19,7 @@ fn width(pool: &[u64], a: Node) -> u64
 // The registers beneath either of two nodes.
 fn union(pool: &[u64], a: Node, b: Node) -> u64
     requires { (4 * a.0 + 3 < length pool.now) × (4 * b.0 + 3 < length pool.now) }
-    ensures { (result ≡ unionAt pool.now a.0 b.0) × (result < 2 ^ 32) }
+    ensures { (result ≡ union_at pool.now a.0 b.0) × (result < 2 ^ 32) }
 {
     set_of(pool, a) | set_of(pool, b)
 }
@@ -50,7 +50,7 @@ pub fn konst(pool: &mut [u64], count: usize, lo: u64, hi: u64, bits: u64) -> Bui
 }
 
 fn bv_code(op: BinOp) -> u64
-    ensures { (result ≡ bvCode op) × (result < 65536) }
+    ensures { (result ≡ bv_code op) × (result < 65536) }
 {
     match op {
         BinOp::Add => Kind::ADD,

@@ -8,15 +8,15 @@ use native.Mathlib.Omega.{arith}
 use borrow.Author.Tests.{eqb-true}
 use Rattle.facts.proofs.Tests.{and_both}
 use Rattle.pool.specs.Node.{Kind, bad, var, const, bv, compare, ite, extract, concat, zext, sext, code_of, Cell, cell_at, wide}
-use Rattle.pool.specs.Rules.{wideOk, okKind, widthBefore, Valid}
+use Rattle.pool.specs.Rules.{wide_is_ok, ok_kind, width_before, Valid}
 use Rattle.pool.proofs.Facts.{valid-node}
-use Rattle.pool_operands.specs.Operands.{hasA, has_b, hasC}
+use Rattle.pool_operands.specs.Operands.{has_a, has_b, has_c}
 use Rattle.pool_operands.proofs.ByKind.{bv-a, bv-b, cmp-a, cmp-b, no, earlier-by}
 
 pub record Unused (κ : Kind) (k : Cell) : Type 0 where
-  pub a-none : hasA (code_of κ) ≡ false → k.a ≡ 0
+  pub a-none : has_a (code_of κ) ≡ false → k.a ≡ 0
   pub b-none : has_b (code_of κ) ≡ false → k.b ≡ 0
-  pub c-none : hasC (code_of κ) ≡ false → k.c ≡ 0
+  pub c-none : has_c (code_of κ) ≡ false → k.c ≡ 0
 
 -- the second of six tests, and what comes before the last four
 second : (p q x y g i : Bool) → (p && q && x && y && g && i) ≡ true → (p ≡ true) × (q ≡ true)
@@ -39,23 +39,23 @@ module _ (n : ℕ) (k : Cell) (A B C : ℕ) where
       let p2 = and_both (p && no-a) no-b p3.0 in
       (eqb-true k.a 0 (and_both p no-a p2.0).1, eqb-true k.b 0 p2.1, eqb-true k.c 0 p3.1)
 
-  extended : okKind zext n k A B C ≡ true → Unused zext k
+  extended : ok_kind zext n k A B C ≡ true → Unused zext k
   extended h =
-      let z = second (wideOk k.width && ltb k.a n && no-b) no-c (eqb k.x 0) (eqb k.y 0) (leb 1 A) (leb A k.width) h in
-      let b = and_both (wideOk k.width && ltb k.a n) no-b z.0 in
+      let z = second (wide_is_ok k.width && ltb k.a n && no-b) no-c (eqb k.x 0) (eqb k.y 0) (leb 1 A) (leb A k.width) h in
+      let b = and_both (wide_is_ok k.width && ltb k.a n) no-b z.0 in
       record { a-none = λ e. no e refl; b-none = λ e. eqb-true k.b 0 b.1; c-none = λ e. eqb-true k.c 0 z.1 }
 
-  unused-by : (κ : Kind) → okKind κ n k A B C ≡ true → Unused κ k
+  unused-by : (κ : Kind) → ok_kind κ n k A B C ≡ true → Unused κ k
   unused-by bad h = absurd (false≢true h)
   unused-by var h =
       let p = and_both (eqb k.width 128 && no-a && no-b && no-c && ltb k.x 32) (eqb k.y 0) h in
       let z = none (eqb k.width 128) (and_both (eqb k.width 128 && no-a && no-b && no-c) (ltb k.x 32) p.0).0 in
       record { a-none = λ e. z.0; b-none = λ e. z.1; c-none = λ e. z.2 }
   unused-by const h =
-      let z = none (wideOk k.width) (and_both (wideOk k.width && no-a && no-b && no-c) (ltb (wide k.x k.y) (2 ^ k.width)) h).0 in
+      let z = none (wide_is_ok k.width) (and_both (wide_is_ok k.width && no-a && no-b && no-c) (ltb (wide k.x k.y) (2 ^ k.width)) h).0 in
       record { a-none = λ e. z.0; b-none = λ e. z.1; c-none = λ e. z.2 }
   unused-by (bv o) h =
-      let z = second (wideOk k.width && ltb k.a n && ltb k.b n) no-c (eqb k.x 0) (eqb k.y 0) (eqb A k.width) (eqb B k.width) h in
+      let z = second (wide_is_ok k.width && ltb k.a n && ltb k.b n) no-c (eqb k.x 0) (eqb k.y 0) (eqb A k.width) (eqb B k.width) h in
       record { a-none = λ e. no e (bv-a o); b-none = λ e. no e (bv-b o); c-none = λ e. eqb-true k.c 0 z.1 }
   unused-by (compare o) h =
       let z = second (eqb k.width 0 && ltb k.a n && ltb k.b n) no-c (eqb k.x 0) (eqb k.y 0) (leb 1 A) (eqb B A) h in
@@ -68,7 +68,7 @@ module _ (n : ℕ) (k : Cell) (A B C : ℕ) where
       let z = and_both (ltb k.a n && no-b) no-c p1.0 in
       record { a-none = λ e. no e refl; b-none = λ e. eqb-true k.b 0 (and_both (ltb k.a n) no-b z.0).1; c-none = λ e. eqb-true k.c 0 z.1 }
   unused-by concat h =
-      let before = wideOk k.width && ltb k.a n && ltb k.b n in
+      let before = wide_is_ok k.width && ltb k.a n && ltb k.b n in
       let p = and_both (before && no-c && eqb k.x 0 && eqb k.y 0 && leb 1 A && leb 1 B) (eqb k.width (A + B)) h in
       let z = second before no-c (eqb k.x 0) (eqb k.y 0) (leb 1 A) (leb 1 B) p.0 in
       record { a-none = λ e. no e refl; b-none = λ e. no e refl; c-none = λ e. eqb-true k.c 0 z.1 }
@@ -80,9 +80,9 @@ module _ (ws : List ℕ) (count n : ℕ) (v : Valid ws count) (h : n < count) wh
   cell = cell_at ws n
 
   abbrev operand-width : ℕ → ℕ
-  operand-width = widthBefore ws n
+  operand-width = width_before ws n
 
-  kept : okKind cell.kind n cell (operand-width cell.a) (operand-width cell.b) (operand-width cell.c) ≡ true
+  kept : ok_kind cell.kind n cell (operand-width cell.a) (operand-width cell.b) (operand-width cell.c) ≡ true
   kept = valid-node ws count n v h
 
   pub unused : Unused cell.kind cell
@@ -92,7 +92,7 @@ module _ (ws : List ℕ) (count n : ℕ) (v : Valid ws count) (h : n < count) wh
   pub third-small : n < 65536 → cell.c < 65536
   third-small l =
       let less = earlier-by n cell _ _ _ cell.kind kept in
-      go (hasC (code_of cell.kind)) (λ e. omega (arith, less.c-less e)) (λ e. omega (arith, unused.c-none e))
+      go (has_c (code_of cell.kind)) (λ e. omega (arith, less.c-less e)) (λ e. omega (arith, unused.c-none e))
     where
       go : (t : Bool) → (t ≡ true → cell.c < 65536) → (t ≡ false → cell.c < 65536) → cell.c < 65536
       go true f g = f refl

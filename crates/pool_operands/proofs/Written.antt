@@ -5,7 +5,7 @@ use Prim.Native.Nat.{ℕ, zero, suc, ◌+◌, ◌*◌, ◌≤◌, ◌<◌}
 use native.Mathlib.Omega.{arith}
 use lib.ListN.{length, get_or, set, length-set}
 use lib.Seq.{get_or-set_same, get_or-set_other}
-use Rattle.pool.specs.Node.{writeNode}
+use Rattle.pool.specs.Node.{write_node}
 
 module _ (out : List ℕ) (k w0 w1 x y : ℕ) (room : 4 * (k + 1) ≤ length out) where
   l1 : List ℕ
@@ -31,26 +31,26 @@ module _ (out : List ℕ) (k w0 w1 x y : ℕ) (room : 4 * (k + 1) ≤ length out
   unfolding l3
   n3 = simp length-set
 
-  pub other : (i : ℕ) → (i ≡ 4 * k → ⊥) → (i ≡ 4 * k + 1 → ⊥) → (i ≡ 4 * k + 2 → ⊥) → (i ≡ 4 * k + 3 → ⊥) → get_or (writeNode out k w0 w1 x y) i 0 ≡ get_or out i 0
+  pub other : (i : ℕ) → (i ≡ 4 * k → ⊥) → (i ≡ 4 * k + 1 → ⊥) → (i ≡ 4 * k + 2 → ⊥) → (i ≡ 4 * k + 3 → ⊥) → get_or (write_node out k w0 w1 x y) i 0 ≡ get_or out i 0
   unfolding l1 l2 l3
   other i a b c d =
       get_or-set_other l3 (4 * k + 3) i y 0 d ∙ get_or-set_other l2 (4 * k + 2) i x 0 c ∙ get_or-set_other l1 (4 * k + 1) i w1 0 b ∙ get_or-set_other out (4 * k) i w0 0 a
 
-  pub f3 : get_or (writeNode out k w0 w1 x y) (4 * k + 3) 0 ≡ y
+  pub f3 : get_or (write_node out k w0 w1 x y) (4 * k + 3) 0 ≡ y
   unfolding l1 l2 l3
   f3 = get_or-set_same l3 (4 * k + 3) y 0 (omega (arith, n3))
 
-  pub f2 : get_or (writeNode out k w0 w1 x y) (4 * k + 2) 0 ≡ x
+  pub f2 : get_or (write_node out k w0 w1 x y) (4 * k + 2) 0 ≡ x
   unfolding l1 l2 l3
   f2 = get_or-set_other l3 (4 * k + 3) (4 * k + 2) y 0 (omega arith) ∙ get_or-set_same l2 (4 * k + 2) x 0 (omega (arith, n2))
 
-  pub f1 : get_or (writeNode out k w0 w1 x y) (4 * k + 1) 0 ≡ w1
+  pub f1 : get_or (write_node out k w0 w1 x y) (4 * k + 1) 0 ≡ w1
   unfolding l1 l2 l3
   f1 =
       get_or-set_other l3 (4 * k + 3) (4 * k + 1) y 0 (omega arith) ∙ get_or-set_other l2 (4 * k + 2) (4 * k + 1) x 0 (omega arith)
       ∙ get_or-set_same l1 (4 * k + 1) w1 0 (omega (arith, n1))
 
-  pub f0 : get_or (writeNode out k w0 w1 x y) (4 * k) 0 ≡ w0
+  pub f0 : get_or (write_node out k w0 w1 x y) (4 * k) 0 ≡ w0
   unfolding l1 l2 l3
   f0 =
       get_or-set_other l3 (4 * k + 3) (4 * k) y 0 (omega arith) ∙ get_or-set_other l2 (4 * k + 2) (4 * k) x 0 (omega arith)

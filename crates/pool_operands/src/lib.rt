@@ -1,12 +1,12 @@
 // Which operands a kind of node has.
 ghost use Rattle.std.specs.Prelude.{◌≡◌};
-ghost use Rattle.pool_operands.specs.Operands.{hasA, has_b, hasC};
+ghost use Rattle.pool_operands.specs.Operands.{has_a, has_b, has_c};
 
 use pool::words::Kind;
 
 // Whether a node of this kind has a first, a second, a third operand.
 pub fn has_a(kind: u64) -> bool
-    ensures { result ≡ hasA kind }
+    ensures { result ≡ has_a kind }
 {
     Kind::ADD <= kind
 }
@@ -18,7 +18,7 @@ pub fn has_b(kind: u64) -> bool
 }
 
 pub fn has_c(kind: u64) -> bool
-    ensures { result ≡ hasC kind }
+    ensures { result ≡ has_c kind }
 {
     kind == Kind::ITE
 }

@@ -4,12 +4,12 @@ use Rattle.terms.specs.Expr.{Expr}
 use Rattle.terms.specs.Value.{value}
 use Rattle.terms.specs.Registers.{registers, InSet, Agree}
 use Rattle.pool.specs.Node.{set_at}
-use Rattle.pool.specs.Rules.{poolOk}
-use Rattle.pool.specs.Unfold.{unfoldAt}
+use Rattle.pool.specs.Rules.{pool_ok}
+use Rattle.pool.specs.Unfold.{unfold_at}
 
 -- in a pool that passes the check the set of a node is what the walk over its whole tree finds
 abbrev pub SetIsTheWalk : Type 0
-SetIsTheWalk = (ws : List ℕ) (count n : ℕ) → poolOk ws count ≡ true → n < count → set_at ws n ≡ registers (unfoldAt ws n)
+SetIsTheWalk = (ws : List ℕ) (count n : ℕ) → pool_ok ws count ≡ true → n < count → set_at ws n ≡ registers (unfold_at ws n)
 
 -- two starts that agree on the registers of a term give it the same value
 abbrev pub AgreeingStarts : Type 0

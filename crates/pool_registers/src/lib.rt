@@ -6,7 +6,7 @@ use pool::words::set_of;
 use pool_check::node_number;
 
 // The number, and the registers beneath the node, bit r for register r.
-#[derive(Drop)]
+#[derive(Clone, Copy)]
 pub struct RegisterSet {
     pub number: u64,
     pub set: u64,

@@ -9,18 +9,18 @@ use Rattle.terms.specs.declared.BinOp.{BinOp}
 use Rattle.terms.specs.declared.CmpOp.{CmpOp}
 use Rattle.facts.proofs.Tests.{and_both}
 use Rattle.pool.specs.Node.{Kind, bad, var, const, bv, compare, ite, extract, concat, zext, Cell, wide}
-use Rattle.pool.specs.Rules.{wideOk, okKind}
+use Rattle.pool.specs.Rules.{wide_is_ok, ok_kind}
 
-pub wide-one : (w : ℕ) → wideOk w ≡ true → 1 ≤ w
+pub wide-one : (w : ℕ) → wide_is_ok w ≡ true → 1 ≤ w
 wide-one w h = let p = and_both _ _ h in leb-true _ _ p.0
 
-pub wide-most : (w : ℕ) → wideOk w ≡ true → w ≤ 129
+pub wide-most : (w : ℕ) → wide_is_ok w ≡ true → w ≤ 129
 wide-most w h = leb-true w 129 (and_both (leb 1 w) (leb w 129) h).1
 
 -- k the cell of node n, A, B and C the widths of its operands
 module _ (n : ℕ) (k : Cell) (A B C : ℕ) where
   abbrev pub Ok : Kind → Type 0
-  Ok κ = okKind κ n k A B C ≡ true
+  Ok κ = ok_kind κ n k A B C ≡ true
 
   -- two operands that are vector terms
   pub record Two : Type 0 where
@@ -52,14 +52,14 @@ module _ (n : ℕ) (k : Cell) (A B C : ℕ) where
   pub var-wide : Ok var → k.width ≡ 128
   var-wide h = eqb-true _ _ (and_both _ _ (and_both _ _ (and_both _ _ (and_both _ _ (and_both _ _ h).0).0).0).0).0
 
-  pub const-wide : Ok const → wideOk k.width ≡ true
+  pub const-wide : Ok const → wide_is_ok k.width ≡ true
   const-wide h = (and_both _ _ (and_both _ _ (and_both _ _ (and_both _ _ h).0).0).0).0
 
   pub const_fits : Ok const → wide k.x k.y < 2 ^ k.width
-  const_fits h = ltb-true _ _ (and_both (wideOk k.width && eqb k.a 0 && eqb k.b 0 && eqb k.c 0) _ h).1
+  const_fits h = ltb-true _ _ (and_both (wide_is_ok k.width && eqb k.a 0 && eqb k.b 0 && eqb k.c 0) _ h).1
 
   -- the first three tests of a kind that has eight, and the last two
-  pub bv-tests : (o : BinOp) → Ok (bv o) → (wideOk k.width ≡ true) × (k.a < n) × (k.b < n) × (A ≡ k.width) × (B ≡ k.width)
+  pub bv-tests : (o : BinOp) → Ok (bv o) → (wide_is_ok k.width ≡ true) × (k.a < n) × (k.b < n) × (A ≡ k.width) × (B ≡ k.width)
   bv-tests o h =
       let p7 = and_both _ _ h in
       let p6 = and_both _ _ p7.0 in
@@ -84,7 +84,7 @@ module _ (n : ℕ) (k : Cell) (A B C : ℕ) where
   pub compare-two : (o : CmpOp) → Ok (compare o) → Two
   compare-two o h = let t = compare-tests o h in record { less-a = t.1; less-b = t.2; term-a = t.3; term-b = omega (arith, t.3, t.4) }
 
-  pub ite-tests : Ok ite → (wideOk k.width ≡ true) × (k.a < n) × (k.b < n) × (k.c < n) × (A ≡ 0) × (B ≡ k.width) × (C ≡ k.width)
+  pub ite-tests : Ok ite → (wide_is_ok k.width ≡ true) × (k.a < n) × (k.b < n) × (k.c < n) × (A ≡ 0) × (B ≡ k.width) × (C ≡ k.width)
   ite-tests h =
       let p8 = and_both _ _ h in
       let p7 = and_both _ _ p8.0 in
@@ -115,7 +115,7 @@ module _ (n : ℕ) (k : Cell) (A B C : ℕ) where
   pub extract-range : Ok extract → (k.y ≤ k.x) × (k.x < A)
   extract-range h = let t = extract-tests h in (t.1, t.2)
 
-  pub concat-tests : Ok concat → (wideOk k.width ≡ true) × (k.a < n) × (k.b < n) × (1 ≤ A) × (1 ≤ B) × (k.width ≡ A + B)
+  pub concat-tests : Ok concat → (wide_is_ok k.width ≡ true) × (k.a < n) × (k.b < n) × (1 ≤ A) × (1 ≤ B) × (k.width ≡ A + B)
   concat-tests h =
       let p8 = and_both _ _ h in
       let p7 = and_both _ _ p8.0 in
@@ -127,7 +127,7 @@ module _ (n : ℕ) (k : Cell) (A B C : ℕ) where
   pub concat-two : Ok concat → Two
   concat-two h = let t = concat-tests h in record { less-a = t.1; less-b = t.2; term-a = t.3; term-b = t.4 }
 
-  pub zext-tests : Ok zext → (wideOk k.width ≡ true) × (k.a < n) × (1 ≤ A) × (A ≤ k.width)
+  pub zext-tests : Ok zext → (wide_is_ok k.width ≡ true) × (k.a < n) × (1 ≤ A) × (A ≤ k.width)
   zext-tests h =
       let p7 = and_both _ _ h in
       let p6 = and_both _ _ p7.0 in

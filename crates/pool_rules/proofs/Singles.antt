@@ -7,19 +7,19 @@ use lib.Bits.{bit_or}
 use lib.Dec.{ltb, leb, eqb}
 use borrow.Author.Tests.{ltb-true, eqb-true, lt-ltb, le-leb, eq-eqb}
 use Rattle.facts.proofs.Tests.{and_both}
-use Rattle.pool.specs.Node.{Kind, var, const, ite, extract, zext, Cell, aOf, bOf, cOf, wide}
-use Rattle.pool.specs.Rules.{wideOk}
+use Rattle.pool.specs.Node.{Kind, var, const, ite, extract, zext, Cell, a_of, b_of, c_of, wide}
+use Rattle.pool.specs.Rules.{wide_is_ok}
 use Rattle.pool_rules.proofs.Keeps.{same, Keeps}
 
 -- no operand, in one test
-pub unused : (w1 : ℕ) → eqb w1 0 ≡ (eqb (aOf w1) 0 && eqb (bOf w1) 0 && eqb (cOf w1) 0)
+pub unused : (w1 : ℕ) → eqb w1 0 ≡ (eqb (a_of w1) 0 && eqb (b_of w1) 0 && eqb (c_of w1) 0)
 unused w1 =
     same _ _
     (λ h. let e = eqb-true w1 0 h in rw e)
     (λ h.
-    let p2 = and_both (eqb (aOf w1) 0 && eqb (bOf w1) 0) (eqb (cOf w1) 0) h in
-    let p1 = and_both (eqb (aOf w1) 0) (eqb (bOf w1) 0) p2.0 in
-    eq-eqb w1 0 (omega (arith, eqb-true (aOf w1) 0 p1.0, eqb-true (bOf w1) 0 p1.1, eqb-true (cOf w1) 0 p2.1)))
+    let p2 = and_both (eqb (a_of w1) 0 && eqb (b_of w1) 0) (eqb (c_of w1) 0) h in
+    let p1 = and_both (eqb (a_of w1) 0) (eqb (b_of w1) 0) p2.0 in
+    eq-eqb w1 0 (omega (arith, eqb-true (a_of w1) 0 p1.0, eqb-true (b_of w1) 0 p1.1, eqb-true (c_of w1) 0 p2.1)))
 
 -- k the cell of node n and s its set; A, B and C are the widths of its operands, SA, SB and SC their sets
 module _ (n : ℕ) (k : Cell) (A B C s SA SB SC : ℕ) where
@@ -70,5 +70,5 @@ module _ (n : ℕ) (k : Cell) (A B C s SA SB SC : ℕ) where
       let p4 = and_both _ _ p5.0 in
       let p3 = and_both _ _ p4.0 in
       let p2 = and_both _ _ p3.0 in
-      let p1 = and_both (wideOk k.width) _ p2.0 in
+      let p1 = and_both (wide_is_ok k.width) _ p2.0 in
       (ltb-true _ _ p1.1, eqb-true _ _ p2.1, eqb-true _ _ p3.1)

@@ -3,7 +3,7 @@
 // The Rust has no counterpart: its terms are boxes, and cannot be damaged.
 ghost use Rattle.std.specs.Prelude.{◌≡◌, ◌+◌, ◌*◌, ◌≤◌, ◌<◌, ◌^◌, ltb, length};
 ghost use Rattle.pool.specs.Node.{Kind, kind_at, none};
-ghost use Rattle.pool_rules.specs.Rule.{okAs, widthOver};
+ghost use Rattle.pool_rules.specs.Rule.{ok_as, width_over};
 
 use pool::Node;
 use pool::words::{set_of, width_of};
@@ -29,7 +29,7 @@ fn below(x: u64, y: u64, bits: u64) -> bool
 
 pub fn var_ok(p: &[u64], n: Node) -> bool
     requires { 4 * n.0 + 3 < length p.now }
-    ensures { result ≡ okAs Kind.var p.now n.0 }
+    ensures { result ≡ ok_as Kind.var p.now n.0 }
 {
     let x = low(p, n);
     if 32 <= x {
@@ -43,7 +43,7 @@ pub fn var_ok(p: &[u64], n: Node) -> bool
 
 pub fn const_ok(p: &[u64], n: Node) -> bool
     requires { 4 * n.0 + 3 < length p.now }
-    ensures { result ≡ okAs Kind.const p.now n.0 }
+    ensures { result ≡ ok_as Kind.const p.now n.0 }
 {
     // the width and, above it, the set, which has to be 0
     let width = width_of(p, n) + 65536 * set_of(p, n);
@@ -56,7 +56,7 @@ pub fn const_ok(p: &[u64], n: Node) -> bool
 // The width over two operands of a and of b bits.
 fn width_over(kind: u64, a: u64, b: u64) -> u64
     requires { (a < 65536) × (b < 65536) }
-    ensures { result ≡ widthOver kind a b }
+    ensures { result ≡ width_over kind a b }
 {
     if kind == pool::words::Kind::CONCAT {
         return a + b;
@@ -71,7 +71,7 @@ fn width_over(kind: u64, a: u64, b: u64) -> u64
 pub fn pair_ok(p: &[u64], n: Node, kind: u64) -> bool
     requires n_in_bounds { (4 * n.0 + 3 < length p.now) × (n.0 < none) }
     requires le_kind { (3 ≤ kind) × (kind < 18) × (kind ≡ 15 → ⊥) × (kind ≡ 16 → ⊥) }
-    ensures { result ≡ okAs (kind_at kind) p.now n.0 }
+    ensures { result ≡ ok_as (kind_at kind) p.now n.0 }
 {
     let a = first(p, n);
     // C, above B, has to be 0
@@ -97,7 +97,7 @@ pub fn pair_ok(p: &[u64], n: Node, kind: u64) -> bool
 
 pub fn ite_ok(p: &[u64], n: Node) -> bool
     requires { 4 * n.0 + 3 < length p.now }
-    ensures { result ≡ okAs Kind.ite p.now n.0 }
+    ensures { result ≡ ok_as Kind.ite p.now n.0 }
 {
     let a = first(p, n);
     let b = second(p, n);
@@ -124,7 +124,7 @@ pub fn ite_ok(p: &[u64], n: Node) -> bool
 
 pub fn extract_ok(p: &[u64], n: Node) -> bool
     requires { (4 * n.0 + 3 < length p.now) × (n.0 < none) }
-    ensures { result ≡ okAs Kind.extract p.now n.0 }
+    ensures { result ≡ ok_as Kind.extract p.now n.0 }
 {
     let hi = cut_hi(p, n);
     let lo = cut_lo(p, n);
@@ -146,7 +146,7 @@ pub fn extract_ok(p: &[u64], n: Node) -> bool
 // A ZeroExtend or a SignExtend.
 pub fn extend_ok(p: &[u64], n: Node) -> bool
     requires { (4 * n.0 + 3 < length p.now) × (n.0 < none) }
-    ensures { result ≡ okAs Kind.zext p.now n.0 }
+    ensures { result ≡ ok_as Kind.zext p.now n.0 }
 {
     let rest = operand_word(p, n);
     if n.0 as u64 <= rest {

@@ -9,7 +9,7 @@ use lib.Dec.{ltb, eqb}
 use lib.ListN.{length, get_or}
 use borrow.Author.Tests.{ltb-true, eqb-true, eqb-false}
 use Rattle.gates.specs.Grow.{negated}
-use Rattle.refutation.specs.Refutation.{gateClause, kept, remains, cited, andFalse, conflict, among}
+use Rattle.refutation.specs.Refutation.{gate_clause, kept, remains, cited, and_false, conflict, among}
 use Rattle.refutation.proofs.Cases.{by_cond, or_cases}
 use Rattle.refutation.proofs.Gate.{holds}
 
@@ -25,7 +25,7 @@ AllFalse σ isFalse = (x : ℕ) → isFalse x ≡ true → σ x ≡ false
 pub record Known (σ : ℕ → Bool) (g : List ℕ) (count : ℕ) (steps : List (List ℕ)) : Type 0 where
   pub constant : σ 0 ≡ false
   pub negations : (l : ℕ) → σ (negated l) ≡ not (σ l)
-  pub gates : (k part : ℕ) → k < count → holds σ (gateClause g k part) ≡ true
+  pub gates : (k part : ℕ) → k < count → holds σ (gate_clause g k part) ≡ true
   pub done : (j : ℕ) → j < length steps → holds σ (get_or steps j []) ≡ true
 
 differ : (σ : ℕ → Bool) → May σ 1
@@ -68,9 +68,9 @@ cited-may {σ} {g} {count} {steps} known isFalse f v =
     (λ _. by_cond (May σ) (ltb (v / 4) (length steps))
     (λ h. remains-may σ isFalse f 0 (get_or steps (v / 4) []) (known.done (v / 4) (ltb-true (v / 4) (length steps) h))) (λ _. differ σ))
     (λ _. by_cond (May σ) (ltb (v / 4) count)
-    (λ h. remains-may σ isFalse f 0 (gateClause g (v / 4) (v % 4)) (known.gates (v / 4) (v % 4) (ltb-true (v / 4) count h))) (λ _. differ σ))
+    (λ h. remains-may σ isFalse f 0 (gate_clause g (v / 4) (v % 4)) (known.gates (v / 4) (v % 4) (ltb-true (v / 4) count h))) (λ _. differ σ))
 
-pub one-more-false : (σ isFalse : ℕ → Bool) (l : ℕ) → AllFalse σ isFalse → σ l ≡ false → AllFalse σ (andFalse isFalse l)
+pub one-more-false : (σ isFalse : ℕ → Bool) (l : ℕ) → AllFalse σ isFalse → σ l ≡ false → AllFalse σ (and_false isFalse l)
 unfolding AllFalse
 one-more-false σ isFalse l f h x e = ⊎_elim (λ q. rw (eqb-true x l q) h) (λ q. f x q) (or_cases (eqb x l) (isFalse x) e)
 
@@ -89,7 +89,7 @@ no-conflict {σ} {g} {count} {steps} known isFalse f (v ∷ hints) =
     let no = eqb-false left 1 o in
     let two : left ≡ left - 2 + 2 = omega (arith, nz, no) in
     let false-now : σ (negated (left - 2)) ≡ false = known.negations (left - 2) ∙ ap not (m.1 (left - 2) two) in
-    no-conflict known (andFalse isFalse (negated (left - 2))) (one-more-false σ isFalse (negated (left - 2)) f false-now) hints))
+    no-conflict known (and_false isFalse (negated (left - 2))) (one-more-false σ isFalse (negated (left - 2)) f false-now) hints))
 
 -- the literals of a false clause are false
 pub none_true : (σ : ℕ → Bool) (clause : List ℕ) → holds σ clause ≡ false → AllFalse σ (among clause)

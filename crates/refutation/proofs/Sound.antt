@@ -11,25 +11,25 @@ use lib.Seq.{get_or-append_seam}
 use borrow.Author.Tests.{eqb-true}
 use Rattle.facts.proofs.Tests.{and_both, passed}
 use Rattle.facts.proofs.Numbers.{before-or-from}
-use Rattle.gates.specs.Graph.{inputs, variable, truth, gatesOk, graphOk}
-use Rattle.gates.specs.Grow.{literalOf}
+use Rattle.gates.specs.Graph.{inputs, variable, truth, gates_ok, graph_ok}
+use Rattle.gates.specs.Grow.{literal_of}
 use Rattle.gates.proofs.Truth.{false-truth}
 use Rattle.gates.proofs.Laws.{negated-truth}
-use Rattle.refutation.specs.Refutation.{andFalse, conflict, whole, listed, after, among, all_below, stepOk, refusedFrom, refusedStep, Refuted}
+use Rattle.refutation.specs.Refutation.{and_false, conflict, whole, listed, after, among, all_below, step_ok, refused_from, refused_step, Refuted}
 use Rattle.refutation.proofs.Cases.{by_cond, split}
 use Rattle.refutation.proofs.Gate.{holds, gate-holds}
 use Rattle.refutation.proofs.Propagation.{Known, one-more-false, no-conflict, none_true}
 
 -- the clause of an accepted step is true
 pub step-holds :
-    {σ : ℕ → Bool} {g : List ℕ} {count : ℕ} {steps : List (List ℕ)} → Known σ g count steps → (ws : List ℕ) → stepOk g count steps ws ≡ true
+    {σ : ℕ → Bool} {g : List ℕ} {count : ℕ} {steps : List (List ℕ)} → Known σ g count steps → (ws : List ℕ) → step_ok g count steps ws ≡ true
     → holds σ (listed ws) ≡ true
 step-holds {σ} {g} {count} {steps} known ws e =
-    let before = (whole ws && whole (after ws)) && all_below (literalOf count) (listed ws) in
-    let r = and_both before (conflict g count steps (andFalse (among (listed ws)) 0) (listed (after ws))) e in
+    let before = (whole ws && whole (after ws)) && all_below (literal_of count) (listed ws) in
+    let r = and_both before (conflict g count steps (and_false (among (listed ws)) 0) (listed (after ws))) e in
     ⊎_elim (λ h. h) (λ h.
     absurd
-    (no-conflict known (andFalse (among (listed ws)) 0) (one-more-false σ (among (listed ws)) 0 (none_true σ (listed ws) h) known.constant)
+    (no-conflict known (and_false (among (listed ws)) 0) (one-more-false σ (among (listed ws)) 0 (none_true σ (listed ws) h) known.constant)
     (listed (after ws)) r.1)) (split (holds σ (listed ws)))
 
 one_more :
@@ -49,11 +49,11 @@ one_more {σ} {g} {count} {steps} known clause h = record {
 -- if an empty clause is accepted after some steps, their clauses are not all true
 no-empty :
     {σ : ℕ → Bool} {g : List ℕ} {count : ℕ} (f : ℕ) (steps : List (List ℕ)) (ws : List ℕ) → Known σ g count steps → 0 < length steps
-    → refusedFrom f g count steps ws ≡ 0 → ⊥
-unfolding refusedFrom holds
+    → refused_from f g count steps ws ≡ 0 → ⊥
+unfolding refused_from holds
 no-empty zero steps ws known some = λ e. omega (arith, e)
 no-empty {σ} {g} {count} (suc f) steps ws known some =
-    by_cond (λ (n : ℕ). n ≡ 0 → ⊥) (stepOk g count steps ws)
+    by_cond (λ (n : ℕ). n ≡ 0 → ⊥) (step_ok g count steps ws)
     (λ ok.
     let h = step-holds known ws ok in
     by_cond (λ (n : ℕ). n ≡ 0 → ⊥) (eqb (get_or ws 0 0) 0) (λ z _. empty-fails σ ws (eqb-true (get_or ws 0 0) 0 z) h)
@@ -63,7 +63,7 @@ no-empty {σ} {g} {count} (suc f) steps ws known some =
     empty-fails : (σ : ℕ → Bool) (ws : List ℕ) → get_or ws 0 0 ≡ 0 → holds σ (listed ws) ≡ true → ⊥
     empty-fails σ ws z h = false≢true (rw z at h)
 
-assumed : (start : ℕ → ℕ) (g : List ℕ) (count l : ℕ) → gatesOk g count ≡ true → truth start g l ≡ true → Known (truth start g) g count ((l ∷ []) ∷ [])
+assumed : (start : ℕ → ℕ) (g : List ℕ) (count l : ℕ) → gates_ok g count ≡ true → truth start g l ≡ true → Known (truth start g) g count ((l ∷ []) ∷ [])
 unfolding holds
 assumed start g count l good t = record {
   constant = false-truth start g;
@@ -73,12 +73,12 @@ assumed start g count l good t = record {
 }
 
 pub refuted : Refuted
-unfolding refusedStep graphOk
+unfolding refused_step graph_ok
 refuted g count l ws marks starts e start =
-    let p = passed (graphOk g count) (λ z. omega (arith, z)) e in
+    let p = passed (graph_ok g count) (λ z. omega (arith, z)) e in
     let q = passed (ltb (variable l) (inputs + count)) (λ z. omega (arith, z)) p.1 in
-    let r = passed (leb (literalOf count) marks && _) (λ z. omega (arith, z)) q.1 in
-    let s = passed (eqb (refusedStep g count l ws) 0) (λ z. omega (arith, z)) r.1 in
-    let good = and_both (ltb count (suc (length g))) (gatesOk g count) p.0 in
+    let r = passed (leb (literal_of count) marks && _) (λ z. omega (arith, z)) q.1 in
+    let s = passed (eqb (refused_step g count l ws) 0) (λ z. omega (arith, z)) r.1 in
+    let good = and_both (ltb count (suc (length g))) (gates_ok g count) p.0 in
     ⊎_elim (λ t. absurd (no-empty (length ws) ((l ∷ []) ∷ []) ws (assumed start g count l good.1 t) (omega arith) (eqb-true _ 0 s.0))) (λ t. t)
     (split (truth start g l))

@@ -6,8 +6,8 @@ use Prim.Native.Nat.{ℕ, ◌+◌}
 use native.Mathlib.Omega.{arith}
 use lib.ListN.{drop}
 use lib.Seq.{slice}
-use Rattle.gates.specs.Grow.{literalOf}
-use Rattle.refutation.specs.Refutation.{andFalse, conflict, whole, listed, after, among, all_below, stepOk}
+use Rattle.gates.specs.Grow.{literal_of}
+use Rattle.refutation.specs.Refutation.{and_false, conflict, whole, listed, after, among, all_below, step_ok}
 use Rattle.refutation_hints.specs.Memory.{marked, Before, skipped}
 use Rattle.refutation_hints.proofs.Lists.{listed_at, after-at}
 use Rattle.refutation_hints.proofs.Marks.{none-marked}
@@ -24,32 +24,32 @@ skip-some false x r e n = absurd (n e)
 -- the place h of the hints and the place e after them
 module _ (g : List ℕ) (count : ℕ) (steps : List (List ℕ)) (ws : List ℕ) (at h e : ℕ) (p : h ≡ skipped ws at) (q : e ≡ skipped ws h) where
   pub step-parts :
-      stepOk g count steps (drop at ws)
-      ≡ (whole (drop at ws) && whole (drop h ws) && all_below (literalOf count) (slice (at + 1) h ws)
-      && conflict g count steps (andFalse (among (slice (at + 1) h ws)) 0) (slice (h + 1) e ws))
+      step_ok g count steps (drop at ws)
+      ≡ (whole (drop at ws) && whole (drop h ws) && all_below (literal_of count) (slice (at + 1) h ws)
+      && conflict g count steps (and_false (among (slice (at + 1) h ws)) 0) (slice (h + 1) e ws))
   step-parts =
       let hints : after (drop at ws) ≡ drop h ws = after-at ws at ∙ ap (λ (n : ℕ). drop n ws) (sym p) in
       let clause : listed (drop at ws) ≡ slice (at + 1) h ws = listed_at ws at ∙ ap (λ (n : ℕ). slice (at + 1) n ws) (sym p) in
       let cites : listed (after (drop at ws)) ≡ slice (h + 1) e ws = ap listed hints ∙ listed_at ws h ∙ ap (λ (n : ℕ). slice (h + 1) n ws) (sym q) in
       λ i.
-      whole (drop at ws) && whole (hints i) && all_below (literalOf count) (clause i) && conflict g count steps (andFalse (among (clause i)) 0) (cites i)
+      whole (drop at ws) && whole (hints i) && all_below (literal_of count) (clause i) && conflict g count steps (and_false (among (clause i)) 0) (cites i)
 
   -- both lists are in the words
   module _ (first : whole (drop at ws) ≡ true) (second : whole (drop h ws) ≡ true) where
-    pub not_low : all_below (literalOf count) (slice (at + 1) h ws) ≡ false → stepOk g count steps (drop at ws) ≡ false
+    pub not_low : all_below (literal_of count) (slice (at + 1) h ws) ≡ false → step_ok g count steps (drop at ws) ≡ false
     not_low b = step-parts ∙ rw (first, second, b) refl
 
     pub low :
-        all_below (literalOf count) (slice (at + 1) h ws) ≡ true
-        → stepOk g count steps (drop at ws) ≡ conflict g count steps (andFalse (among (slice (at + 1) h ws)) 0) (slice (h + 1) e ws)
+        all_below (literal_of count) (slice (at + 1) h ws) ≡ true
+        → step_ok g count steps (drop at ws) ≡ conflict g count steps (and_false (among (slice (at + 1) h ws)) 0) (slice (h + 1) e ws)
     low b = step-parts ∙ rw (first, second, b) refl
 
-pub no-clause : (g : List ℕ) (count : ℕ) (steps : List (List ℕ)) (ws : List ℕ) (at : ℕ) → whole (drop at ws) ≡ false → stepOk g count steps (drop at ws) ≡ false
+pub no-clause : (g : List ℕ) (count : ℕ) (steps : List (List ℕ)) (ws : List ℕ) (at : ℕ) → whole (drop at ws) ≡ false → step_ok g count steps (drop at ws) ≡ false
 no-clause g count steps ws at b = rw b refl
 
 pub no-hints :
     (g : List ℕ) (count : ℕ) (steps : List (List ℕ)) (ws : List ℕ) (at h : ℕ) → h ≡ skipped ws at → whole (drop at ws) ≡ true → whole (drop h ws) ≡ false
-    → stepOk g count steps (drop at ws) ≡ false
+    → step_ok g count steps (drop at ws) ≡ false
 no-hints g count steps ws at h p a b = step-parts g count steps ws at h (skipped ws h) p refl ∙ rw (a, b) refl
 
 -- once the clause is marked, the marks are its literals

@@ -1,16 +1,16 @@
 // The check of a refutation of a literal of a graph. If it is accepted, the literal is false at every start (`AcceptedIsFalse`).
 ghost use Rattle.std.specs.Prelude.{true, cond, ◌≡◌, ◌+◌, ◌/◌, ◌<◌, length, drop};
-ghost use Rattle.gates.specs.Graph.{inputs, graphOk};
-ghost use Rattle.gates.specs.Grow.{literalOf};
+ghost use Rattle.gates.specs.Graph.{inputs, graph_ok};
+ghost use Rattle.gates.specs.Grow.{literal_of};
 ghost use Rattle.refutation.specs.Refutation as refutation;
-ghost use Rattle.refutation_hints.specs.Memory.{AtMost, Before, skipped, afterStep, clausesTo, Ready};
+ghost use Rattle.refutation_hints.specs.Memory.{AtMost, Before, skipped, after_step, clauses_to, Ready};
 ghost use Rattle.refutation_check.specs.Answer.{Answered};
 
 use gates::Literal;
 use refutation_hints::{conflict, left_of, right_of, set_false, wide};
 
 // 0: accepted. 1: an operand does not precede its gate. 5: the literal is not of the graph. 6: the lent memory is too short. 14: step `step` is refused.
-#[derive(Drop)]
+#[derive(Clone, Copy)]
 pub struct Checked {
     pub number: u64,
     pub step: usize,
@@ -42,8 +42,8 @@ fn step(
     marks: &mut [u64],
 ) -> usize
     requires { Ready graph.now count l words.now starts.now k marks.old × Before k marks.old }
-    ensures { (result ≡ cond (refutation.stepOk graph.now count (clausesTo words.now starts.now l k)
-        (drop at words.now)) (afterStep words.now at) 0) × AtMost k marks.new }
+    ensures { (result ≡ cond (refutation.step_ok graph.now count (clauses_to words.now starts.now l k)
+        (drop at words.now)) (after_step words.now at) 0) × AtMost k marks.new }
 {
     let hints = skip(words, at);
     if hints == 0 {
@@ -77,7 +77,7 @@ fn clear(marks: &mut [u64])
 
 // Whether the graph has `count` gates, each after its operands.
 pub fn graph_check(graph: &[u64], count: usize) -> bool
-    ensures { result ≡ graphOk graph.now count }
+    ensures { result ≡ graph_ok graph.now count }
 {
     if graph.len() < count {
         return false;
@@ -106,9 +106,9 @@ fn refused_step(
     starts: &mut [u64],
     marks: &mut [u64],
 ) -> usize
-    requires { (graphOk graph.now count ≡ true) × (l / 2 < inputs + count) × (length marks.old ≡ literalOf count)
+    requires { (graph_ok graph.now count ≡ true) × (l / 2 < inputs + count) × (length marks.old ≡ literal_of count)
         × (length words.now / 2 < length starts.old) }
-    ensures { result ≡ refutation.refusedStep graph.now count l words.now }
+    ensures { result ≡ refutation.refused_step graph.now count l words.now }
 {
     clear(marks);
     let mut k = 1;

@@ -12,7 +12,7 @@ use lib.Seq.{slice, slice-cons, slice_empty, get_or-set_same, get_or-set_other}
 use borrow.Author.Tests.{eqb-true, eqb-false, eq-eqb, ne_eqb}
 use Rattle.facts.proofs.Numbers.{before-or-from}
 use Rattle.gates.specs.Grow.{negated}
-use Rattle.refutation.specs.Refutation.{cited, andFalse, conflict}
+use Rattle.refutation.specs.Refutation.{cited, and_false, conflict}
 use Rattle.refutation.proofs.Cases.{split}
 use Rattle.refutation_hints.specs.Memory.{marked, AtMost, Before, Ready}
 
@@ -24,7 +24,7 @@ marked-set marks l k x h =
     ∙ sym (ap (λ (b : Bool). b || marked marks k x) e))
     (λ e. ap (λ (n : ℕ). eqb n k) (get_or-set_other marks l x k 0 (eqb-false x l e)) ∙ sym (ap (λ (b : Bool). b || marked marks k x) e)) (split (eqb x l))
 
-pub marked_more : (marks : List ℕ) (l k : ℕ) → l < length marks → marked (set marks l k) k ≡ andFalse (marked marks k) l
+pub marked_more : (marks : List ℕ) (l k : ℕ) → l < length marks → marked (set marks l k) k ≡ and_false (marked marks k) l
 marked_more marks l k h = λ i x. marked-set marks l k x h i
 
 pub at-most-set : (marks : List ℕ) (l k : ℕ) → l < length marks → AtMost k marks → AtMost k (set marks l k)
@@ -61,7 +61,7 @@ pub conflict-one :
     (g : List ℕ) (count : ℕ) (steps : List (List ℕ)) (isFalse : ℕ → Bool) (ws : List ℕ) (i e left : ℕ) → i < e → e ≤ length ws
     → left ≡ cited g count steps isFalse (get_or ws i 0)
     → conflict g count steps isFalse (slice i e ws)
-    ≡ cond (eqb left 0) true (cond (eqb left 1) false (conflict g count steps (andFalse isFalse (negated (left - 2))) (slice (i + 1) e ws)))
+    ≡ cond (eqb left 0) true (cond (eqb left 1) false (conflict g count steps (and_false isFalse (negated (left - 2))) (slice (i + 1) e ws)))
 unfolding conflict
 conflict-one g count steps isFalse ws i e left h k c = rw (add-one i, slice-cons i e ws 0 h k, c) refl
 

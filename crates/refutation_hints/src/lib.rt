@@ -1,10 +1,10 @@
 // The hints of a step: what is left of each cited clause, and whether the hints lead to a conflict. A literal is set false by a mark.
 ghost use Rattle.std.specs.Prelude.{true, cond, [], ◌∷◌, ◌≡◌, ◌+◌, ◌≤◌, ◌<◌, length, get_or, drop};
 ghost use Rattle.std.proofs.Math.Seq.{slice};
-ghost use Rattle.gates.specs.Graph.{inputs, variable, left_of, rightOf};
-ghost use Rattle.gates.specs.Grow.{negated, literalOf};
+ghost use Rattle.gates.specs.Graph.{inputs, variable, left_of, right_of};
+ghost use Rattle.gates.specs.Grow.{negated, literal_of};
 ghost use Rattle.refutation.specs.Refutation as refutation;
-ghost use Rattle.refutation_hints.specs.Memory.{marked, AtMost, Marking, clausesTo, Ready};
+ghost use Rattle.refutation_hints.specs.Memory.{marked, AtMost, Marking, clauses_to, Ready};
 
 pub fn wide(x: u32) -> usize
     ensures { (result ≡ x) × (result < 4294967296) }
@@ -19,7 +19,7 @@ pub fn left_of(w: u64) -> usize
 }
 
 pub fn right_of(w: u64) -> usize
-    ensures { result ≡ rightOf w }
+    ensures { result ≡ right_of w }
 {
     (w / 4294967296) as usize
 }
@@ -80,9 +80,9 @@ fn left_of_three(marks: &[u64], k: u64, a: usize, b: usize, c: usize) -> usize
 
 // What is left of a clause of gate n.
 fn left_of_gate(graph: &[u64], n: usize, part: usize, marks: &[u64], k: u64) -> usize
-    requires n_in_bounds { (n < length graph.now) × (literalOf n + 1 < length marks.now) }
-    requires n_bound { (variable (left_of (get_or graph.now n 0)) < inputs + n) × (variable (rightOf (get_or graph.now n 0)) < inputs + n) }
-    ensures { result ≡ refutation.remains (marked marks.now k) 0 (refutation.gateClause graph.now n part) }
+    requires n_in_bounds { (n < length graph.now) × (literal_of n + 1 < length marks.now) }
+    requires n_bound { (variable (left_of (get_or graph.now n 0)) < inputs + n) × (variable (right_of (get_or graph.now n 0)) < inputs + n) }
+    ensures { result ≡ refutation.remains (marked marks.now k) 0 (refutation.gate_clause graph.now n part) }
 {
     let w = graph[n];
     let gate = 2 * (4097 + n);
@@ -107,7 +107,7 @@ fn left_of_hint(
     v: usize,
 ) -> usize
     requires { Ready graph.now count l words.now starts.now k marks.now }
-    ensures { result ≡ refutation.cited graph.now count (clausesTo words.now starts.now l k)
+    ensures { result ≡ refutation.cited graph.now count (clauses_to words.now starts.now l k)
         (marked marks.now k) v }
 {
     let n = v / 4;
@@ -165,7 +165,7 @@ pub fn conflict(
     marks: &mut [u64],
 ) -> bool
     requires { Ready graph.now count l words.now starts.now k marks.old × (from ≤ to) × (to ≤ length words.now) × AtMost k marks.old }
-    ensures { (result ≡ refutation.conflict graph.now count (clausesTo words.now starts.now l k)
+    ensures { (result ≡ refutation.conflict graph.now count (clauses_to words.now starts.now l k)
         (marked marks.old k) (slice from to words.now)) × AtMost k marks.new }
 {
     let mut i = from;

@@ -20,15 +20,15 @@ use Rattle.wide.specs.Number.{base, words, num}
 use Rattle.wide.proofs.Digits.{low-cut, high-shift}
 use Rattle.wide_bit_vectors.proofs.Laws.{concat-is}
 use Rattle.saturation.specs.Saturates.{some}
-use Rattle.saturation.specs.Family.{familyLane, familyBeyond}
+use Rattle.saturation.specs.Family.{family_lane, family_beyond}
 use Rattle.trees_value.proofs.Lanes.{lane-lt}
 use Rattle.trees.specs.declared.NeonOp.{NeonOp}
 use Rattle.run_exact.specs.Exact.{Answers}
 use Rattle.run_lanes.specs.Rows.{RowIn, source_of}
 use Rattle.run_lanes.proofs.Bounds.{family-lt}
 use Rattle.run_block.specs.declared.Register.{Register}
-use Rattle.wide.specs.Registers.{registersOf}
-use Rattle.run_block.specs.Lanes.{number, Written, secondAt, laneBy}
+use Rattle.wide.specs.Registers.{registers_of}
+use Rattle.run_block.specs.Lanes.{number, Written, second_at, lane_by}
 
 -- ---- a lane that does not cross a word
 pub low-lane : (x y n at : ℕ) → at + n ≤ 64 → x / 2 ^ at % 2 ^ n ≡ words x y 0 / 2 ^ at % 2 ^ n
@@ -113,7 +113,7 @@ all_in n (suc k) h = omega (arith, mul-suc n k, h k (omega arith))
 
 -- ---- registers
 written_at : (ws : List ℕ) (d : ℕ) (x : Register) → length ws ≡ 64 → d < 32 → (r : ℕ) → r < 32 → (t : Bool) → eqb r d ≡ t
-    → registersOf (set (set ws (2 * d) x.low) (2 * d + 1) x.high) r ≡ cond t (number x) (registersOf ws r)
+    → registers_of (set (set ws (2 * d) x.low) (2 * d + 1) x.high) r ≡ cond t (number x) (registers_of ws r)
 written_at ws d x n h r l true e =
     let q : r ≡ d = eqb-true r d e in
     rw q
@@ -134,17 +134,17 @@ pub le-times : (m x : ℕ) → 0 < m → x ≤ m * x
 le-times m x h = omega (arith, mul-le-mul_right x h)
 
 pub answers_at : (op : NeonOp) (n : ℕ) {x y z x' y' z' bits : ℕ} {saturated : Bool} → x ≡ x' → y ≡ y' → z ≡ z'
-    → Answers (familyLane op n x y z) (familyBeyond op n x y z) bits saturated
-    → Answers (familyLane op n x' y' z') (familyBeyond op n x' y' z') bits saturated
+    → Answers (family_lane op n x y z) (family_beyond op n x y z) bits saturated
+    → Answers (family_lane op n x' y' z') (family_beyond op n x' y' z') bits saturated
 answers_at op n {x} {y} {z} {x'} {y'} {z'} e f g p = record {
-  bits_are = p.bits_are ∙ ap₂ (λ (s t : ℕ). familyLane op n s t z) e f ∙ ap (familyLane op n x' y') g;
-  saturated-is = p.saturated-is ∙ ap₂ (λ (s t : ℕ). familyBeyond op n s t z) e f ∙ ap (familyBeyond op n x' y') g;
+  bits_are = p.bits_are ∙ ap₂ (λ (s t : ℕ). family_lane op n s t z) e f ∙ ap (family_lane op n x' y') g;
+  saturated_is = p.saturated_is ∙ ap₂ (λ (s t : ℕ). family_beyond op n s t z) e f ∙ ap (family_beyond op n x' y') g;
 }
 
 pub lane-by-lt : (op : NeonOp) (n m skip : ℕ) (element : Bool) (index d a b : ℕ) → 0 < n → n ≤ 64 → m ≡ source_of op n → RowIn op n → (j : ℕ)
-    → laneBy op n m skip element index d a b j < 2 ^ n
+    → lane_by op n m skip element index d a b j < 2 ^ n
 lane-by-lt op n m skip element index d a b hn h64 e r j =
-    family-lt n (lane n j d) (lane m (j + skip) a) (lane m (secondAt element index skip j) b) hn h64 (lane-lt n j d) op
+    family-lt n (lane n j d) (lane m (j + skip) a) (lane m (second_at element index skip j) b) hn h64 (lane-lt n j d) op
     (subst (λ (t : ℕ). lane m (j + skip) a < 2 ^ t) e (lane-lt m (j + skip) a)) r
 
 -- ---- halves

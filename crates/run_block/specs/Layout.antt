@@ -19,14 +19,14 @@ layout_of (AbsoluteDifference signed accumulate) = layout false false false fals
 layout_of (HighNarrow subtract rounding upper) = layout true false false false
 
 -- the bits of a source lane, the lanes that are left out, the halves that are read
-abbrev pub sourceBy : Layout → ℕ → ℕ
-sourceBy y n = cond y.narrow (n * 2) (cond y.long (n / 2) n)
+abbrev pub source_by : Layout → ℕ → ℕ
+source_by y n = cond y.narrow (n * 2) (cond y.long (n / 2) n)
 
-abbrev pub skipBy : Layout → ℕ → ℕ
-skipBy y k = cond y.upper k 0
+abbrev pub skip_by : Layout → ℕ → ℕ
+skip_by y k = cond y.upper k 0
 
-abbrev pub firstBy : Layout → Bool → Bool
-firstBy y whole = cond y.narrow true (cond y.long y.upper whole)
+abbrev pub first_by : Layout → Bool → Bool
+first_by y whole = cond y.narrow true (cond y.long y.upper whole)
 
-abbrev pub secondBy : Layout → Bool → Bool
-secondBy y whole = cond y.narrow true (cond y.long (y.upper || y.element) whole)
+abbrev pub second_by : Layout → Bool → Bool
+second_by y whole = cond y.narrow true (cond y.long (y.upper || y.element) whole)

@@ -1,6 +1,6 @@
 // How the lanes of each family lie in the registers that it reads.
 ghost use Rattle.std.specs.Prelude.{◌≡◌, ◌≤◌};
-ghost use Rattle.run_block.specs.Layout.{layout as laidOut, layout_of, sourceBy, skipBy, firstBy, secondBy};
+ghost use Rattle.run_block.specs.Layout.{layout as laidOut, layout_of, source_by, skip_by, first_by, second_by};
 
 use crate::Layout;
 use lower_kinds::sources::narrowing;
@@ -51,7 +51,7 @@ pub fn layout_of(op: NeonOp) -> Layout
 
 pub fn source_by(y: Layout, n: u64) -> u64
     requires { n ≤ 64 }
-    ensures { result ≡ sourceBy y n }
+    ensures { result ≡ source_by y n }
 {
     if y.narrow {
         return n * 2;
@@ -63,7 +63,7 @@ pub fn source_by(y: Layout, n: u64) -> u64
 }
 
 pub fn skip_by(y: Layout, k: u64) -> u64
-    ensures { result ≡ skipBy y k }
+    ensures { result ≡ skip_by y k }
 {
     if y.upper {
         return k;
@@ -72,7 +72,7 @@ pub fn skip_by(y: Layout, k: u64) -> u64
 }
 
 pub fn first_by(y: Layout, whole: bool) -> bool
-    ensures { result ≡ firstBy y whole }
+    ensures { result ≡ first_by y whole }
 {
     if y.narrow {
         return true;
@@ -84,7 +84,7 @@ pub fn first_by(y: Layout, whole: bool) -> bool
 }
 
 pub fn second_by(y: Layout, whole: bool) -> bool
-    ensures { result ≡ secondBy y whole }
+    ensures { result ≡ second_by y whole }
 {
     if y.narrow {
         return true;

@@ -1,7 +1,7 @@
 // The lanes of a result: each cut from the registers, run, and put in its place.
 ghost use Rattle.std.specs.Prelude.{◌≡◌, ◌+◌, ◌/◌, ◌%◌, ◌^◌, ◌<◌, ◌≤◌};
 ghost use Rattle.run_lanes.specs.Rows.{RowIn, source_of};
-ghost use Rattle.run_block.specs.Lanes.{number, secondAt, Within, laneBy, beyondBy, RanLanes};
+ghost use Rattle.run_block.specs.Lanes.{number, second_at, Within, lane_by, beyond_by, RanLanes};
 
 use crate::{Ran, Register};
 use neon::Lane;
@@ -24,7 +24,7 @@ fn bits_at(x: Register, n: u64, at: Bit) -> u64
 // The lane of the second source.
 fn second_at(element: bool, index: Lane, skip: u64, j: Lane) -> Lane
     requires { j.0 + skip < 1000 }
-    ensures { result.0 ≡ secondAt element index.0 skip j.0 }
+    ensures { result.0 ≡ second_at element index.0 skip j.0 }
 {
     if element {
         return index;
@@ -46,8 +46,8 @@ pub fn run_lanes(
     b: Register,
 ) -> Ran
     requires { (0 < n) × (0 < m) × (m ≡ source_of op n) × RowIn op n × Within n m k skip element index.0 }
-    ensures { RanLanes n k (laneBy op n m skip element index.0 (number d) (number a) (number b))
-        (beyondBy op n m skip element index.0 (number d) (number a) (number b)) result }
+    ensures { RanLanes n k (lane_by op n m skip element index.0 (number d) (number a) (number b))
+        (beyond_by op n m skip element index.0 (number d) (number a) (number b)) result }
 {
     let mut acc = Wide {
         low: 0,

@@ -1,12 +1,12 @@
 // Blocks on the device's numbers: 32 registers go in and come out, lane by lane, with no pool (document 02, S-2).
 ghost use Rattle.std.specs.Prelude.{◌≡◌, ◌<◌};
-ghost use Rattle.neon.specs.Op.{opAt, arrangementAt};
-ghost use Rattle.neon.specs.Run.{readBits};
+ghost use Rattle.neon.specs.Op.{op_at, arrangement_at};
+ghost use Rattle.neon.specs.Run.{read_bits};
 ghost use Rattle.neon.specs.Refusal.{Formed, Legal, AllLegal};
-ghost use Rattle.block_check.specs.Records.{recordsOf};
+ghost use Rattle.block_check.specs.Records.{records_of};
 ghost use Rattle.run_block.specs.Run.{Short, Placed, ResultOf, SteppedBy, RanBy, RunAnswered, FlagAnswered};
 ghost use Rattle.run_block.specs.Lanes.{number, Written};
-ghost use Rattle.wide.specs.Registers.{registersOf};
+ghost use Rattle.wide.specs.Registers.{registers_of};
 
 use block_check::{MOST_RECORDS, records_refusal};
 use block_record_check::record_at;
@@ -17,14 +17,14 @@ pub mod family;
 pub mod lanes;
 
 // A register of 128 bits.
-#[derive(Drop)]
+#[derive(Clone, Copy)]
 pub struct Register {
     pub low: u64,
     pub high: u64,
 }
 
 // The bits of a result, and whether a lane saturated.
-#[derive(Drop)]
+#[derive(Clone, Copy)]
 pub struct Ran {
     pub low: u64,
     pub high: u64,
@@ -32,7 +32,7 @@ pub struct Ran {
 }
 
 // How the lanes of a family lie in the registers that it reads.
-#[derive(Drop)]
+#[derive(Clone, Copy)]
 pub struct Layout {
     pub narrow: bool,
     pub long: bool,
@@ -42,7 +42,7 @@ pub struct Layout {
 
 // A register as it is read: whole, or its low half.
 fn halve(x: Register, whole: bool) -> Register
-    ensures { number result ≡ readBits whole (number x) }
+    ensures { number result ≡ read_bits whole (number x) }
 {
     if whole {
         return x;
@@ -71,7 +71,7 @@ fn place(above: bool, x: Ran, d: Register) -> Ran
 // The result of an instruction on the registers d, n, m.
 fn result_of(operation: u64, arrangement: u64, i: u64, d: Register, a: Register, b: Register) -> Ran
     requires { Formed operation arrangement i }
-    ensures { ResultOf (opAt operation) (arrangementAt arrangement) i (number d) (number a) (number b) result }
+    ensures { ResultOf (op_at operation) (arrangement_at arrangement) i (number d) (number a) (number b) result }
 {
     let s = lower_shape::shape(operation, arrangement, i);
     let op = s.op;
@@ -98,7 +98,7 @@ fn result_of(operation: u64, arrangement: u64, i: u64, d: Register, a: Register,
 }
 
 // The 32 registers, two words each, the low one first.
-#[derive(Drop)]
+#[derive(Clone, Copy)]
 pub struct Registers {
     pub words: [u64; 64],
 }
@@ -106,7 +106,7 @@ pub struct Registers {
 impl Registers {
     pub fn get(self, r: u64) -> Register
         requires { r < 32 }
-        ensures { number result ≡ registersOf self.words r }
+        ensures { number result ≡ registers_of self.words r }
     {
         let at = 2 * (r as usize);
         Register {
@@ -128,7 +128,7 @@ impl Registers {
 }
 
 // The registers after a record or a block, and whether a lane saturated.
-#[derive(Drop)]
+#[derive(Clone, Copy)]
 pub struct Stepped {
     pub registers: Registers,
     pub saturated: bool,
@@ -158,8 +158,8 @@ pub fn step(regs: Registers, c: Instruction) -> Stepped
 
 // The records in order, each on the registers that the one before left.
 fn run_records(start: Registers, records: &[u64]) -> Stepped
-    requires { AllLegal (recordsOf records.now) }
-    ensures { RanBy (recordsOf records.now) start.words result.registers.words result.saturated }
+    requires { AllLegal (records_of records.now) }
+    ensures { RanBy (records_of records.now) start.words result.registers.words result.saturated }
 {
     let count = records.len() / 6;
     let mut regs = start;
@@ -179,7 +179,7 @@ fn run_records(start: Registers, records: &[u64]) -> Stepped
 }
 
 // The number and the position of document 01; the registers, as they were if a record is refused; whether a lane saturated.
-#[derive(Drop)]
+#[derive(Clone, Copy)]
 pub struct RunAnswer {
     pub number: u64,
     pub position: usize,
@@ -190,8 +190,8 @@ pub struct RunAnswer {
 // A block on 32 registers. Six numbers per record: operation, arrangement, i, d, n, m; numbers after the last whole record are not
 // read. A block with one refused record is refused whole.
 pub fn run(start: Registers, records: &[u64]) -> RunAnswer
-    ensures run_answered { RunAnswered start.words (recordsOf records.now) result.number result.position result.registers.words }
-    ensures flag_answered { FlagAnswered start.words (recordsOf records.now) result.number result.saturated }
+    ensures run_answered { RunAnswered start.words (records_of records.now) result.number result.position result.registers.words }
+    ensures flag_answered { FlagAnswered start.words (records_of records.now) result.number result.saturated }
 {
     if MOST_RECORDS < records.len() / 6 {
         return RunAnswer {

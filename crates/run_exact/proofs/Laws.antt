@@ -9,23 +9,23 @@ use lib.Pow.{pow_pos, pow_mono, pow-lt}
 use lib.IntN.{ℤ, pos, negsuc, neg_ℤ, nat_abs, ◌+ℤ◌, ◌-ℤ◌, ◌*ℤ◌, +ℤ_idl}
 use lib.Signed.{lt_z}
 use Rattle.terms.specs.Value.{bvadd, bvsub, bvmul, bvshl, bvashr, bvslt}
-use Rattle.neon.specs.Arm.{wrap, S, clampZ, byte, scale, floor, round}
+use Rattle.neon.specs.Arm.{wrap, S, clamp_z, byte, scale, floor, round}
 use Rattle.wide.specs.declared.Wide.{Wide}
 use Rattle.wide.specs.Number.{base, words, num}
 use Rattle.wide.proofs.Words.{num-lt}
 use Rattle.wide.proofs.Digits.{low-cut}
 use Rattle.saturation.specs.Saturates.{outside}
-use Rattle.saturation.specs.Family.{rightZ, turnZ, joinZ}
+use Rattle.saturation.specs.Family.{right_z, turn_z, join_z}
 use Rattle.trees_value.specs.Fits.{up, dn, FitsS}
 use Rattle.trees_value.proofs.Z.{less, neg-up, neg-dn, ext, ge-is}
 use Rattle.trees_value.proofs.Wrap.{half, wrap-is}
 use Rattle.trees_value.proofs.Bv.{wrap-pos, add_is, sub_is, mul_is, shl_is, ashr-is, slt-is, cut-is}
 use Rattle.trees_value.proofs.Clamp.{S-fits, floor-fits}
-use Rattle.trees_value.proofs.Sat.{sumS, lessS, doubled_fits}
+use Rattle.trees_value.proofs.Sat.{sum_s, less_s, doubled_fits}
 use Rattle.trees_value.proofs.Register.{wider, scaled_fits, rounded-fits}
 use Rattle.terms.specs.declared.BinOp.{BinOp}
 use Rattle.terms.specs.declared.BinOp.TheVariants.{Add, Sub, Mul, And, Or, Xor, Shl, LShr, AShr}
-use Rattle.run_exact.specs.Exact.{Held, Answers, isSub}
+use Rattle.run_exact.specs.Exact.{Held, Answers, is_sub}
 
 -- ---- words that stand for an integer
 pub fitting : {w u : ℕ} {v : Wide} {z : ℤ} → w ≤ u → Held w v z → Held u v z
@@ -85,17 +85,17 @@ pub less-is : {s : Bool} {a b : Wide} {x y : ℤ} → s ≡ bvslt 192 (num a) (n
 less-is {s} {a} {b} {x} {y} e p q = e ∙ ap₂ (bvslt 192) p.stands q.stands ∙ slt-is 192 x y (omega arith) p.fits q.fits
 
 module _ (n : ℕ) (l h z : ℤ) {b : ℕ} where
-  pub clamp-low : lt_z z l ≡ true → b ≡ wrap n l → Answers (wrap n (clampZ l h z)) (outside l h z) b true
-  unfolding clampZ outside
-  clamp-low e k = record { bits_are = rw e k; saturated-is = rw e }
+  pub clamp-low : lt_z z l ≡ true → b ≡ wrap n l → Answers (wrap n (clamp_z l h z)) (outside l h z) b true
+  unfolding clamp_z outside
+  clamp-low e k = record { bits_are = rw e k; saturated_is = rw e }
 
-  pub clamp-high : lt_z z l ≡ false → lt_z h z ≡ true → b ≡ wrap n h → Answers (wrap n (clampZ l h z)) (outside l h z) b true
-  unfolding clampZ outside
-  clamp-high e d k = record { bits_are = rw (e, d) k; saturated-is = rw (e, d) }
+  pub clamp-high : lt_z z l ≡ false → lt_z h z ≡ true → b ≡ wrap n h → Answers (wrap n (clamp_z l h z)) (outside l h z) b true
+  unfolding clamp_z outside
+  clamp-high e d k = record { bits_are = rw (e, d) k; saturated_is = rw (e, d) }
 
-  pub clamp-none : lt_z z l ≡ false → lt_z h z ≡ false → b ≡ wrap n z → Answers (wrap n (clampZ l h z)) (outside l h z) b false
-  unfolding clampZ outside
-  clamp-none e d k = record { bits_are = rw (e, d) k; saturated-is = rw (e, d) }
+  pub clamp-none : lt_z z l ≡ false → lt_z h z ≡ false → b ≡ wrap n z → Answers (wrap n (clamp_z l h z)) (outside l h z) b false
+  unfolding clamp_z outside
+  clamp-none e d k = record { bits_are = rw (e, d) k; saturated_is = rw (e, d) }
 
 lowest : (n : ℕ) → 0 < n → S n (2 ^ (n - 1)) ≡ neg_ℤ (pos (2 ^ (n - 1)))
 lowest n h =
@@ -114,17 +114,17 @@ word_held {k} {m} {v} e p = fitting (omega arith) (held-as (ap pos e) p)
 
 -- ---- sums and products
 pub sum-held : {a b v : Wide} → num v ≡ bvadd 192 (num a) (num b) → (w : ℕ) (x y : ℤ) → 0 < w → Held w a x → Held w b y → Held (w + 1) v (x +ℤ y)
-sum-held e w x y hw p q = record { stands = e ∙ ap₂ (bvadd 192) p.stands q.stands ∙ add_is 192 x y; fits = sumS hw p.fits q.fits }
+sum-held e w x y hw p q = record { stands = e ∙ ap₂ (bvadd 192) p.stands q.stands ∙ add_is 192 x y; fits = sum_s hw p.fits q.fits }
 
 pub less-held : {a b v : Wide} → num v ≡ bvsub 192 (num a) (num b) → (w : ℕ) (x y : ℤ) → 0 < w → Held w a x → Held w b y → Held (w + 1) v (x -ℤ y)
-less-held e w x y hw p q = record { stands = e ∙ ap₂ (bvsub 192) p.stands q.stands ∙ sub_is 192 x y; fits = lessS hw p.fits q.fits }
+less-held e w x y hw p q = record { stands = e ∙ ap₂ (bvsub 192) p.stands q.stands ∙ sub_is 192 x y; fits = less_s hw p.fits q.fits }
 
 pub negative-held : {a b v : Wide} → Held 65 a (pos 0) → num v ≡ bvsub 192 (num a) (num b) → (w : ℕ) (z : ℤ) → 0 < w → Held w b z → Held (w + 1) v (neg_ℤ z)
 negative-held p e w z hw q =
     held-as (+ℤ_idl (neg_ℤ z))
     (record {
       stands = e ∙ ap₂ (bvsub 192) p.stands q.stands ∙ sub_is 192 (pos 0) z;
-      fits = lessS {x = pos 0} hw (record { low = omega arith; high = omega (arith, pow_pos (w - 1)) }) q.fits;
+      fits = less_s {x = pos 0} hw (record { low = omega arith; high = omega (arith, pow_pos (w - 1)) }) q.fits;
     })
 
 pub doubled-held : {n : ℕ} {x y : ℤ} {a b v : Wide} {p : ℕ} → 0 < n → n ≤ 64 → Held n a x → Held n b y → p ≡ bvmul 192 (num a) (num b) → num v ≡ bvshl 192 p 1
@@ -154,7 +154,7 @@ pub round-held : {k u s : ℕ} {a o t v : Wide} → 0 < k → k ≤ 128 → Held
     → Held 65 t (pos k) → num v ≡ bvashr 192 s (num t) → (w : ℕ) (z : ℤ) → w ≤ 191 → Held w a z → Held w v (round z k)
 round-held {k} {u} hk h po eu es q e w z hw p = record {
   stands = e ∙ ap₂ (bvashr 192) (es ∙ ap₂ (bvadd 192) p.stands unit ∙ add_is 192 z (pos (2 ^ (k - 1)))) (word-is (omega arith) q)
-      ∙ ashr-is 192 (z +ℤ pos (2 ^ (k - 1))) k (omega arith) (sumS {n = 191} (omega arith) (wider w 191 z hw p.fits) (power-fits 191 (k - 1) (omega arith)));
+      ∙ ashr-is 192 (z +ℤ pos (2 ^ (k - 1))) k (omega arith) (sum_s {n = 191} (omega arith) (wider w 191 z hw p.fits) (power-fits 191 (k - 1) (omega arith)));
   fits = subst (λ (t : ℕ). FitsS w (round z t)) {x = suc (k - 1)} {y = k} (omega arith) (rounded-fits true w (k - 1) z p.fits);
 }
   where
@@ -170,20 +170,20 @@ byte-right b h =
     let lt : b % 256 < 256 = mod-lt b (omega arith) in
     S-high 8 (b % 256) h ∙ ext (pos (b % 256) -ℤ pos 256) (negsuc (256 - b % 256 - 1)) (omega (arith, less (pos (b % 256)) (pos 256)))
 
-pub turn-left : (rounding : Bool) (z : ℤ) (b : ℕ) {v : Wide} → b % 256 < 128 → Held (65 + b % 256) v (scale z (b % 256)) → Held 192 v (turnZ rounding z (byte b))
+pub turn-left : (rounding : Bool) (z : ℤ) (b : ℕ) {v : Wide} → b % 256 < 128 → Held (65 + b % 256) v (scale z (b % 256)) → Held 192 v (turn_z rounding z (byte b))
 turn-left rounding z b h p = rw (byte_left b h) (fitting (omega arith) (held-as (go rounding) p))
   where
-    go : (t : Bool) → scale z (b % 256) ≡ turnZ t z (pos (b % 256))
+    go : (t : Bool) → scale z (b % 256) ≡ turn_z t z (pos (b % 256))
     go true = refl
     go false = refl
 
-pub turn-right : (rounding : Bool) (z : ℤ) (b : ℕ) {v : Wide} → 128 ≤ b % 256 → Held 65 v (rightZ rounding z (256 - b % 256)) → Held 192 v (turnZ rounding z (byte b))
+pub turn-right : (rounding : Bool) (z : ℤ) (b : ℕ) {v : Wide} → 128 ≤ b % 256 → Held 65 v (right_z rounding z (256 - b % 256)) → Held 192 v (turn_z rounding z (byte b))
 turn-right rounding z b h p = rw (byte-right b h) (fitting (omega arith) (held-as (go rounding) p))
   where
     same : 256 - b % 256 ≡ suc (256 - b % 256 - 1)
     same = let lt : b % 256 < 256 = mod-lt b (omega arith) in omega arith
 
-    go : (t : Bool) → rightZ t z (256 - b % 256) ≡ turnZ t z (negsuc (256 - b % 256 - 1))
+    go : (t : Bool) → right_z t z (256 - b % 256) ≡ turn_z t z (negsuc (256 - b % 256 - 1))
     go true = ap (round z) same
     go false = ap (floor z) same
 
@@ -203,7 +203,7 @@ pub magnitude-high : {w : ℕ} {v : Wide} (z : ℤ) → lt_z z (pos 0) ≡ false
 magnitude-high z e p = fitting (omega arith) (held-as (abs-high z e) p)
 
 -- ---- the sum or the difference
-pub joined-less : (op : BinOp) → isSub op ≡ true → {w : ℕ} {v : Wide} (x y : ℤ) → Held w v (x -ℤ y) → Held w v (joinZ op x y)
+pub joined-less : (op : BinOp) → is_sub op ≡ true → {w : ℕ} {v : Wide} (x y : ℤ) → Held w v (x -ℤ y) → Held w v (join_z op x y)
 joined-less Sub e x y p = p
 joined-less Add e x y p = absurd (let z : ◌≡◌ {A = ℕ} 0 1 = ap (λ (t : Bool). cond t 1 0) e in omega arith)
 joined-less Mul e x y p = absurd (let z : ◌≡◌ {A = ℕ} 0 1 = ap (λ (t : Bool). cond t 1 0) e in omega arith)
@@ -214,7 +214,7 @@ joined-less Shl e x y p = absurd (let z : ◌≡◌ {A = ℕ} 0 1 = ap (λ (t : 
 joined-less LShr e x y p = absurd (let z : ◌≡◌ {A = ℕ} 0 1 = ap (λ (t : Bool). cond t 1 0) e in omega arith)
 joined-less AShr e x y p = absurd (let z : ◌≡◌ {A = ℕ} 0 1 = ap (λ (t : Bool). cond t 1 0) e in omega arith)
 
-pub joined-sum : (op : BinOp) → isSub op ≡ false → {w : ℕ} {v : Wide} (x y : ℤ) → Held w v (x +ℤ y) → Held w v (joinZ op x y)
+pub joined-sum : (op : BinOp) → is_sub op ≡ false → {w : ℕ} {v : Wide} (x y : ℤ) → Held w v (x +ℤ y) → Held w v (join_z op x y)
 joined-sum Sub e x y p = absurd (let z : ◌≡◌ {A = ℕ} 0 1 = ap (λ (t : Bool). cond t 0 1) e in omega arith)
 joined-sum Add e x y p = p
 joined-sum Mul e x y p = p

@@ -3,8 +3,8 @@
 ghost use Rattle.std.specs.Prelude.{◌≡◌, ◌-◌, ◌<◌, ◌≤◌, ◌^◌, pos, ◌*ℤ◌};
 ghost use Rattle.trees.specs.declared.SaturateTo.TheVariants.{Signed, Unsigned};
 ghost use Rattle.neon.specs.Arm.{S};
-ghost use Rattle.saturation.specs.Family.{readZ};
-ghost use Rattle.run_exact.specs.Exact.{Held, isSub, Kept, Between, ClampedTo, Limited, Joined, Scaled, Lowered, Turned, Negated, Magnitude, OfUnary};
+ghost use Rattle.saturation.specs.Family.{read_z};
+ghost use Rattle.run_exact.specs.Exact.{Held, is_sub, Kept, Between, ClampedTo, Limited, Joined, Scaled, Lowered, Turned, Negated, Magnitude, OfUnary};
 
 use terms::BinOp;
 use trees::{Saturate, SaturateTo};
@@ -13,7 +13,7 @@ use wide::{Wide, add, low_bits, mul, shl, sub};
 use wide_bit_vectors::{bv_ashr, bv_slt};
 
 // A lane of a result, and whether it was clamped.
-#[derive(Drop)]
+#[derive(Clone, Copy)]
 pub struct Clamped {
     pub bits: u64,
     pub saturated: bool,
@@ -52,7 +52,7 @@ fn signed(n: u64, a: u64) -> Wide
 // A lane of n bits, as it is read.
 pub fn read(as_signed: bool, n: u64, a: u64) -> Wide
     requires { (0 < n) × (n ≤ 64) × (a < 2 ^ n) }
-    ensures { Held 65 result (readZ as_signed n a) }
+    ensures { Held 65 result (read_z as_signed n a) }
 {
     if as_signed {
         return signed(n, a);
@@ -133,7 +133,7 @@ pub fn limit(saturate: Saturate, n: u64, v: Wide) -> Clamped
 }
 
 fn is_sub(op: BinOp) -> bool
-    ensures { result ≡ isSub op }
+    ensures { result ≡ is_sub op }
 {
     match op {
         BinOp::Sub => true,

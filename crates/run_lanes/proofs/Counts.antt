@@ -8,21 +8,21 @@ use borrow.Author.Tests.{eq-eqb, ne_eqb}
 use native.Mathlib.Nat.{pow-suc}
 use lib.Pow.{pow_pos, pow-add, pow_mono, shr_lt, shl-shr, mod-pow-add}
 use lib.IntN.{pos}
-use Rattle.neon.specs.Arm.{wrap, floor, scale, bit_at, ones, equalRun, lanes}
+use Rattle.neon.specs.Arm.{wrap, floor, scale, bit_at, ones, equal_run, lanes}
 
 pub ones-more : (j a : ℕ) → ones (j + 1) a ≡ ones j a + bit_at j a
 unfolding ones
 ones-more j a = rw (add-one j)
 
-pub run-stop : (t j a : ℕ) {b : ℕ} → 0 < j → b ≡ bit_at (j - 1) a → (b ≡ t → ⊥) → equalRun t j a ≡ 0
-unfolding equalRun
+pub run-stop : (t j a : ℕ) {b : ℕ} → 0 < j → b ≡ bit_at (j - 1) a → (b ≡ t → ⊥) → equal_run t j a ≡ 0
+unfolding equal_run
 run-stop t zero a h e n = absurd (omega arith)
 run-stop t (suc k) a h e n =
     let same : suc k - 1 ≡ k = omega arith in
     rw (ne_eqb (bit_at k a) t (λ q. n (e ∙ ap (λ (x : ℕ). bit_at x a) same ∙ q)))
 
-pub run_more : (t j a : ℕ) {b : ℕ} → 0 < j → b ≡ bit_at (j - 1) a → b ≡ t → equalRun t j a ≡ suc (equalRun t (j - 1) a)
-unfolding equalRun
+pub run_more : (t j a : ℕ) {b : ℕ} → 0 < j → b ≡ bit_at (j - 1) a → b ≡ t → equal_run t j a ≡ suc (equal_run t (j - 1) a)
+unfolding equal_run
 run_more t zero a h e n = absurd (omega arith)
 run_more t (suc k) a h e n =
     let same : suc k - 1 ≡ k = omega arith in

@@ -2,7 +2,7 @@
 use Rattle.std.specs.Prelude.{Bool, true, false, ℕ, ◌*◌, ◌/◌, ◌≤◌, ◌<◌}
 use Rattle.trees.specs.declared.NeonOp.{NeonOp}
 use Rattle.trees.specs.declared.NeonOp.TheVariants.{Shift, ShiftInsert, MixedSignAdd, DoublingLong, Saturating, BitwiseUnary, AbsoluteDifference, HighNarrow}
-use Rattle.trees.specs.Arith.{kindBits}
+use Rattle.trees.specs.Arith.{kind_bits}
 use Rattle.lower_kinds.specs.Sources.{AmountIn, KindIn}
 
 -- the amount of SLI, of SRI
@@ -26,7 +26,7 @@ source_of (Shift kind signed) n = n
 source_of (ShiftInsert left shift) n = n
 source_of (MixedSignAdd signed) n = n
 source_of (DoublingLong combine upper element) n = n / 2
-source_of (Saturating kind signed upper) n = kindBits kind n
+source_of (Saturating kind signed upper) n = kind_bits kind n
 source_of (BitwiseUnary kind) n = n
 source_of (AbsoluteDifference signed accumulate) n = n
 source_of (HighNarrow subtract rounding upper) n = n * 2

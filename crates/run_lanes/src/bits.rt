@@ -1,7 +1,7 @@
 // The lanes of CNT, CLZ, CLS and RBIT, bit by bit.
 ghost use Rattle.std.specs.Prelude.{◌≡◌, ◌-◌, ◌<◌, ◌≤◌};
-ghost use Rattle.neon.specs.Arm.{bit_at, ones, equalRun, lanes};
-ghost use Rattle.saturation.specs.Family.{bitsLaneZ};
+ghost use Rattle.neon.specs.Arm.{bit_at, ones, equal_run, lanes};
+ghost use Rattle.saturation.specs.Family.{bits_lane_z};
 
 use trees::BitwiseUnary;
 use wide::word::power;
@@ -31,7 +31,7 @@ fn count_ones(k: u64, a: u64) -> u64
 // The bits from k - 1 down that are t.
 fn run_of(t: u64, k: u64, a: u64) -> u64
     requires { k ≤ 64 }
-    ensures { result ≡ equalRun t k a }
+    ensures { result ≡ equal_run t k a }
 {
     let mut r = 0;
     let mut j = k;
@@ -60,7 +60,7 @@ fn reversed(n: u64, a: u64) -> u64
 
 pub fn bits_lane(kind: BitwiseUnary, n: u64, a: u64) -> u64
     requires { (0 < n) × (n ≤ 64) }
-    ensures { result ≡ bitsLaneZ kind n a }
+    ensures { result ≡ bits_lane_z kind n a }
 {
     match kind {
         BitwiseUnary::PopulationCount => count_ones(n, a),

@@ -3,10 +3,10 @@ ghost use Rattle.std.specs.Prelude.{true, false, ◌≡◌, ◌+◌, ◌-◌, �
 ghost use Rattle.neon.specs.Arm.{wrap};
 ghost use Rattle.terms.specs.declared.BinOp.TheVariants.{Add, Sub};
 ghost use Rattle.trees.specs.declared.SaturatingKind.TheVariants.{AddSub, Halving, Narrow, ShiftNarrow, DoublingMultiplyHigh, Unary};
-ghost use Rattle.trees.specs.Arith.{kindBits};
+ghost use Rattle.trees.specs.Arith.{kind_bits};
 ghost use Rattle.lower_kinds.specs.Sources.{AmountIn, KindIn};
-ghost use Rattle.saturation.specs.Family.{ownRange, shiftLaneZ, shiftBeyond, insertLaneZ, mixedLaneZ, mixedBeyond, doublingLaneZ, doublingBeyond};
-ghost use Rattle.saturation.specs.Family.{saturatingLaneZ, saturatingBeyond, differenceLaneZ, plusZ, highZ, familyLane, familyBeyond};
+ghost use Rattle.saturation.specs.Family.{own_range, shift_lane_z, shift_beyond, insert_lane_z, mixed_lane_z, mixed_beyond, doubling_lane_z, doubling_beyond};
+ghost use Rattle.saturation.specs.Family.{saturating_lane_z, saturating_beyond, difference_lane_z, plus_z, high_z, family_lane, family_beyond};
 ghost use Rattle.run_exact.specs.Exact.{Answers, Held};
 ghost use Rattle.run_lanes.specs.Rows.{InsertIn, RowIn, source_of};
 
@@ -23,7 +23,7 @@ pub mod bits;
 
 // The range of a shift by a register.
 fn own_range(saturate: bool, as_signed: bool) -> Saturate
-    ensures { result ≡ ownRange saturate as_signed }
+    ensures { result ≡ own_range saturate as_signed }
 {
     if saturate {
         if as_signed {
@@ -36,7 +36,7 @@ fn own_range(saturate: bool, as_signed: bool) -> Saturate
 
 fn shift_lane(kind: ShiftKind, as_signed: bool, n: u64, a: u64, b: u64) -> Clamped
     requires { (0 < n) × (n ≤ 64) × (a < 2 ^ n) × AmountIn kind n }
-    ensures { Answers (shiftLaneZ kind as_signed n a b) (shiftBeyond kind as_signed n a b) result.bits result.saturated }
+    ensures { Answers (shift_lane_z kind as_signed n a b) (shift_beyond kind as_signed n a b) result.bits result.saturated }
 {
     let v = read(as_signed, n, a);
     match kind {
@@ -52,7 +52,7 @@ fn shift_lane(kind: ShiftKind, as_signed: bool, n: u64, a: u64, b: u64) -> Clamp
 
 fn mixed_lane(s: bool, n: u64, d: u64, a: u64) -> Clamped
     requires { (0 < n) × (n ≤ 64) × (a < 2 ^ n) × (d < 2 ^ n) }
-    ensures { Answers (mixedLaneZ s n d a) (mixedBeyond s n d a) result.bits result.saturated }
+    ensures { Answers (mixed_lane_z s n d a) (mixed_beyond s n d a) result.bits result.saturated }
 {
     if s {
         return limit(
@@ -71,7 +71,7 @@ fn mixed_lane(s: bool, n: u64, d: u64, a: u64) -> Clamped
 // The doubled product, and a sum with it, each clamped.
 fn doubling_lane(combine: Combine, n: u64, d: u64, a: u64, b: u64) -> Clamped
     requires { (2 ≤ n) × (n ≤ 64) × (a < 2 ^ (n / 2)) × (b < 2 ^ (n / 2)) × (d < 2 ^ n) }
-    ensures { Answers (doublingLaneZ combine n d a b) (doublingBeyond combine n d a b) result.bits result.saturated }
+    ensures { Answers (doubling_lane_z combine n d a b) (doubling_beyond combine n d a b) result.bits result.saturated }
 {
     let p = limit(
         Saturate::Into(SaturateTo::Signed),
@@ -96,7 +96,7 @@ fn doubling_lane(combine: Combine, n: u64, d: u64, a: u64, b: u64) -> Clamped
 
 fn add_sub_lane(op: BinOp, to: SaturateTo, as_signed: bool, n: u64, a: u64, b: u64) -> Clamped
     requires { (0 < n) × (n ≤ 64) × (a < 2 ^ n) × (b < 2 ^ n) }
-    ensures { Answers (saturatingLaneZ (AddSub op to) as_signed n a b) (saturatingBeyond (AddSub op to) as_signed n a b) result.bits result.saturated }
+    ensures { Answers (saturating_lane_z (AddSub op to) as_signed n a b) (saturating_beyond (AddSub op to) as_signed n a b) result.bits result.saturated }
 {
     limit(
         Saturate::Into(to),
@@ -107,7 +107,7 @@ fn add_sub_lane(op: BinOp, to: SaturateTo, as_signed: bool, n: u64, a: u64, b: u
 
 fn halving_lane(rounding: bool, as_signed: bool, n: u64, a: u64, b: u64) -> Clamped
     requires { (0 < n) × (n ≤ 64) × (a < 2 ^ n) × (b < 2 ^ n) }
-    ensures { Answers (saturatingLaneZ (Halving rounding) as_signed n a b) (saturatingBeyond (Halving rounding) as_signed n a b) result.bits result.saturated }
+    ensures { Answers (saturating_lane_z (Halving rounding) as_signed n a b) (saturating_beyond (Halving rounding) as_signed n a b) result.bits result.saturated }
 {
     limit(
         Saturate::Never,
@@ -122,7 +122,7 @@ fn halving_lane(rounding: bool, as_signed: bool, n: u64, a: u64, b: u64) -> Clam
 
 fn narrow_lane(to: SaturateTo, as_signed: bool, n: u64, a: u64) -> Clamped
     requires { (0 < n) × (n ≤ 32) × (a < 2 ^ (n * 2)) }
-    ensures { Answers (saturatingLaneZ (Narrow to) as_signed n a 0) (saturatingBeyond (Narrow to) as_signed n a 0) result.bits result.saturated }
+    ensures { Answers (saturating_lane_z (Narrow to) as_signed n a 0) (saturating_beyond (Narrow to) as_signed n a 0) result.bits result.saturated }
 {
     limit(Saturate::Into(to), n, read(as_signed, n * 2, a))
 }
@@ -136,14 +136,14 @@ fn shift_narrow_lane(
     a: u64,
 ) -> Clamped
     requires { (0 < n) × (n ≤ 32) × (a < 2 ^ (n * 2)) × (1 ≤ shift) × (shift ≤ n) }
-    ensures { Answers (saturatingLaneZ (ShiftNarrow shift rounding to) as_signed n a 0) (saturatingBeyond (ShiftNarrow shift rounding to) as_signed n a 0) result.bits result.saturated }
+    ensures { Answers (saturating_lane_z (ShiftNarrow shift rounding to) as_signed n a 0) (saturating_beyond (ShiftNarrow shift rounding to) as_signed n a 0) result.bits result.saturated }
 {
     limit(to, n, right(rounding, read(as_signed, n * 2, a), shift))
 }
 
 fn multiply_high_lane(rounding: bool, n: u64, a: u64, b: u64) -> Clamped
     requires { (0 < n) × (n ≤ 64) × (a < 2 ^ n) × (b < 2 ^ n) }
-    ensures { Answers (saturatingLaneZ (DoublingMultiplyHigh rounding) true n a b) (saturatingBeyond (DoublingMultiplyHigh rounding) true n a b) result.bits result.saturated }
+    ensures { Answers (saturating_lane_z (DoublingMultiplyHigh rounding) true n a b) (saturating_beyond (DoublingMultiplyHigh rounding) true n a b) result.bits result.saturated }
 {
     limit(
         Saturate::Into(SaturateTo::Signed),
@@ -154,7 +154,7 @@ fn multiply_high_lane(rounding: bool, n: u64, a: u64, b: u64) -> Clamped
 
 fn unary_lane(negate: bool, n: u64, a: u64) -> Clamped
     requires { (0 < n) × (n ≤ 64) × (a < 2 ^ n) }
-    ensures { Answers (saturatingLaneZ (Unary negate) true n a 0) (saturatingBeyond (Unary negate) true n a 0) result.bits result.saturated }
+    ensures { Answers (saturating_lane_z (Unary negate) true n a 0) (saturating_beyond (Unary negate) true n a 0) result.bits result.saturated }
 {
     limit(
         Saturate::Into(SaturateTo::Signed),
@@ -164,8 +164,8 @@ fn unary_lane(negate: bool, n: u64, a: u64) -> Clamped
 }
 
 fn saturating_lane(kind: SaturatingKind, as_signed: bool, n: u64, a: u64, b: u64) -> Clamped
-    requires { (0 < n) × (a < 2 ^ kindBits kind n) × (b < 2 ^ kindBits kind n) × KindIn kind n }
-    ensures { Answers (saturatingLaneZ kind as_signed n a b) (saturatingBeyond kind as_signed n a b) result.bits result.saturated }
+    requires { (0 < n) × (a < 2 ^ kind_bits kind n) × (b < 2 ^ kind_bits kind n) × KindIn kind n }
+    ensures { Answers (saturating_lane_z kind as_signed n a b) (saturating_beyond kind as_signed n a b) result.bits result.saturated }
 {
     match kind {
         SaturatingKind::AddSub { op, to } => add_sub_lane(op, to, as_signed, n, a, b),
@@ -183,7 +183,7 @@ fn saturating_lane(kind: SaturatingKind, as_signed: bool, n: u64, a: u64, b: u64
 
 fn difference_lane(as_signed: bool, accumulate: bool, n: u64, d: u64, a: u64, b: u64) -> Clamped
     requires { (0 < n) × (n ≤ 64) × (a < 2 ^ n) × (b < 2 ^ n) }
-    ensures { Answers (differenceLaneZ as_signed accumulate n d a b) false result.bits result.saturated }
+    ensures { Answers (difference_lane_z as_signed accumulate n d a b) false result.bits result.saturated }
 {
     let m = magnitude(join(BinOp::Sub, read(as_signed, n, a), read(as_signed, n, b)));
     if accumulate {
@@ -193,7 +193,7 @@ fn difference_lane(as_signed: bool, accumulate: bool, n: u64, d: u64, a: u64, b:
 }
 
 fn sum_of(subtract: bool, a: u64, b: u64) -> Wide
-    ensures { Held 66 result (highZ subtract a b) }
+    ensures { Held 66 result (high_z subtract a b) }
 {
     if subtract {
         return join(BinOp::Sub, unsigned(a), unsigned(b));
@@ -203,7 +203,7 @@ fn sum_of(subtract: bool, a: u64, b: u64) -> Wide
 
 fn high_lane(subtract: bool, rounding: bool, n: u64, a: u64, b: u64) -> u64
     requires { (0 < n) × (n ≤ 32) }
-    ensures { result ≡ wrap (n * 2) (plusZ rounding (highZ subtract a b) (2 ^ (n - 1))) / 2 ^ n }
+    ensures { result ≡ wrap (n * 2) (plus_z rounding (high_z subtract a b) (2 ^ (n - 1))) / 2 ^ n }
 {
     let s = sum_of(subtract, a, b);
     if rounding {
@@ -215,7 +215,7 @@ fn high_lane(subtract: bool, rounding: bool, n: u64, a: u64, b: u64) -> u64
 // SLI, SRI.
 fn insert_lane(left: bool, shift: u64, n: u64, d: u64, a: u64) -> u64
     requires { (0 < n) × (n ≤ 64) × (a < 2 ^ n) × (d < 2 ^ n) × InsertIn left shift n }
-    ensures { result ≡ insertLaneZ left shift n d a }
+    ensures { result ≡ insert_lane_z left shift n d a }
 {
     if left {
         return keep(n, scaled(unsigned(a), shift)) + low_bits(d, shift);
@@ -226,7 +226,7 @@ fn insert_lane(left: bool, shift: u64, n: u64, d: u64, a: u64) -> u64
 // One lane of n bits, of any family, and whether it saturated.
 pub fn lane_at(op: NeonOp, n: u64, d: u64, a: u64, b: u64) -> Clamped
     requires { (0 < n) × (n ≤ 64) × (d < 2 ^ n) × (a < 2 ^ source_of op n) × (b < 2 ^ source_of op n) × RowIn op n }
-    ensures { Answers (familyLane op n d a b) (familyBeyond op n d a b) result.bits result.saturated }
+    ensures { Answers (family_lane op n d a b) (family_beyond op n d a b) result.bits result.saturated }
 {
     match op {
         NeonOp::Shift { kind, signed } => shift_lane(kind, signed, n, a, b),

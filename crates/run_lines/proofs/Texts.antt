@@ -11,9 +11,9 @@ use Rattle.run_lines.specs.Output.{mark}
 
 -- two words are the same number exactly where both are the same
 module _ (l h m k : ℕ) (lb : l < 18446744073709551616) (mb : m < 18446744073709551616) where
-  pub same-words : (eqb l m && eqb h k) ≡ eqb (words l h 0) (words m k 0)
+  pub same_words : (eqb l m && eqb h k) ≡ eqb (words l h 0) (words m k 0)
   unfolding words
-  same-words = low (eqb l m) refl
+  same_words = low (eqb l m) refl
     where
       goal : Type 0
       goal = (eqb l m && eqb h k) ≡ eqb (words l h 0) (words m k 0)

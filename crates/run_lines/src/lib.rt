@@ -2,8 +2,8 @@
 ghost use Rattle.std.specs.Prelude.{◌≡◌, ◌+◌, ◌≤◌, ◌<◌, eqb, length};
 ghost use Rattle.text_digits.specs.Writing.{Wrote};
 ghost use Rattle.wide.specs.Number.{words};
-ghost use Rattle.wide.specs.Registers.{registersOf};
-ghost use Rattle.run_lines.specs.Output.{mark, registerLine, registersText, afterText, RanRest, RunWritten};
+ghost use Rattle.wide.specs.Registers.{registers_of};
+ghost use Rattle.run_lines.specs.Output.{mark, register_line, registers_text, after_text, RanRest, RunWritten};
 
 use line_routine::read_lines;
 use run_block::{Register, Registers};
@@ -17,7 +17,7 @@ pub const MOST_BYTES: usize = 65536;
 pub const ROOM: usize = 1536;
 
 // 0 or a number of document 01, the position of what is refused, whether that is a register of the start, and the bytes written.
-#[derive(Drop)]
+#[derive(Clone, Copy)]
 pub struct Written {
     pub number: u64,
     pub position: usize,
@@ -45,7 +45,7 @@ fn put_mark(same: bool, buf: &mut [u8], at: usize) -> usize
 // A register after the run: its digits, its name, and the mark.
 fn put_line(r: u64, old: Register, new: Register, buf: &mut [u8], at: usize) -> usize
     requires { (r < 32) × (at + 39 ≤ length buf.old) }
-    ensures wrote { Wrote buf.old at (registerLine r (words old.low old.high 0) (words new.low new.high 0)) result buf.new }
+    ensures wrote { Wrote buf.old at (register_line r (words old.low old.high 0) (words new.low new.high 0)) result buf.new }
     ensures upper_bound { result ≤ at + 39 }
 {
     let a = put_register(new.low, new.high, buf, at);
@@ -58,7 +58,7 @@ fn put_line(r: u64, old: Register, new: Register, buf: &mut [u8], at: usize) -> 
 // The 32 registers.
 fn put_registers(start: Registers, after: Registers, buf: &mut [u8]) -> usize
     requires { 1248 ≤ length buf.old }
-    ensures wrote { Wrote buf.old 0 (registersText (registersOf start.words) (registersOf after.words)) result buf.new }
+    ensures wrote { Wrote buf.old 0 (registers_text (registers_of start.words) (registers_of after.words)) result buf.new }
     ensures upper_bound { result ≤ 1248 }
 {
     let mut r = 0;
@@ -72,7 +72,7 @@ fn put_registers(start: Registers, after: Registers, buf: &mut [u8]) -> usize
 
 // The registers, and a line where a lane saturated.
 fn put_after(start: Registers, after: Registers, saturated: bool, buf: &mut [u8; ROOM]) -> usize
-    ensures wrote { Wrote buf.old 0 (afterText (registersOf start.words) (registersOf after.words) saturated) result buf.new }
+    ensures wrote { Wrote buf.old 0 (after_text (registers_of start.words) (registers_of after.words) saturated) result buf.new }
     ensures upper_bound { result ≤ 1536 }
 {
     let end = put_registers(start, after, buf);

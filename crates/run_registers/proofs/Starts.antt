@@ -19,29 +19,29 @@ use Rattle.neon.specs.Refusal.{PassedTo}
 use Rattle.neon.proofs.First.{one_more, passed-all, all_pass, first-fails}
 use Rattle.line_routine.proofs.Answers.{get_d_any}
 use Rattle.run_registers.specs.declared.Start.{Start}
-use Rattle.run_registers.specs.Digits.{isHex, allHex}
-use Rattle.run_registers.specs.Start.{isGap, gap, skip, after, place_of, is_register, isThere, pair_at, startWords, read_by, lineRefusal, startRefusal, LineRead, StartRead}
+use Rattle.run_registers.specs.Digits.{is_hex, all_hex}
+use Rattle.run_registers.specs.Start.{is_gap, gap, skip, after, place_of, is_register, is_there, pair_at, start_words, read_by, line_refusal, start_refusal, LineRead, StartRead}
 
 module _ (newlines : Bool) (bs : List ℕ) (i : ℕ) where
   pub gap-over : length bs ≤ i → skip newlines bs i ≡ i
   unfolding gap
   gap-over h = rw (drop_of_length-le bs h) (add-zero i)
 
-  pub gap-none : i < length bs → isGap newlines (get_or bs i 0) ≡ false → skip newlines bs i ≡ i
+  pub gap-none : i < length bs → is_gap newlines (get_or bs i 0) ≡ false → skip newlines bs i ≡ i
   unfolding gap
   gap-none h e = rw (drop-cons bs i 0 h, e) (add-zero i)
 
-  pub gap_more : i < length bs → isGap newlines (get_or bs i 0) ≡ true → skip newlines bs (i + 1) ≡ skip newlines bs i
+  pub gap_more : i < length bs → is_gap newlines (get_or bs i 0) ≡ true → skip newlines bs (i + 1) ≡ skip newlines bs i
   unfolding gap
   gap_more h e = let d : drop i bs ≡ get_or bs i 0 ∷ drop (i + 1) bs = rw add-one (drop-cons bs i 0 h) in rw (d, e) (omega arith)
 
 -- ---- one register
 
-last-no-digit : (bs : List ℕ) (at k : ℕ) → isHex (get_or bs (at + k) 0) ≡ false → allHex bs at (suc k) ≡ false
-unfolding allHex
-last-no-digit bs at k e = rw e (and-false (allHex bs at k))
+last-no-digit : (bs : List ℕ) (at k : ℕ) → is_hex (get_or bs (at + k) 0) ≡ false → all_hex bs at (suc k) ≡ false
+unfolding all_hex
+last-no-digit bs at k e = rw e (and-false (all_hex bs at k))
 
-short : (bs : List ℕ) (at : ℕ) → length bs < at + 32 → allHex bs at 32 ≡ false
+short : (bs : List ℕ) (at : ℕ) → length bs < at + 32 → all_hex bs at 32 ≡ false
 short bs at h = last-no-digit bs at 31 (rw (get_or-eq_default bs 0 {n = at + 31} (omega arith)))
 
 pub no_register : (bs : List ℕ) (at : ℕ) → length bs < at + 32 → is_register bs at ≡ false
@@ -55,84 +55,84 @@ register-fits bs at e = go (leb (at + 32) (length bs)) refl
     go true h = leb-true (at + 32) (length bs) h
     go false h = absurd (false≢true (sym (no_register bs at (leb-false (at + 32) (length bs) h)) ∙ e))
 
-pub gap-after : (bs : List ℕ) (at : ℕ) {a b : Bool} → at + 32 < length bs → a ≡ allHex bs at 32 → b ≡ isGap true (get_or bs (at + 32) 0)
+pub gap-after : (bs : List ℕ) (at : ℕ) {a b : Bool} → at + 32 < length bs → a ≡ all_hex bs at 32 → b ≡ is_gap true (get_or bs (at + 32) 0)
     → (a && b) ≡ is_register bs at
 unfolding is_register
 gap-after bs at h e f = rw (get_d_any bs (at + 32) 10 0 h, e, f)
 
-pub none_after : (bs : List ℕ) (at : ℕ) {a : Bool} → length bs ≤ at + 32 → a ≡ allHex bs at 32 → a ≡ is_register bs at
+pub none_after : (bs : List ℕ) (at : ℕ) {a : Bool} → length bs ≤ at + 32 → a ≡ all_hex bs at 32 → a ≡ is_register bs at
 unfolding is_register
-none_after bs at h e = rw (get_or-eq_default bs 10 h, e) (sym (and-true (allHex bs at 32)))
+none_after bs at h e = rw (get_or-eq_default bs 10 h, e) (sym (and-true (all_hex bs at 32)))
 
 -- ---- the registers
 
 -- the first r registers were read
 pub record Reading (bs old words : List ℕ) (next r : ℕ) : Type 0 where
-  pub wrote : Wrote old 0 (startWords bs r) (2 * r) words
-  pub next-is : next ≡ after bs r
-  pub next-in : next ≤ length bs
-  pub good : (i : ℕ) → i < r → isThere bs i ≡ true
+  pub wrote : Wrote old 0 (start_words bs r) (2 * r) words
+  pub next_is : next ≡ after bs r
+  pub next_in : next ≤ length bs
+  pub good : (i : ℕ) → i < r → is_there bs i ≡ true
   pub most : r ≤ 32
 
-pub start-length : (bs : List ℕ) (r : ℕ) → length (startWords bs r) ≡ 2 * r
-unfolding startWords
+pub start-length : (bs : List ℕ) (r : ℕ) → length (start_words bs r) ≡ 2 * r
+unfolding start_words
 start-length bs r = rows-length 2 (λ r. pair_at bs (place_of bs r)) r (λ j l. refl)
 
-line-reads-all : (bs : List ℕ) (end : ℕ) → read_by (lineRefusal bs end) ≡ 32
+line-reads-all : (bs : List ℕ) (end : ℕ) → read_by (line_refusal bs end) ≡ 32
 line-reads-all bs end = go (eqb (get_or bs end 10) 10) refl
   where
-    go : (b : Bool) → eqb (get_or bs end 10) 10 ≡ b → read_by (lineRefusal bs end) ≡ 32
+    go : (b : Bool) → eqb (get_or bs end 10) 10 ≡ b → read_by (line_refusal bs end) ≡ 32
     go true h = rw h
     go false h = rw h
 
 module _ (bs old : List ℕ) where
   pub reading-none : Reading bs old old 0 0
-  unfolding startWords up_to after
-  reading-none = record { wrote = wrote_none old 0; next-is = refl; next-in = omega arith; good = λ i h. absurd (omega arith); most = omega arith }
+  unfolding start_words up_to after
+  reading-none = record { wrote = wrote_none old 0; next_is = refl; next_in = omega arith; good = λ i h. absurd (omega arith); most = omega arith }
 
   module _ {words : List ℕ} {next r : ℕ} (h : Reading bs old words next r) (at : ℕ) (place : at ≡ skip true bs next) where
     at_place : at ≡ place_of bs r
-    at_place = place ∙ ap (skip true bs) h.next-is
+    at_place = place ∙ ap (skip true bs) h.next_is
 
     pub reading-more : {new : List ℕ} {end : ℕ} → r < 32 → is_register bs at ≡ true → Wrote words (2 * r) (pair_at bs at) end new → Reading bs old new (at + 32) (r + 1)
-    unfolding startWords after
+    unfolding start_words after
     reading-more {new} {end} l g w =
         let rows : ℕ → List ℕ = λ r. pair_at bs (place_of bs r) in
-        let e : end ≡ 2 * (r + 1) = omega (arith, w.next-is) in
+        let e : end ≡ 2 * (r + 1) = omega (arith, w.next_is) in
         record {
           wrote =
               subst (λ (k : ℕ). Wrote old 0 (up_to (r + 1) rows) k new) e
               (wrote-next rows r h.wrote (wrote_as (ap (pair_at bs) (sym at_place)) w));
-          next-is = rw (add-one, after) (ap (λ (k : ℕ). k + 32) at_place);
-          next-in = register-fits bs at g;
-          good = one_more (isThere bs) r h.good (ap (is_register bs) (sym at_place) ∙ g);
+          next_is = rw (add-one, after) (ap (λ (k : ℕ). k + 32) at_place);
+          next_in = register-fits bs at g;
+          good = one_more (is_there bs) r h.good (ap (is_register bs) (sym at_place) ∙ g);
           most = omega arith;
         }
 
     pub reading-bad : r < 32 → is_register bs at ≡ false → (s : Start) → (s.number ≡ 10) × (s.position ≡ r) × (s.next ≡ 0) → StartRead bs old s words
-    unfolding startRefusal
+    unfolding start_refusal
     reading-bad l b s q =
-        let good : PassedTo (isThere bs) 32 r = record { most = h.most; before = h.good; first = λ m. ap (is_register bs) (sym at_place) ∙ b } in
+        let good : PassedTo (is_there bs) 32 r = record { most = h.most; before = h.good; first = λ m. ap (is_register bs) (sym at_place) ∙ b } in
         let e = first-fails good 10 (omega arith) l in
         record {
           number_is = rw e q.0;
-          position-is = rw e q.1;
-          next-in = omega (arith, q);
-          next-is = λ z. absurd (omega (arith, z, q));
+          position_is = rw e q.1;
+          next_in = omega (arith, q);
+          next_is = λ z. absurd (omega (arith, z, q));
           words_are = rw e h.wrote.after_is;
         }
 
   -- all registers, and then the line
   pub reading-all : {words : List ℕ} {next : ℕ} (s : Start) → Reading bs old words next 32 → LineRead bs next s → StartRead bs old s words
-  unfolding startRefusal
+  unfolding start_refusal
   reading-all {words} {next} s h l =
-      let e = all_pass (passed-all (isThere bs) 32 h.good) 10 (omega arith) in
-      let n = h.next-is in
+      let e = all_pass (passed-all (is_there bs) 32 h.good) 10 (omega arith) in
+      let n = h.next_is in
       record {
         number_is = rw (e, ← n) l.number_is;
-        position-is = rw (e, ← n) l.position-is;
-        next-in = l.next-in;
-        next-is = λ z. rw (← n) (l.next-is z);
+        position_is = rw (e, ← n) l.position_is;
+        next_in = l.next_in;
+        next_is = λ z. rw (← n) (l.next_is z);
         words_are = rw (e, ← n, line-reads-all bs (skip false bs next)) h.wrote.after_is;
       }
 
@@ -144,9 +144,9 @@ module _ (bs : List ℕ) (from at : ℕ) (place : at ≡ skip false bs from) (in
       let d : get_or bs (skip false bs from) 10 ≡ 10 = get_or-eq_default bs 10 (omega (arith, place, h)) in
       record {
         number_is = rw d;
-        position-is = rw d;
-        next-in = inside;
-        next-is = λ z. drop_of_length-le bs {i = at} (omega arith) ∙ sym (drop_of_length-le bs {i = skip false bs from + 1} (omega (arith, place, h)));
+        position_is = rw d;
+        next_in = inside;
+        next_is = λ z. drop_of_length-le bs {i = at} (omega arith) ∙ sym (drop_of_length-le bs {i = skip false bs from + 1} (omega (arith, place, h)));
       }
 
   pub line-ends : (at ≡ length bs → ⊥) → get_or bs at 0 ≡ 10 → LineRead bs from (record { number = 0; position = 0; next = at + 1 })
@@ -155,9 +155,9 @@ module _ (bs : List ℕ) (from at : ℕ) (place : at ≡ skip false bs from) (in
       let d : get_or bs (skip false bs from) 10 ≡ 10 = rw (← place) (get_d_any bs at 10 0 l ∙ e) in
       record {
         number_is = rw d;
-        position-is = rw d;
-        next-in = omega arith;
-        next-is = λ z. ap (λ (k : ℕ). drop (k + 1) bs) place;
+        position_is = rw d;
+        next_in = omega arith;
+        next_is = λ z. ap (λ (k : ℕ). drop (k + 1) bs) place;
       }
 
   pub line-goes-on : (at ≡ length bs → ⊥) → (get_or bs at 0 ≡ 10 → ⊥) → (s : Start) → (s.number ≡ 10) × (s.position ≡ 32) × (s.next ≡ 0) → LineRead bs from s
@@ -166,7 +166,7 @@ module _ (bs : List ℕ) (from at : ℕ) (place : at ≡ skip false bs from) (in
       let d : eqb (get_or bs (skip false bs from) 10) 10 ≡ false = ne_eqb (get_or bs (skip false bs from) 10) 10 (λ x. e (get_d_any bs at 0 10 l ∙ rw place x)) in
       record {
         number_is = rw d q.0;
-        position-is = rw d q.1;
-        next-in = omega (arith, q);
-        next-is = λ z. absurd (omega (arith, z, q));
+        position_is = rw d q.1;
+        next_in = omega (arith, q);
+        next_is = λ z. absurd (omega (arith, z, q));
       }

@@ -3,19 +3,19 @@ ghost use Rattle.std.specs.Prelude.{◌≡◌, ◌+◌, ◌≤◌, ◌<◌, leng
 ghost use Rattle.terms.specs.Display.{digit};
 ghost use Rattle.text_digits.specs.Writing.{Room, Wrote};
 ghost use Rattle.wide.specs.Number.{words};
-ghost use Rattle.run_registers.specs.Digits.{isHex, hexValue, hexAt, allHex, hexDigits};
-ghost use Rattle.run_registers.specs.Start.{isGap, skip, is_register, pair_at, LineRead, StartRead};
+ghost use Rattle.run_registers.specs.Digits.{is_hex, hex_value, hex_at, all_hex, hex_digits};
+ghost use Rattle.run_registers.specs.Start.{is_gap, skip, is_register, pair_at, LineRead, StartRead};
 
 // Whether a character is a hexadecimal digit, of either case.
 fn is_hex(b: u8) -> bool
-    ensures { result ≡ isHex b }
+    ensures { result ≡ is_hex b }
 {
     (48 <= b) & (b <= 57) | (97 <= b) & (b <= 102) | (65 <= b) & (b <= 70)
 }
 
 // The digit that a character shows, and 0 for what is none.
 fn hex_value(b: u8) -> u64
-    ensures { (result ≡ hexValue b) × (result < 16) }
+    ensures { (result ≡ hex_value b) × (result < 16) }
 {
     if (48 <= b) & (b <= 57) {
         return (b - 48) as u64;
@@ -32,7 +32,7 @@ fn hex_value(b: u8) -> u64
 // The word that 16 digits show.
 fn word_at(bytes: &[u8], at: usize) -> u64
     requires { at + 16 ≤ length bytes.now }
-    ensures { result ≡ hexAt bytes.now at 16 }
+    ensures { result ≡ hex_at bytes.now at 16 }
 {
     let mut word = 0;
     let mut j = 0;
@@ -46,7 +46,7 @@ fn word_at(bytes: &[u8], at: usize) -> u64
 // Whether 32 characters are digits.
 fn all_hex(bytes: &[u8], at: usize) -> bool
     requires { at + 32 ≤ length bytes.now }
-    ensures { result ≡ allHex bytes.now at 32 }
+    ensures { result ≡ all_hex bytes.now at 32 }
 {
     let mut all = true;
     let mut j = 0;
@@ -59,7 +59,7 @@ fn all_hex(bytes: &[u8], at: usize) -> bool
 
 // A blank, and a newline where it counts as one.
 fn is_gap(newlines: bool, b: u8) -> bool
-    ensures { result ≡ isGap newlines b }
+    ensures { result ≡ is_gap newlines b }
 {
     (b == 32) | newlines & (b == 10)
 }
@@ -106,7 +106,7 @@ fn put_pair(bytes: &[u8], at: usize, words: &mut [u64], to: usize) -> usize
 }
 
 // 0 and 0, or 10 and which register is not there, 32 for what stands after the last; then the place of what follows the registers.
-#[derive(Drop)]
+#[derive(Clone, Copy)]
 pub struct Start {
     pub number: u64,
     pub position: usize,
@@ -178,8 +178,8 @@ fn character(d: u64) -> u8
 
 // The last k digits of a word.
 pub fn put_digits(k: u64, x: u64, buf: &mut [u8], at: usize) -> usize
-    requires { Room buf.old at (hexDigits k x) }
-    ensures { Wrote buf.old at (hexDigits k x) result buf.new }
+    requires { Room buf.old at (hex_digits k x) }
+    ensures { Wrote buf.old at (hex_digits k x) result buf.new }
 {
     if k == 0 {
         return at;
@@ -192,7 +192,7 @@ pub fn put_digits(k: u64, x: u64, buf: &mut [u8], at: usize) -> usize
 // The 32 digits of a register.
 pub fn put_register(low: u64, high: u64, buf: &mut [u8], at: usize) -> usize
     requires { at + 32 ≤ length buf.old }
-    ensures { Wrote buf.old at (hexDigits 32 (words low high 0)) result buf.new }
+    ensures { Wrote buf.old at (hex_digits 32 (words low high 0)) result buf.new }
 {
     let middle = put_digits(16, high, buf, at);
     put_digits(16, low, buf, middle)

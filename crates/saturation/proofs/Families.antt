@@ -11,26 +11,26 @@ use Rattle.terms.specs.Value.{value, bit}
 use Rattle.terms.specs.declared.BinOp.TheVariants.{Add, Sub, Or}
 use Rattle.terms.specs.declared.CmpOp.TheVariants.{Slt}
 use Rattle.neon.specs.Op.{Op}
-use Rattle.neon.specs.Arm.{S, cS, byte, doubled, floor, round, scale}
-use Rattle.neon.specs.Form.{form, least, most, sourceBits}
+use Rattle.neon.specs.Arm.{S, c_s, byte, doubled, floor, round, scale}
+use Rattle.neon.specs.Form.{form, least, most, source_bits}
 use Rattle.trees.specs.declared.SaturateTo.TheVariants.{Signed, Unsigned, SignedToUnsigned}
 use Rattle.trees.specs.declared.Saturate.TheVariants.{Into}
 use Rattle.trees.specs.declared.ShiftKind.TheVariants.{LeftImmediate, Register}
 use Rattle.trees.specs.declared.SaturatingKind.TheVariants.{ShiftNarrow, DoublingMultiplyHigh, Unary}
 use Rattle.trees.specs.declared.Combine.TheVariants.{With}
-use Rattle.trees.specs.Neon.{neonOp}
-use Rattle.trees.specs.Trees.{signedAmount}
+use Rattle.trees.specs.Neon.{neon_op}
+use Rattle.trees.specs.Trees.{signed_amount}
 use Rattle.trees_value.proofs.Z.{ge-is}
 use Rattle.trees_value.specs.Fits.{FitsS, FitsU, Fits}
 use Rattle.trees_value.proofs.Is.{Is, Has, has-number, is_number, by-const, by-is, is_eq, is-const, is-then, is-else, says-slt}
 use Rattle.trees_value.proofs.Clamp.{floor-fits, clamp-fits, S-fits, is-reading}
 use Rattle.trees_value.proofs.Register.{turned, exact-fits, is-scaled, wider, byte_fits, is-amount, rounded-fits}
 use Rattle.trees_value.proofs.Sat as sat
-use Rattle.trees_value.proofs.Sat.{applyZ, plus}
+use Rattle.trees_value.proofs.Sat.{apply_z, plus}
 use Rattle.trees_value.proofs.Lane.{Sources}
-use Rattle.saturation.specs.Saturates.{beyondS, beyondU, saturatesLane, twice}
-use Rattle.saturation.specs.Bits.{no, lost, saturatingBit, shiftBit, mixedSignBit, productBit, doublingLongBit, laneBit}
-use Rattle.saturation.proofs.Clip.{is-clippedS, is-clippedU, is-clippedSU, bit-sqaddsub, bit-uqadd, bit-uqsub, bit-sqxtn, bit-uqxtn, bit-sqxtun}
+use Rattle.saturation.specs.Saturates.{beyond_s, beyond_u, saturates_lane, twice}
+use Rattle.saturation.specs.Bits.{no, lost, saturating_bit, shift_bit, mixed_sign_bit, product_bit, doubling_long_bit, lane_bit}
+use Rattle.saturation.proofs.Clip.{is-clipped_s, is-clipped_u, is-clipped_su, bit-sqaddsub, bit-uqadd, bit-uqsub, bit-sqxtn, bit-uqxtn, bit-sqxtun}
 use Rattle.saturation.proofs.Lost.{beyond, inside, is_lost}
 
 bit-lt : (b : Bool) → bit b < 2
@@ -64,63 +64,63 @@ module _ (r : ℕ → ℕ) where
 
   -- ---- narrowing shifts, 32 to 37
   module _ (a b : Expr) (n : ℕ) (x : ℤ) (hn : 0 < n) (p : Is r a (n * 2) x) (rounding : Bool) (i : ℕ) (hi : 0 < i) (h : i ≤ n) where
-    pub bit-sqshrn : FitsS (n * 2) x → Is r (saturatingBit (ShiftNarrow i rounding (Into Signed)) a b n true) 1 (pos (bit (beyondS n (floor (plus rounding x (2 ^ (i - 1))) i))))
-    unfolding saturatingBit
-    bit-sqshrn f = is-clippedS r hn (omega arith) (sat.narrow-fits r a b n x hn p true rounding i f hi h) (sat.is-shifted r a b n x hn p true rounding i f hi h)
+    pub bit-sqshrn : FitsS (n * 2) x → Is r (saturating_bit (ShiftNarrow i rounding (Into Signed)) a b n true) 1 (pos (bit (beyond_s n (floor (plus rounding x (2 ^ (i - 1))) i))))
+    unfolding saturating_bit
+    bit-sqshrn f = is-clipped_s r hn (omega arith) (sat.narrow-fits r a b n x hn p true rounding i f hi h) (sat.is-shifted r a b n x hn p true rounding i f hi h)
 
-    pub bit-uqshrn : FitsU (n * 2) x → Is r (saturatingBit (ShiftNarrow i rounding (Into Unsigned)) a b n false) 1 (pos (bit (beyondU n (floor (plus rounding x (2 ^ (i - 1))) i))))
-    unfolding saturatingBit
-    bit-uqshrn f = is-clippedU r hn (omega arith) (sat.narrow-fits r a b n x hn p false rounding i f hi h) (sat.is-shifted r a b n x hn p false rounding i f hi h)
+    pub bit-uqshrn : FitsU (n * 2) x → Is r (saturating_bit (ShiftNarrow i rounding (Into Unsigned)) a b n false) 1 (pos (bit (beyond_u n (floor (plus rounding x (2 ^ (i - 1))) i))))
+    unfolding saturating_bit
+    bit-uqshrn f = is-clipped_u r hn (omega arith) (sat.narrow-fits r a b n x hn p false rounding i f hi h) (sat.is-shifted r a b n x hn p false rounding i f hi h)
 
-    pub bit-sqshrun : FitsS (n * 2) x → Is r (saturatingBit (ShiftNarrow i rounding (Into SignedToUnsigned)) a b n true) 1 (pos (bit (beyondU n (floor (plus rounding x (2 ^ (i - 1))) i))))
-    unfolding saturatingBit
-    bit-sqshrun f = is-clippedSU r hn (omega arith) (sat.narrow-fits r a b n x hn p true rounding i f hi h) (sat.is-shifted r a b n x hn p true rounding i f hi h)
+    pub bit-sqshrun : FitsS (n * 2) x → Is r (saturating_bit (ShiftNarrow i rounding (Into SignedToUnsigned)) a b n true) 1 (pos (bit (beyond_u n (floor (plus rounding x (2 ^ (i - 1))) i))))
+    unfolding saturating_bit
+    bit-sqshrun f = is-clipped_su r hn (omega arith) (sat.narrow-fits r a b n x hn p true rounding i f hi h) (sat.is-shifted r a b n x hn p true rounding i f hi h)
 
   -- ---- the negative and the absolute value, 38 and 39
   module _ (a b : Expr) (n : ℕ) (x : ℤ) (hn : 0 < n) (f : FitsS n x) (p : Is r a n x) where
-    pub bit-sqneg : Is r (saturatingBit (Unary true) a b n true) 1 (pos (bit (beyondS n (neg_ℤ x))))
-    unfolding saturatingBit
-    bit-sqneg = is-clippedS r hn (omega arith) (sat.minus-fits r a b n x hn f p) (sat.is-minus r a b n x hn f p)
+    pub bit-sqneg : Is r (saturating_bit (Unary true) a b n true) 1 (pos (bit (beyond_s n (neg_ℤ x))))
+    unfolding saturating_bit
+    bit-sqneg = is-clipped_s r hn (omega arith) (sat.minus-fits r a b n x hn f p) (sat.is-minus r a b n x hn f p)
 
-    pub bit-sqabs : Is r (saturatingBit (Unary false) a b n true) 1 (pos (bit (beyondS n (pos (nat_abs x)))))
-    unfolding saturatingBit
-    bit-sqabs = is-clippedS r hn (omega arith) (sat.abs-fits r a b n x hn f p) (sat.is-abs r a b n x hn f p)
+    pub bit-sqabs : Is r (saturating_bit (Unary false) a b n true) 1 (pos (bit (beyond_s n (pos (nat_abs x)))))
+    unfolding saturating_bit
+    bit-sqabs = is-clipped_s r hn (omega arith) (sat.abs-fits r a b n x hn f p) (sat.is-abs r a b n x hn f p)
 
   -- ---- doubling, the high half: 40 and 41
   module _ (a b : Expr) (n : ℕ) (x y : ℤ) (hn : 0 < n) (f : FitsS n x) (g : FitsS n y) (p : Is r a n x) (q : Is r b n y) where
-    pub bit-dmulh : (rounding : Bool) → Is r (saturatingBit (DoublingMultiplyHigh rounding) a b n true) 1 (pos (bit (beyondS n (floor (plus rounding (x *ℤ y *ℤ pos 2) (2 ^ (n - 1))) n))))
-    unfolding saturatingBit
-    bit-dmulh rounding = is-clippedS r hn (omega arith) (sat.floor-high n x y hn f g rounding) (sat.is-high r a b n x y hn f g p q rounding)
+    pub bit-dmulh : (rounding : Bool) → Is r (saturating_bit (DoublingMultiplyHigh rounding) a b n true) 1 (pos (bit (beyond_s n (floor (plus rounding (x *ℤ y *ℤ pos 2) (2 ^ (n - 1))) n))))
+    unfolding saturating_bit
+    bit-dmulh rounding = is-clipped_s r hn (omega arith) (sat.floor-high n x y hn f g rounding) (sat.is-high r a b n x y hn f g p q rounding)
 
   -- ---- doubling, long: 42 to 53
   module _ (a b : Expr) (h : ℕ) (x y : ℤ) (hh : 0 < h) (f : FitsS h x) (g : FitsS h y) (p : Is r a h x) (q : Is r b h y) where
-    pub bit-dmull : Is r (productBit a b (h * 2)) 1 (pos (bit (beyondS (h * 2) (x *ℤ y *ℤ pos 2))))
-    bit-dmull = is-clippedS r (omega arith) (omega arith) (sat.doubled_fits h x y hh f g) (sat.is-doubled r a b h x y hh f g p q (h * 2 + 1) (omega arith))
+    pub bit-dmull : Is r (product_bit a b (h * 2)) 1 (pos (bit (beyond_s (h * 2) (x *ℤ y *ℤ pos 2))))
+    bit-dmull = is-clipped_s r (omega arith) (omega arith) (sat.doubled_fits h x y hh f g) (sat.is-doubled r a b h x y hh f g p q (h * 2 + 1) (omega arith))
 
     pub bit-dmlal : (subtract : Bool) (d : Expr) (z : ℤ) → FitsS (h * 2) z → Is r d (h * 2) z
-        → BitIs (doublingLongBit (With (cond subtract Sub Add)) d a b (h * 2)) (beyondS (h * 2) (x *ℤ y *ℤ pos 2) || beyondS (h * 2) (applyZ subtract z (cS (h * 2) (x *ℤ y *ℤ pos 2))))
-    unfolding doublingLongBit
+        → BitIs (doubling_long_bit (With (cond subtract Sub Add)) d a b (h * 2)) (beyond_s (h * 2) (x *ℤ y *ℤ pos 2) || beyond_s (h * 2) (apply_z subtract z (c_s (h * 2) (x *ℤ y *ℤ pos 2))))
+    unfolding doubling_long_bit
     bit-dmlal subtract d z k o =
-        either (as-bit (beyondS (h * 2) (x *ℤ y *ℤ pos 2)) bit-dmull)
-        (as-bit (beyondS (h * 2) (applyZ subtract z (cS (h * 2) (x *ℤ y *ℤ pos 2))))
-        (is-clippedS r (omega arith) (omega arith) (sat.apply-fits r subtract (omega arith) k (clamp-fits (h * 2) (x *ℤ y *ℤ pos 2)))
+        either (as-bit (beyond_s (h * 2) (x *ℤ y *ℤ pos 2)) bit-dmull)
+        (as-bit (beyond_s (h * 2) (apply_z subtract z (c_s (h * 2) (x *ℤ y *ℤ pos 2))))
+        (is-clipped_s r (omega arith) (omega arith) (sat.apply-fits r subtract (omega arith) k (clamp-fits (h * 2) (x *ℤ y *ℤ pos 2)))
         (sat.is-joined r subtract true true (omega arith) (omega arith) k (clamp-fits (h * 2) (x *ℤ y *ℤ pos 2)) o (sat.is-dmull r a b h x y hh f g p q))))
 
   -- ---- the mixed signs, 54 and 55
   module _ (d a : Expr) (n : ℕ) (z x : ℤ) (hn : 0 < n) (o : Is r d n z) (p : Is r a n x) where
-    pub bit-suqadd : FitsS n z → FitsU n x → Is r (mixedSignBit true d a n) 1 (pos (bit (beyondS n (z +ℤ x))))
-    unfolding mixedSignBit
-    bit-suqadd f g = is-clippedS r hn (omega arith) (sat.sumSU hn f g) (sat.is-joined r false true false hn (omega arith) f g o p)
+    pub bit-suqadd : FitsS n z → FitsU n x → Is r (mixed_sign_bit true d a n) 1 (pos (bit (beyond_s n (z +ℤ x))))
+    unfolding mixed_sign_bit
+    bit-suqadd f g = is-clipped_s r hn (omega arith) (sat.sum_su hn f g) (sat.is-joined r false true false hn (omega arith) f g o p)
 
-    pub bit-usqadd : FitsU n z → FitsS n x → Is r (mixedSignBit false d a n) 1 (pos (bit (beyondU n (z +ℤ x))))
-    unfolding mixedSignBit
-    bit-usqadd f g = is-clippedSU r hn (omega arith) (sat.sumUS hn f g) (sat.is-joined r false false true hn (omega arith) f g o p)
+    pub bit-usqadd : FitsU n z → FitsS n x → Is r (mixed_sign_bit false d a n) 1 (pos (bit (beyond_u n (z +ℤ x))))
+    unfolding mixed_sign_bit
+    bit-usqadd f g = is-clipped_su r hn (omega arith) (sat.sum_us hn f g) (sat.is-joined r false false true hn (omega arith) f g o p)
 
   -- ---- shifts by an immediate, 2 to 4
   module _ (v : Expr) (n i : ℕ) (x : ℤ) (hn : 0 < n) (f : FitsS n x) (p : Is r v n x) where
-    pub bit-sqshlu : Is r (shiftBit (LeftImmediate i (Into SignedToUnsigned)) true v v n) 1 (pos (bit (beyondU n (scale x i))))
-    unfolding shiftBit
-    bit-sqshlu = is-clippedSU r hn (omega arith) (exact-fits r v n i x hn f p) (is-scaled r v n i x hn f p)
+    pub bit-sqshlu : Is r (shift_bit (LeftImmediate i (Into SignedToUnsigned)) true v v n) 1 (pos (bit (beyond_u n (scale x i))))
+    unfolding shift_bit
+    bit-sqshlu = is-clipped_su r hn (omega arith) (exact-fits r v n i x hn f p) (is-scaled r v n i x hn f p)
 
   -- ---- shifts by a register, 13 to 16
   module _ (rounding s : Bool) (v raw : Expr) (n : ℕ) (x : ℤ) (hn : 8 ≤ n) (f : Fits s n x) (p : Is r v n x) where
@@ -151,9 +151,9 @@ module _ (r : ℕ → ℕ) where
         let c = says-slt r positive-n (wider 8 n (negsuc k) hn g) zf q (is-const r 0 n (pow_pos n)) in
         as-bit _ (is-then r c (is_eq r (ap (λ (b : Bool). pos (bit b)) (sym (right-in rounding k))) (is-const r 0 1 (omega arith))))
 
-    pub bit-register : (y : ℕ) → y < 2 ^ n → Is r raw n (pos y) → BitIs (shiftBit (Register rounding true) s v raw n) (beyond s n (turned rounding x (byte y)))
-    unfolding shiftBit
-    bit-register y l q = turn (signedAmount raw n) (byte y) (byte_fits y) (is-amount r raw n y hn l q)
+    pub bit-register : (y : ℕ) → y < 2 ^ n → Is r raw n (pos y) → BitIs (shift_bit (Register rounding true) s v raw n) (beyond s n (turned rounding x (byte y)))
+    unfolding shift_bit
+    bit-register y l q = turn (signed_amount raw n) (byte y) (byte_fits y) (is-amount r raw n y hn l q)
 
 -- ---- each operation
 module _ (r : ℕ → ℕ) (n i : ℕ) (d a b : Expr) (w x y : ℕ) (h8 : 8 ≤ n) (even : n / 2 * 2 ≡ n) (hw : w < 2 ^ n) (hd : Has r d n w) where
@@ -172,20 +172,20 @@ module _ (r : ℕ → ℕ) (n i : ℕ) (d a b : Expr) (w x y : ℕ) (h8 : 8 ≤ 
   qd : Is r d n (S n w)
   qd = is-reading r true hw pd
 
-  long : Sources r a b x y (n / 2) → BitIs r (productBit a b n) (beyondS n (twice n x y))
+  long : Sources r a b x y (n / 2) → BitIs r (product_bit a b n) (beyond_s n (twice n x y))
   long g =
-      subst (λ (m : ℕ). BitIs r (productBit a b m) (beyondS m (S (n / 2) x *ℤ S (n / 2) y *ℤ pos 2))) even
+      subst (λ (m : ℕ). BitIs r (product_bit a b m) (beyond_s m (S (n / 2) x *ℤ S (n / 2) y *ℤ pos 2))) even
       (as-bit r _ (bit-dmull r a b (n / 2) (S (n / 2) x) (S (n / 2) y) (omega arith) g.sx g.sy g.qa g.qb))
 
   long-with : (subtract : Bool) → Sources r a b x y (n / 2)
-      → BitIs r (doublingLongBit (With (cond subtract Sub Add)) d a b n) (beyondS n (twice n x y) || beyondS n (applyZ subtract (S n w) (doubled n x y)))
+      → BitIs r (doubling_long_bit (With (cond subtract Sub Add)) d a b n) (beyond_s n (twice n x y) || beyond_s n (apply_z subtract (S n w) (doubled n x y)))
   long-with subtract g =
-      subst (λ (m : ℕ). FitsS m (S n w) → Is r d m (S n w) → BitIs r (doublingLongBit (With (cond subtract Sub Add)) d a b m)
-      (beyondS m (S (n / 2) x *ℤ S (n / 2) y *ℤ pos 2) || beyondS m (applyZ subtract (S n w) (cS m (S (n / 2) x *ℤ S (n / 2) y *ℤ pos 2))))) even
+      subst (λ (m : ℕ). FitsS m (S n w) → Is r d m (S n w) → BitIs r (doubling_long_bit (With (cond subtract Sub Add)) d a b m)
+      (beyond_s m (S (n / 2) x *ℤ S (n / 2) y *ℤ pos 2) || beyond_s m (apply_z subtract (S n w) (c_s m (S (n / 2) x *ℤ S (n / 2) y *ℤ pos 2))))) even
       (bit-dmlal r a b (n / 2) (S (n / 2) x) (S (n / 2) y) (omega arith) g.sx g.sy g.qa g.qb subtract d (S n w)) sw qd
 
-  pub bit_is : (o : Op) → least o ≤ i → i ≤ most o n → Sources r a b x y (sourceBits (form o).lanes n) → (upper : Bool) → BitIs r (laneBit (neonOp o i upper) n d a b) (saturatesLane o n i w x y)
-  unfolding saturatesLane shiftBit saturatingBit doublingLongBit
+  pub bit_is : (o : Op) → least o ≤ i → i ≤ most o n → Sources r a b x y (source_bits (form o).lanes n) → (upper : Bool) → BitIs r (lane_bit (neon_op o i upper) n d a b) (saturates_lane o n i w x y)
+  unfolding saturates_lane shift_bit saturating_bit doubling_long_bit
   bit_is Op.SQSHLI l h g u = as-bit r _ (is_lost r a n i hn true (Const i n) (S n x) g.sx g.qa (by-const r i n))
   bit_is Op.UQSHLI l h g u = as-bit r _ (is_lost r a n i hn false (Const i n) (pos x) g.ux g.pa (by-const r i n))
   bit_is Op.SQSHLU l h g u = as-bit r _ (bit-sqshlu r a n i (S n x) hn g.sx g.qa)

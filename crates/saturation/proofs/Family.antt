@@ -3,13 +3,13 @@ use mathlib.Core.Path.{◌≡◌, refl}
 use mathlib.Core.Bool.{Bool}
 use Prim.Native.Nat.{ℕ}
 use Rattle.neon.specs.Op.{Op}
-use Rattle.neon.specs.Arm.{armLane}
-use Rattle.trees.specs.Neon.{neonOp}
-use Rattle.saturation.specs.Saturates.{saturatesLane}
-use Rattle.saturation.specs.Family.{familyLane, familyBeyond}
+use Rattle.neon.specs.Arm.{arm_lane}
+use Rattle.trees.specs.Neon.{neon_op}
+use Rattle.saturation.specs.Saturates.{saturates_lane}
+use Rattle.saturation.specs.Family.{family_lane, family_beyond}
 
-pub family-is : (o : Op) (n i d a b : ℕ) (u : Bool) → familyLane (neonOp o i u) n d a b ≡ armLane o n i d a b
-unfolding familyLane armLane
+pub family-is : (o : Op) (n i d a b : ℕ) (u : Bool) → family_lane (neon_op o i u) n d a b ≡ arm_lane o n i d a b
+unfolding family_lane arm_lane
 family-is Op.SHL n i d a b u = refl
 family-is Op.SQSHLI n i d a b u = refl
 family-is Op.UQSHLI n i d a b u = refl
@@ -78,8 +78,8 @@ family-is Op.RADDHN n i d a b u = refl
 family-is Op.SUBHN n i d a b u = refl
 family-is Op.RSUBHN n i d a b u = refl
 
-pub beyond-is : (o : Op) (n i d a b : ℕ) (u : Bool) → familyBeyond (neonOp o i u) n d a b ≡ saturatesLane o n i d a b
-unfolding familyBeyond saturatesLane
+pub beyond-is : (o : Op) (n i d a b : ℕ) (u : Bool) → family_beyond (neon_op o i u) n d a b ≡ saturates_lane o n i d a b
+unfolding family_beyond saturates_lane
 beyond-is Op.SHL n i d a b u = refl
 beyond-is Op.SQSHLI n i d a b u = refl
 beyond-is Op.UQSHLI n i d a b u = refl

@@ -19,16 +19,16 @@ use Rattle.trees_value.specs.Fits.{Fits}
 use Rattle.trees_value.proofs.Is.{Is, By, is_eq, is-const, is-shl, is-shift, is-then, is-else, says_eq}
 use Rattle.trees_value.proofs.Clamp.{reading, reading-fits, reading-wrap, reading-is, same, floor-fits}
 use Rattle.trees_value.proofs.Shift.{restored-is, floor-exact}
-use Rattle.saturation.specs.Saturates.{outside, beyondS, beyondU}
+use Rattle.saturation.specs.Saturates.{outside, beyond_s, beyond_u}
 use Rattle.saturation.specs.Bits.{lost}
 
 abbrev pub beyond : Bool → ℕ → ℤ → Bool
-beyond true n z = beyondS n z
-beyond false n z = beyondU n z
+beyond true n z = beyond_s n z
+beyond false n z = beyond_u n z
 
 -- an integer that fits is not beyond, and one that is not beyond fits
 pub inside : (s : Bool) (n : ℕ) (z : ℤ) → Fits s n z → beyond s n z ≡ false
-unfolding beyondS beyondU outside
+unfolding beyond_s beyond_u outside
 inside true n z f =
     rw (ge-is z (neg_ℤ (pos (2 ^ (n - 1)))) (omega (arith, neg-up (pos (2 ^ (n - 1))), neg-dn (pos (2 ^ (n - 1))))), ge-is (pos (2 ^ (n - 1) - 1)) z (omega arith))
 inside false n z f = rw (ge-is z (pos 0) (omega arith), ge-is (pos (2 ^ n - 1)) z (omega arith))
@@ -76,9 +76,9 @@ module _ (r : ℕ → ℕ) (v : Expr) (n k : ℕ) (hn : 0 < n) (s : Bool) (amoun
   outer : (s : Bool) → (Fits s n z → ⊥) → beyond s n z ≡ true
   outer true nf = go (lt_z z (neg_ℤ (pos (2 ^ (n - 1))))) refl (lt_z (pos (2 ^ (n - 1) - 1)) z) refl
     where
-      go : (a : Bool) → lt_z z (neg_ℤ (pos (2 ^ (n - 1)))) ≡ a → (b : Bool) → lt_z (pos (2 ^ (n - 1) - 1)) z ≡ b → beyondS n z ≡ true
-      go true d b e = unfold beyondS outside in rw d
-      go false d true e = unfold beyondS outside in rw (d, e)
+      go : (a : Bool) → lt_z z (neg_ℤ (pos (2 ^ (n - 1)))) ≡ a → (b : Bool) → lt_z (pos (2 ^ (n - 1) - 1)) z ≡ b → beyond_s n z ≡ true
+      go true d b e = unfold beyond_s outside in rw d
+      go false d true e = unfold beyond_s outside in rw (d, e)
       go false d false e =
           absurd (nf (record {
             low = omega (arith, lt_no z (neg_ℤ (pos (2 ^ (n - 1)))) d, neg-up (pos (2 ^ (n - 1))), neg-dn (pos (2 ^ (n - 1))));
@@ -86,9 +86,9 @@ module _ (r : ℕ → ℕ) (v : Expr) (n k : ℕ) (hn : 0 < n) (s : Bool) (amoun
           }))
   outer false nf = go (lt_z z (pos 0)) refl (lt_z (pos (2 ^ n - 1)) z) refl
     where
-      go : (a : Bool) → lt_z z (pos 0) ≡ a → (b : Bool) → lt_z (pos (2 ^ n - 1)) z ≡ b → beyondU n z ≡ true
-      go true d b e = unfold beyondU outside in rw d
-      go false d true e = unfold beyondU outside in rw (d, e)
+      go : (a : Bool) → lt_z z (pos 0) ≡ a → (b : Bool) → lt_z (pos (2 ^ n - 1)) z ≡ b → beyond_u n z ≡ true
+      go true d b e = unfold beyond_u outside in rw d
+      go false d true e = unfold beyond_u outside in rw (d, e)
       go false d false e =
           absurd (nf (record {
             low = omega (arith, lt_no z (pos 0) d);

@@ -9,12 +9,12 @@ use lib.Pow.{pow_pos}
 use Rattle.terms.specs.Expr.{Expr, width}
 use Rattle.terms.specs.Value.{value, bit, ite}
 use Rattle.neon.specs.Arm.{lanes}
-use Rattle.trees.specs.Simd.{concatLanes}
+use Rattle.trees.specs.Simd.{concat_lanes}
 use Rattle.neon.proofs.Lanes.{lanes-eq}
 use Rattle.trees_value.proofs.Is.{Has}
 use Rattle.trees_value.proofs.Lanes.{concat-value, concat-width}
 use Rattle.saturation.specs.Saturates.{some}
-use Rattle.saturation.specs.Bits.{instructionBit}
+use Rattle.saturation.specs.Bits.{instruction_bit}
 
 sum-zero : (b p q : ℕ) → 0 < p → b * p + q ≡ 0 → b ≡ 0
 sum-zero zero p q h e = refl
@@ -38,17 +38,17 @@ none_is zero f = refl
 none_is (suc k) f = one_more k f (lanes 1 k (λ j. bit (f j))) (none_is k f)
 
 module _ (r : ℕ → ℕ) (k : ℕ) (hk : 0 < k) (bits : ℕ → Expr) (f : ℕ → Bool) (each : (j : ℕ) → Has r (bits j) 1 (bit (f j))) where
-  all-width : width (concatLanes (k - 1) bits) ≡ k
+  all-width : width (concat_lanes (k - 1) bits) ≡ k
   all-width = concat-width r 1 (k - 1) bits (λ j. (each j).wide) ∙ omega arith
 
-  all-value : value r (concatLanes (k - 1) bits) ≡ lanes 1 k (λ j. bit (f j))
+  all-value : value r (concat_lanes (k - 1) bits) ≡ lanes 1 k (λ j. bit (f j))
   all-value =
       concat-value r 1 (k - 1) bits (λ j. (each j).wide)
       ∙ lanes-eq 1 (suc (k - 1)) (λ j. value r (bits j)) (λ j. bit (f j)) (λ j l. (each j).val)
       ∙ ap (λ (m : ℕ). lanes 1 m (λ j. bit (f j))) {x = suc (k - 1)} {y = k} (omega arith)
 
-  pub instruction-is : (before : Expr) (b : Bool) → Has r before 1 (bit b) → Has r (instructionBit k bits before) 1 (bit (b || some k f))
-  unfolding instructionBit value width
+  pub instruction-is : (before : Expr) (b : Bool) → Has r before 1 (bit b) → Has r (instruction_bit k bits before) 1 (bit (b || some k f))
+  unfolding instruction_bit value width
   instruction-is before b p = record {
     wide = p.wide;
     val = ap (λ (x : ℕ). ite (bit (eqb x 0)) (value r before) 1) all-value ∙ ap (λ (t : Bool). ite (bit t) (value r before) 1) (none_is k f) ∙ pick b (some k f) p.val;

@@ -1,8 +1,8 @@
--- A lane by family and flags, as the runner computes it: `armLane` grouped as the lowering groups it. n is the lane's bits.
+-- A lane by family and flags, as the runner computes it: `arm_lane` grouped as the lowering groups it. n is the lane's bits.
 use Rattle.std.specs.Prelude.{Bool, true, false, ◌||◌, ℕ, ◌+◌, ◌-◌, ◌*◌, ◌/◌, ◌%◌, ◌^◌, ℤ, pos, neg_ℤ, nat_abs, ◌+ℤ◌, ◌-ℤ◌, ◌*ℤ◌}
 use Rattle.terms.specs.declared.BinOp.{BinOp}
 use Rattle.terms.specs.declared.BinOp.TheVariants.{Add, Sub, Mul, And, Or, Xor, Shl, LShr, AShr}
-use Rattle.neon.specs.Arm.{wrap, U, S, cS, cU, floor, round, scale, byte, shiftZ, roundZ, ones, equalRun, bit_at, lanes, doubled}
+use Rattle.neon.specs.Arm.{wrap, U, S, c_s, c_u, floor, round, scale, byte, shift_z, round_z, ones, equal_run, bit_at, lanes, doubled}
 use Rattle.trees.specs.declared.NeonOp.{NeonOp}
 use Rattle.trees.specs.declared.NeonOp.TheVariants.{Shift, ShiftInsert, MixedSignAdd, DoublingLong, Saturating, BitwiseUnary, AbsoluteDifference, HighNarrow}
 use Rattle.trees.specs.declared.SaturateTo.{SaturateTo}
@@ -17,142 +17,142 @@ use Rattle.trees.specs.declared.BitwiseUnary.{BitwiseUnary as Unaries}
 use Rattle.trees.specs.declared.BitwiseUnary.TheVariants.{PopulationCount, LeadingZeros, LeadingSignBits, ReverseBits}
 use Rattle.trees.specs.declared.Combine.{Combine}
 use Rattle.trees.specs.declared.Combine.TheVariants.{Nothing, With}
-use Rattle.saturation.specs.Saturates.{beyondS, beyondU, twice}
+use Rattle.saturation.specs.Saturates.{beyond_s, beyond_u, twice}
 
 -- a lane as it is read, signed if the flag is true
-abbrev pub readZ : Bool → ℕ → ℕ → ℤ
-readZ true n a = S n a
-readZ false n a = U a
+abbrev pub read_z : Bool → ℕ → ℕ → ℤ
+read_z true n a = S n a
+read_z false n a = U a
 
 -- the clamp, and whether it alters
-abbrev pub clampTo : SaturateTo → ℕ → ℤ → ℤ
-clampTo Signed n z = cS n z
-clampTo Unsigned n z = cU n z
-clampTo SignedToUnsigned n z = cU n z
+abbrev pub clamp_to : SaturateTo → ℕ → ℤ → ℤ
+clamp_to Signed n z = c_s n z
+clamp_to Unsigned n z = c_u n z
+clamp_to SignedToUnsigned n z = c_u n z
 
-abbrev pub beyondTo : SaturateTo → ℕ → ℤ → Bool
-beyondTo Signed n z = beyondS n z
-beyondTo Unsigned n z = beyondU n z
-beyondTo SignedToUnsigned n z = beyondU n z
+abbrev pub beyond_to : SaturateTo → ℕ → ℤ → Bool
+beyond_to Signed n z = beyond_s n z
+beyond_to Unsigned n z = beyond_u n z
+beyond_to SignedToUnsigned n z = beyond_u n z
 
 abbrev pub limited : Saturate → ℕ → ℤ → ℤ
 limited Never n z = z
-limited (Into to) n z = clampTo to n z
+limited (Into to) n z = clamp_to to n z
 
-abbrev pub beyondLimit : Saturate → ℕ → ℤ → Bool
-beyondLimit Never n z = false
-beyondLimit (Into to) n z = beyondTo to n z
+abbrev pub beyond_limit : Saturate → ℕ → ℤ → Bool
+beyond_limit Never n z = false
+beyond_limit (Into to) n z = beyond_to to n z
 
 -- a register shift clamps into the range that it reads
-abbrev pub ownRange : Bool → Bool → Saturate
-ownRange true true = Into Signed
-ownRange true false = Into Unsigned
-ownRange false s = Never
+abbrev pub own_range : Bool → Bool → Saturate
+own_range true true = Into Signed
+own_range true false = Into Unsigned
+own_range false s = Never
 
-abbrev pub joinZ : BinOp → ℤ → ℤ → ℤ
-joinZ Sub x y = x -ℤ y
-joinZ Add x y = x +ℤ y
-joinZ Mul x y = x +ℤ y
-joinZ And x y = x +ℤ y
-joinZ Or x y = x +ℤ y
-joinZ Xor x y = x +ℤ y
-joinZ Shl x y = x +ℤ y
-joinZ LShr x y = x +ℤ y
-joinZ AShr x y = x +ℤ y
+abbrev pub join_z : BinOp → ℤ → ℤ → ℤ
+join_z Sub x y = x -ℤ y
+join_z Add x y = x +ℤ y
+join_z Mul x y = x +ℤ y
+join_z And x y = x +ℤ y
+join_z Or x y = x +ℤ y
+join_z Xor x y = x +ℤ y
+join_z Shl x y = x +ℤ y
+join_z LShr x y = x +ℤ y
+join_z AShr x y = x +ℤ y
 
-abbrev pub rightZ : Bool → ℤ → ℕ → ℤ
-rightZ true z i = round z i
-rightZ false z i = floor z i
+abbrev pub right_z : Bool → ℤ → ℕ → ℤ
+right_z true z i = round z i
+right_z false z i = floor z i
 
-abbrev pub turnZ : Bool → ℤ → ℤ → ℤ
-turnZ true z k = roundZ z k
-turnZ false z k = shiftZ z k
+abbrev pub turn_z : Bool → ℤ → ℤ → ℤ
+turn_z true z k = round_z z k
+turn_z false z k = shift_z z k
 
-abbrev pub unaryZ : Bool → ℤ → ℤ
-unaryZ true x = neg_ℤ x
-unaryZ false x = pos (nat_abs x)
+abbrev pub unary_z : Bool → ℤ → ℤ
+unary_z true x = neg_ℤ x
+unary_z false x = pos (nat_abs x)
 
-abbrev pub plusZ : Bool → ℤ → ℕ → ℤ
-plusZ true z c = z +ℤ pos c
-plusZ false z c = z
+abbrev pub plus_z : Bool → ℤ → ℕ → ℤ
+plus_z true z c = z +ℤ pos c
+plus_z false z c = z
 
-abbrev pub highZ : Bool → ℕ → ℕ → ℤ
-highZ true a b = U a -ℤ U b
-highZ false a b = U a +ℤ U b
+abbrev pub high_z : Bool → ℕ → ℕ → ℤ
+high_z true a b = U a -ℤ U b
+high_z false a b = U a +ℤ U b
 
-abbrev pub shiftLaneZ : ShiftKind → (signed : Bool) (n a b : ℕ) → ℕ
-shiftLaneZ (LeftImmediate shift saturate) signed n a b = wrap n (limited saturate n (scale (readZ signed n a) shift))
-shiftLaneZ (RightImmediate shift rounding) signed n a b = wrap n (rightZ rounding (readZ signed n a) shift)
-shiftLaneZ (Register rounding saturate) signed n a b = wrap n (limited (ownRange saturate signed) n (turnZ rounding (readZ signed n a) (byte b)))
+abbrev pub shift_lane_z : ShiftKind → (signed : Bool) (n a b : ℕ) → ℕ
+shift_lane_z (LeftImmediate shift saturate) signed n a b = wrap n (limited saturate n (scale (read_z signed n a) shift))
+shift_lane_z (RightImmediate shift rounding) signed n a b = wrap n (right_z rounding (read_z signed n a) shift)
+shift_lane_z (Register rounding saturate) signed n a b = wrap n (limited (own_range saturate signed) n (turn_z rounding (read_z signed n a) (byte b)))
 
-abbrev pub insertLaneZ : Bool → (shift n d a : ℕ) → ℕ
-insertLaneZ true shift n d a = wrap n (scale (U a) shift) + d % 2 ^ shift
-insertLaneZ false shift n d a = d / 2 ^ (n - shift) * 2 ^ (n - shift) + wrap n (floor (U a) shift)
+abbrev pub insert_lane_z : Bool → (shift n d a : ℕ) → ℕ
+insert_lane_z true shift n d a = wrap n (scale (U a) shift) + d % 2 ^ shift
+insert_lane_z false shift n d a = d / 2 ^ (n - shift) * 2 ^ (n - shift) + wrap n (floor (U a) shift)
 
-abbrev pub mixedLaneZ : Bool → (n d a : ℕ) → ℕ
-mixedLaneZ true n d a = wrap n (cS n (S n d +ℤ U a))
-mixedLaneZ false n d a = wrap n (cU n (U d +ℤ S n a))
+abbrev pub mixed_lane_z : Bool → (n d a : ℕ) → ℕ
+mixed_lane_z true n d a = wrap n (c_s n (S n d +ℤ U a))
+mixed_lane_z false n d a = wrap n (c_u n (U d +ℤ S n a))
 
-abbrev pub doublingLaneZ : Combine → (n d a b : ℕ) → ℕ
-doublingLaneZ Nothing n d a b = wrap n (doubled n a b)
-doublingLaneZ (With op) n d a b = wrap n (cS n (joinZ op (S n d) (doubled n a b)))
+abbrev pub doubling_lane_z : Combine → (n d a b : ℕ) → ℕ
+doubling_lane_z Nothing n d a b = wrap n (doubled n a b)
+doubling_lane_z (With op) n d a b = wrap n (c_s n (join_z op (S n d) (doubled n a b)))
 
-abbrev pub saturatingLaneZ : SaturatingKind → (signed : Bool) (n a b : ℕ) → ℕ
-saturatingLaneZ (AddSub op to) signed n a b = wrap n (clampTo to n (joinZ op (readZ signed n a) (readZ signed n b)))
-saturatingLaneZ (Halving rounding) signed n a b = wrap n (rightZ rounding (readZ signed n a +ℤ readZ signed n b) 1)
-saturatingLaneZ (Narrow to) signed n a b = wrap n (clampTo to n (readZ signed (n * 2) a))
-saturatingLaneZ (ShiftNarrow shift rounding to) signed n a b = wrap n (limited to n (rightZ rounding (readZ signed (n * 2) a) shift))
-saturatingLaneZ (DoublingMultiplyHigh rounding) signed n a b = wrap n (cS n (rightZ rounding (S n a *ℤ S n b *ℤ pos 2) n))
-saturatingLaneZ (Unary negate) signed n a b = wrap n (cS n (unaryZ negate (S n a)))
+abbrev pub saturating_lane_z : SaturatingKind → (signed : Bool) (n a b : ℕ) → ℕ
+saturating_lane_z (AddSub op to) signed n a b = wrap n (clamp_to to n (join_z op (read_z signed n a) (read_z signed n b)))
+saturating_lane_z (Halving rounding) signed n a b = wrap n (right_z rounding (read_z signed n a +ℤ read_z signed n b) 1)
+saturating_lane_z (Narrow to) signed n a b = wrap n (clamp_to to n (read_z signed (n * 2) a))
+saturating_lane_z (ShiftNarrow shift rounding to) signed n a b = wrap n (limited to n (right_z rounding (read_z signed (n * 2) a) shift))
+saturating_lane_z (DoublingMultiplyHigh rounding) signed n a b = wrap n (c_s n (right_z rounding (S n a *ℤ S n b *ℤ pos 2) n))
+saturating_lane_z (Unary negate) signed n a b = wrap n (c_s n (unary_z negate (S n a)))
 
-abbrev pub bitsLaneZ : Unaries → (n a : ℕ) → ℕ
-bitsLaneZ PopulationCount n a = ones n a
-bitsLaneZ LeadingZeros n a = equalRun 0 n a
-bitsLaneZ LeadingSignBits n a = equalRun (bit_at (n - 1) a) (n - 1) a
-bitsLaneZ ReverseBits n a = lanes 1 n (λ j. bit_at (n - 1 - j) a)
+abbrev pub bits_lane_z : Unaries → (n a : ℕ) → ℕ
+bits_lane_z PopulationCount n a = ones n a
+bits_lane_z LeadingZeros n a = equal_run 0 n a
+bits_lane_z LeadingSignBits n a = equal_run (bit_at (n - 1) a) (n - 1) a
+bits_lane_z ReverseBits n a = lanes 1 n (λ j. bit_at (n - 1 - j) a)
 
-abbrev pub differenceLaneZ : Bool → Bool → (n d a b : ℕ) → ℕ
-differenceLaneZ signed true n d a b = wrap n (U d +ℤ pos (nat_abs (readZ signed n a -ℤ readZ signed n b)))
-differenceLaneZ signed false n d a b = wrap n (pos (nat_abs (readZ signed n a -ℤ readZ signed n b)))
+abbrev pub difference_lane_z : Bool → Bool → (n d a b : ℕ) → ℕ
+difference_lane_z signed true n d a b = wrap n (U d +ℤ pos (nat_abs (read_z signed n a -ℤ read_z signed n b)))
+difference_lane_z signed false n d a b = wrap n (pos (nat_abs (read_z signed n a -ℤ read_z signed n b)))
 
-unfoldable pub familyLane : NeonOp → (n d a b : ℕ) → ℕ
-familyLane (Shift kind signed) n d a b = shiftLaneZ kind signed n a b
-familyLane (ShiftInsert left shift) n d a b = insertLaneZ left shift n d a
-familyLane (MixedSignAdd signed) n d a b = mixedLaneZ signed n d a
-familyLane (DoublingLong combine upper element) n d a b = doublingLaneZ combine n d a b
-familyLane (Saturating kind signed upper) n d a b = saturatingLaneZ kind signed n a b
-familyLane (BitwiseUnary kind) n d a b = bitsLaneZ kind n a
-familyLane (AbsoluteDifference signed accumulate) n d a b = differenceLaneZ signed accumulate n d a b
-familyLane (HighNarrow subtract rounding upper) n d a b = wrap (n * 2) (plusZ rounding (highZ subtract a b) (2 ^ (n - 1))) / 2 ^ n
+unfoldable pub family_lane : NeonOp → (n d a b : ℕ) → ℕ
+family_lane (Shift kind signed) n d a b = shift_lane_z kind signed n a b
+family_lane (ShiftInsert left shift) n d a b = insert_lane_z left shift n d a
+family_lane (MixedSignAdd signed) n d a b = mixed_lane_z signed n d a
+family_lane (DoublingLong combine upper element) n d a b = doubling_lane_z combine n d a b
+family_lane (Saturating kind signed upper) n d a b = saturating_lane_z kind signed n a b
+family_lane (BitwiseUnary kind) n d a b = bits_lane_z kind n a
+family_lane (AbsoluteDifference signed accumulate) n d a b = difference_lane_z signed accumulate n d a b
+family_lane (HighNarrow subtract rounding upper) n d a b = wrap (n * 2) (plus_z rounding (high_z subtract a b) (2 ^ (n - 1))) / 2 ^ n
 
 -- whether it saturates
-abbrev pub shiftBeyond : ShiftKind → (signed : Bool) (n a b : ℕ) → Bool
-shiftBeyond (LeftImmediate shift saturate) signed n a b = beyondLimit saturate n (scale (readZ signed n a) shift)
-shiftBeyond (RightImmediate shift rounding) signed n a b = false
-shiftBeyond (Register rounding saturate) signed n a b = beyondLimit (ownRange saturate signed) n (turnZ rounding (readZ signed n a) (byte b))
+abbrev pub shift_beyond : ShiftKind → (signed : Bool) (n a b : ℕ) → Bool
+shift_beyond (LeftImmediate shift saturate) signed n a b = beyond_limit saturate n (scale (read_z signed n a) shift)
+shift_beyond (RightImmediate shift rounding) signed n a b = false
+shift_beyond (Register rounding saturate) signed n a b = beyond_limit (own_range saturate signed) n (turn_z rounding (read_z signed n a) (byte b))
 
-abbrev pub mixedBeyond : Bool → (n d a : ℕ) → Bool
-mixedBeyond true n d a = beyondS n (S n d +ℤ U a)
-mixedBeyond false n d a = beyondU n (U d +ℤ S n a)
+abbrev pub mixed_beyond : Bool → (n d a : ℕ) → Bool
+mixed_beyond true n d a = beyond_s n (S n d +ℤ U a)
+mixed_beyond false n d a = beyond_u n (U d +ℤ S n a)
 
-abbrev pub doublingBeyond : Combine → (n d a b : ℕ) → Bool
-doublingBeyond Nothing n d a b = beyondS n (twice n a b)
-doublingBeyond (With op) n d a b = beyondS n (twice n a b) || beyondS n (joinZ op (S n d) (doubled n a b))
+abbrev pub doubling_beyond : Combine → (n d a b : ℕ) → Bool
+doubling_beyond Nothing n d a b = beyond_s n (twice n a b)
+doubling_beyond (With op) n d a b = beyond_s n (twice n a b) || beyond_s n (join_z op (S n d) (doubled n a b))
 
-abbrev pub saturatingBeyond : SaturatingKind → (signed : Bool) (n a b : ℕ) → Bool
-saturatingBeyond (AddSub op to) signed n a b = beyondTo to n (joinZ op (readZ signed n a) (readZ signed n b))
-saturatingBeyond (Halving rounding) signed n a b = false
-saturatingBeyond (Narrow to) signed n a b = beyondTo to n (readZ signed (n * 2) a)
-saturatingBeyond (ShiftNarrow shift rounding to) signed n a b = beyondLimit to n (rightZ rounding (readZ signed (n * 2) a) shift)
-saturatingBeyond (DoublingMultiplyHigh rounding) signed n a b = beyondS n (rightZ rounding (S n a *ℤ S n b *ℤ pos 2) n)
-saturatingBeyond (Unary negate) signed n a b = beyondS n (unaryZ negate (S n a))
+abbrev pub saturating_beyond : SaturatingKind → (signed : Bool) (n a b : ℕ) → Bool
+saturating_beyond (AddSub op to) signed n a b = beyond_to to n (join_z op (read_z signed n a) (read_z signed n b))
+saturating_beyond (Halving rounding) signed n a b = false
+saturating_beyond (Narrow to) signed n a b = beyond_to to n (read_z signed (n * 2) a)
+saturating_beyond (ShiftNarrow shift rounding to) signed n a b = beyond_limit to n (right_z rounding (read_z signed (n * 2) a) shift)
+saturating_beyond (DoublingMultiplyHigh rounding) signed n a b = beyond_s n (right_z rounding (S n a *ℤ S n b *ℤ pos 2) n)
+saturating_beyond (Unary negate) signed n a b = beyond_s n (unary_z negate (S n a))
 
-unfoldable pub familyBeyond : NeonOp → (n d a b : ℕ) → Bool
-familyBeyond (Shift kind signed) n d a b = shiftBeyond kind signed n a b
-familyBeyond (ShiftInsert left shift) n d a b = false
-familyBeyond (MixedSignAdd signed) n d a b = mixedBeyond signed n d a
-familyBeyond (DoublingLong combine upper element) n d a b = doublingBeyond combine n d a b
-familyBeyond (Saturating kind signed upper) n d a b = saturatingBeyond kind signed n a b
-familyBeyond (BitwiseUnary kind) n d a b = false
-familyBeyond (AbsoluteDifference signed accumulate) n d a b = false
-familyBeyond (HighNarrow subtract rounding upper) n d a b = false
+unfoldable pub family_beyond : NeonOp → (n d a b : ℕ) → Bool
+family_beyond (Shift kind signed) n d a b = shift_beyond kind signed n a b
+family_beyond (ShiftInsert left shift) n d a b = false
+family_beyond (MixedSignAdd signed) n d a b = mixed_beyond signed n d a
+family_beyond (DoublingLong combine upper element) n d a b = doubling_beyond combine n d a b
+family_beyond (Saturating kind signed upper) n d a b = saturating_beyond kind signed n a b
+family_beyond (BitwiseUnary kind) n d a b = false
+family_beyond (AbsoluteDifference signed accumulate) n d a b = false
+family_beyond (HighNarrow subtract rounding upper) n d a b = false

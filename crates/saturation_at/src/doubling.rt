@@ -3,10 +3,10 @@ ghost use Rattle.std.specs.Prelude.{true, [], ◌∷◌, ◌+◌, ◌*◌, ◌/�
 ghost use Rattle.pool.specs.Growth.{Room};
 ghost use Rattle.trees.specs.declared.Combine.{Combine};
 ghost use Rattle.trees.specs.Arith.{joined};
-ghost use Rattle.trees.specs.Trees.{extractLane};
-ghost use Rattle.lower.specs.Builds.{Builds2, Lowers, read, readIf, Below};
+ghost use Rattle.trees.specs.Trees.{extract_lane};
+ghost use Rattle.lower.specs.Builds.{Builds2, Lowers, read, read_if, Below};
 ghost use Rattle.lower_doubling_long.specs.Elements.{accumulates};
-ghost use Rattle.saturation.specs.Bits.{clipped, productBit, doublingLongBit};
+ghost use Rattle.saturation.specs.Bits.{clipped, product_bit, doubling_long_bit};
 
 use neon::Lane;
 use pool::{Built, Node};
@@ -19,7 +19,7 @@ fn product_bit(pool: &mut [u64], count: usize, a: Node, b: Node, lane_bits: u64)
     requires room { Room pool.old count 14 }
     requires a_lt_count { (a.0 < count) × (b.0 < count) × (2 ≤ lane_bits) × (lane_bits ≤ 64) }
     ensures { Builds2 pool.old count pool.new result 14 a (lane_bits / 2) b (lane_bits / 2) 1
-        (λ a b. productBit a b lane_bits) (a.0 ∷ b.0 ∷ []) }
+        (λ a b. product_bit a b lane_bits) (a.0 ∷ b.0 ∷ []) }
 {
     let wide = lane_bits + 1;
     let to = SaturateTo::Signed;
@@ -60,7 +60,7 @@ fn either_bit(
     requires room { Room pool.old count 34 }
     requires d_lt_count { (d.0 < count) × (a.0 < count) × (b.0 < count) × (2 ≤ lane_bits) × (lane_bits ≤ 64) }
     ensures { Lowers pool.old count pool.new result 34 1 (read d lane_bits) (read a (lane_bits / 2)) (read b (lane_bits / 2))
-        (λ d a b. doublingLongBit (Combine.With op) d a b lane_bits) (a.0 ∷ b.0 ∷ d.0 ∷ []) }
+        (λ d a b. doubling_long_bit (Combine.With op) d a b lane_bits) (a.0 ∷ b.0 ∷ d.0 ∷ []) }
 {
     let wide = lane_bits + 1;
     let to = SaturateTo::Signed;
@@ -85,12 +85,12 @@ pub fn doubling_at(
     index: Lane,
 ) -> Built
     requires room { Room pool.old count 37 }
-    requires first_lt_count { (first.0 < count) × (second.0 < count) × Below (readIf (accumulates combine) d 0) count }
+    requires first_lt_count { (first.0 < count) × (second.0 < count) × Below (read_if (accumulates combine) d 0) count }
     requires le_lane_bits { (2 ≤ lane_bits) × (lane_bits ≤ 64) × (lane_bits / 2 * from.0 + lane_bits / 2 ≤ 128)
         × (lane_bits / 2 * with.0 + lane_bits / 2 ≤ 128) × (lane_bits * index.0 + lane_bits ≤ 128) }
-    ensures { Lowers pool.old count pool.new result 37 1 (readIf (accumulates combine) d 128) (read first 128) (read second 128)
-        (λ d a b. doublingLongBit combine (extractLane d lane_bits index.0) (extractLane a (lane_bits / 2) from.0)
-        (extractLane b (lane_bits / 2) with.0) lane_bits) [] }
+    ensures { Lowers pool.old count pool.new result 37 1 (read_if (accumulates combine) d 128) (read first 128) (read second 128)
+        (λ d a b. doubling_long_bit combine (extract_lane d lane_bits index.0) (extract_lane a (lane_bits / 2) from.0)
+        (extract_lane b (lane_bits / 2) with.0) lane_bits) [] }
 {
     let narrow = lane_bits / 2;
     let a = lower_simd::extract_lane(pool, count, first, narrow, from);

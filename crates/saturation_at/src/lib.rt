@@ -3,11 +3,11 @@
 ghost use Rattle.std.specs.Prelude.{true, ◌≡◌, [], ◌+◌, ◌*◌, ◌≤◌, ◌<◌};
 ghost use Rattle.pool.specs.Growth.{Room};
 ghost use Rattle.trees.specs.declared.Saturate.{Saturate};
-ghost use Rattle.trees.specs.Arith.{kindTo, kindBits};
-ghost use Rattle.trees.specs.Trees.{extractLane};
-ghost use Rattle.lower.specs.Builds.{Lowers, read, readIf, unread, Below};
-ghost use Rattle.lower_kinds.specs.Sources.{is_register, AmountIn, usesSecond, KindIn};
-ghost use Rattle.saturation.specs.Bits.{shiftBit, saturatingBit, mixedSignBit, saturableShift};
+ghost use Rattle.trees.specs.Arith.{kind_to, kind_bits};
+ghost use Rattle.trees.specs.Trees.{extract_lane};
+ghost use Rattle.lower.specs.Builds.{Lowers, read, read_if, unread, Below};
+ghost use Rattle.lower_kinds.specs.Sources.{is_register, AmountIn, uses_second, KindIn};
+ghost use Rattle.saturation.specs.Bits.{shift_bit, saturating_bit, mixed_sign_bit, saturable_shift};
 
 use lower_kinds::sources::{is_register, source_bits, uses_second};
 use lower_shift::signed_amount;
@@ -30,10 +30,10 @@ pub fn shift_at(
     index: Lane,
 ) -> Built
     requires room { Room pool.old count 15 }
-    requires first_lt_count { (first.0 < count) × Below (readIf (is_register kind) second 0) count }
-    requires le_lane_bits { (8 ≤ lane_bits) × (lane_bits ≤ 64) × AmountIn kind lane_bits × (saturableShift kind ≡ true) × (lane_bits * index.0 + lane_bits ≤ 128) }
-    ensures { Lowers pool.old count pool.new result 15 1 unread (read first 128) (readIf (is_register kind) second 128)
-        (λ d a b. shiftBit kind signed (extractLane a lane_bits index.0) (extractLane b lane_bits index.0) lane_bits) [] }
+    requires first_lt_count { (first.0 < count) × Below (read_if (is_register kind) second 0) count }
+    requires le_lane_bits { (8 ≤ lane_bits) × (lane_bits ≤ 64) × AmountIn kind lane_bits × (saturable_shift kind ≡ true) × (lane_bits * index.0 + lane_bits ≤ 128) }
+    ensures { Lowers pool.old count pool.new result 15 1 unread (read first 128) (read_if (is_register kind) second 128)
+        (λ d a b. shift_bit kind signed (extract_lane a lane_bits index.0) (extract_lane b lane_bits index.0) lane_bits) [] }
 {
     let value = lower_simd::extract_lane(pool, count, first, lane_bits, index);
     if is_register(kind) {
@@ -72,7 +72,7 @@ pub fn mixed_at(
     requires first_lt_count { (first.0 < count) × (d.0 < count) }
     requires le_lane_bits { (1 ≤ lane_bits) × (lane_bits ≤ 64) × (lane_bits * index.0 + lane_bits ≤ 128) }
     ensures { Lowers pool.old count pool.new result 14 1 (read d 128) (read first 128) unread
-        (λ d a b. mixedSignBit destination_signed (extractLane d lane_bits index.0) (extractLane a lane_bits index.0) lane_bits) [] }
+        (λ d a b. mixed_sign_bit destination_signed (extract_lane d lane_bits index.0) (extract_lane a lane_bits index.0) lane_bits) [] }
 {
     let prior = lower_simd::extract_lane(pool, count, d, lane_bits, index);
     let addend = lower_simd::extract_lane(pool, prior.count, first, lane_bits, index);
@@ -98,11 +98,11 @@ pub fn saturating_at(
     index: Lane,
 ) -> Built
     requires room { Room pool.old count 20 }
-    requires first_lt_count { (first.0 < count) × Below (readIf (usesSecond kind) second 0) count }
-    requires le_lane_bits { (1 ≤ lane_bits) × (lane_bits ≤ 64) × KindIn kind lane_bits × (kindTo kind ≡ Saturate.Into to)
-        × (kindBits kind lane_bits * index.0 + kindBits kind lane_bits ≤ 128) }
-    ensures { Lowers pool.old count pool.new result 20 1 unread (read first 128) (readIf (usesSecond kind) second 128)
-        (λ d a b. saturatingBit kind (extractLane a (kindBits kind lane_bits) index.0) (extractLane b (kindBits kind lane_bits) index.0)
+    requires first_lt_count { (first.0 < count) × Below (read_if (uses_second kind) second 0) count }
+    requires le_lane_bits { (1 ≤ lane_bits) × (lane_bits ≤ 64) × KindIn kind lane_bits × (kind_to kind ≡ Saturate.Into to)
+        × (kind_bits kind lane_bits * index.0 + kind_bits kind lane_bits ≤ 128) }
+    ensures { Lowers pool.old count pool.new result 20 1 unread (read first 128) (read_if (uses_second kind) second 128)
+        (λ d a b. saturating_bit kind (extract_lane a (kind_bits kind lane_bits) index.0) (extract_lane b (kind_bits kind lane_bits) index.0)
         lane_bits signed_sources) [] }
 {
     let bits = source_bits(kind, lane_bits);

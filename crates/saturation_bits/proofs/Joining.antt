@@ -15,22 +15,22 @@ use Rattle.trees.specs.declared.NeonShape.{NeonShape}
 use Rattle.trees.specs.declared.Saturate.{Saturate}
 use Rattle.trees.specs.declared.Saturate.TheVariants.{Never}
 use Rattle.trees.specs.declared.SaturatingKind.{SaturatingKind}
-use Rattle.trees.specs.Simd.{concatLanes}
-use Rattle.trees.specs.Arith.{kindTo, sourceLane}
-use Rattle.trees.specs.Trees.{extractLane}
-use Rattle.lower.specs.Builds.{Source, Lowers, read, readIf, unread}
+use Rattle.trees.specs.Simd.{concat_lanes}
+use Rattle.trees.specs.Arith.{kind_to, source_lane}
+use Rattle.trees.specs.Trees.{extract_lane}
+use Rattle.lower.specs.Builds.{Source, Lowers, read, read_if, unread}
 use Rattle.lower_doubling_long.specs.Elements.{accumulates}
 use Rattle.trees.specs.declared.Combine.{Combine}
 use Rattle.trees.specs.declared.NeonOp.TheVariants.{DoublingLong}
 use Rattle.lower_neon.proofs.Sources.{Weaker}
 use Rattle.lower_doubling_long.proofs.Multiplying.{factor-fits, factor-most}
-use Rattle.lower_neon.specs.Family.{readsSecond, readsOld}
-use Rattle.saturation.specs.Bits.{saturable, saturableKind, saturableTo, doublingLongBit, instructionBit}
-use Rattle.saturation_bits.specs.Lanes.{familyBit, laneAt, BitMade}
+use Rattle.lower_neon.specs.Family.{reads_second, reads_old}
+use Rattle.saturation.specs.Bits.{saturable, saturable_kind, saturable_to, doubling_long_bit, instruction_bit}
+use Rattle.saturation_bits.specs.Lanes.{family_bit, lane_at, BitMade}
 
 -- a kind that clamps has a range
-pub not-never : (kind : SaturatingKind) {range : Saturate} → range ≡ kindTo kind → range ≡ Never → saturableKind kind ≡ true → ⊥
-not-never kind e q h = false≢true (sym (ap saturableTo q) ∙ ap saturableTo e ∙ h)
+pub not-never : (kind : SaturatingKind) {range : Saturate} → range ≡ kind_to kind → range ≡ Never → saturable_kind kind ≡ true → ⊥
+not-never kind e q h = false≢true (sym (ap saturable_to q) ∙ ap saturable_to e ∙ h)
 
 -- an operation that cannot saturate is none of these
 pub not_op : {op op' : NeonOp} → op ≡ op' → saturable op' ≡ false → saturable op ≡ true → ⊥
@@ -38,7 +38,7 @@ not_op e f h = false≢true (sym f ∙ sym (ap saturable e) ∙ h)
 
 -- the lane of the first factor, and of the second, lies within a register
 pub from-fits : {op : NeonOp} {combine : Combine} {upper element : Bool} → op ≡ DoublingLong combine upper element → (n lanes : ℕ) {j lane : ℕ} → j < lanes → n * lanes ≤ 128
-    → lane ≡ sourceLane upper lanes j → n / 2 * lane + n / 2 ≤ 128
+    → lane ≡ source_lane upper lanes j → n / 2 * lane + n / 2 ≤ 128
 from-fits {upper = upper} q n lanes h l e = omega (arith, factor-fits upper n lanes h e, factor-most upper n lanes l)
 
 pub with-fits : {op : NeonOp} {combine : Combine} {upper element : Bool} → op ≡ DoublingLong combine upper element → (n i f : ℕ) {g : ℕ} → g ≡ cond element i f
@@ -55,27 +55,27 @@ any-source s ws c t x e = absurd (false≢true e)
 
 pub doubled : {w0 w1 : List ℕ} {k : ℕ} {r : Built} {first second d : Node} {op : NeonOp} {combine : Combine} {upper element : Bool} (n lanes i j : ℕ) {f g : ℕ}
     → op ≡ DoublingLong combine upper element
-    → f ≡ sourceLane upper lanes j
+    → f ≡ source_lane upper lanes j
     → g ≡ cond element i f
-    → Lowers w0 k w1 r 37 1 (readIf (accumulates combine) d 128) (read first 128) (read second 128)
-    (λ d a b. doublingLongBit combine (extractLane d n j) (extractLane a (n / 2) f) (extractLane b (n / 2) g) n) []
-    → Lowers w0 k w1 r 37 1 (readIf (readsOld op) d 128) (read first 128) (readIf (readsSecond op) second 128) (λ d a b. familyBit op n lanes i d a b j) []
+    → Lowers w0 k w1 r 37 1 (read_if (accumulates combine) d 128) (read first 128) (read second 128)
+    (λ d a b. doubling_long_bit combine (extract_lane d n j) (extract_lane a (n / 2) f) (extract_lane b (n / 2) g) n) []
+    → Lowers w0 k w1 r 37 1 (read_if (reads_old op) d 128) (read first 128) (read_if (reads_second op) second 128) (λ d a b. family_bit op n lanes i d a b j) []
 doubled n lanes i j o p q e = rw (o, ← p, ← q) e
 
 pub instruction : {w0 w1 w2 w3 w4 w5 : List ℕ} {k : ℕ} {r1 r2 r3 r4 r5 : Built} {first second d before : Node} (s : NeonShape)
     → 1 ≤ s.lanes
     → s.lanes ≤ 16
-    → Lowers w0 k w1 r1 (38 * s.lanes) (1 * s.lanes) (readIf (readsOld s.op) d 128) (read first 128) (readIf (readsSecond s.op) second 128)
-    (λ d a b. concatLanes (s.lanes - 1) (laneAt s d a b)) []
+    → Lowers w0 k w1 r1 (38 * s.lanes) (1 * s.lanes) (read_if (reads_old s.op) d 128) (read first 128) (read_if (reads_second s.op) second 128)
+    (λ d a b. concat_lanes (s.lanes - 1) (lane_at s d a b)) []
     → MadeConst w1 r1.count w2 r2 0 0 s.lanes
     → MadeCompare w2 r2.count w3 r3 Eq r1.node r2.node
     → MadeConst w3 r3.count w4 r4 1 0 1
     → MadeIte w4 r4.count w5 r5 r3.node before r4.node
     → BitMade w0 k w5 r5 s first second d before
-unfolding instructionBit
+unfolding instruction_bit
 instruction {w0} {w1} {k = k} {r1 = r1} {first = first} {second = second} {d = d} {before = before} s l m e1 e2 e3 e4 e5 =
-    let f1 = subst (λ (w : ℕ). Lowers w0 k w1 r1 (38 * s.lanes) w (readIf (readsOld s.op) d 128) (read first 128) (readIf (readsSecond s.op) second 128)
-    (λ d a b. concatLanes (s.lanes - 1) (laneAt s d a b)) []) {x = 1 * s.lanes} {y = s.lanes} (omega arith) e1 in
+    let f1 = subst (λ (w : ℕ). Lowers w0 k w1 r1 (38 * s.lanes) w (read_if (reads_old s.op) d 128) (read first 128) (read_if (reads_second s.op) second 128)
+    (λ d a b. concat_lanes (s.lanes - 1) (lane_at s d a b)) []) {x = 1 * s.lanes} {y = s.lanes} (omega arith) e1 in
     record {
       sized = omega (arith, e1.sized, e2.sized, e3.sized, e4.sized, e5.sized);
       made = λ {td} {ta} {tb} {t} v x y z b.

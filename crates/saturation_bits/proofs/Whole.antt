@@ -5,31 +5,31 @@ use mathlib.Core.Bool.{Bool, true, false, cond}
 use native.Mathlib.Omega.{arith}
 use Rattle.terms.specs.Expr.{Expr, Const, Compare, Ite, Concat}
 use Rattle.terms.specs.declared.CmpOp.TheVariants.{Eq}
-use Rattle.neon.specs.Op.{Op, Arrangement, laneBits, full, bitsIf}
-use Rattle.neon.specs.Form.{form, firstFull, secondFull, byElement, sourceBits, most, laneCount, firstLane, secondLane}
-use Rattle.neon.proofs.Geometry.{sized, source-some, filled, inside, made-view, first-in, second-in}
-use Rattle.trees.specs.Simd.{extractCollapsing, concatLanes}
-use Rattle.trees.specs.Neon.{neonOp, shape_of}
-use Rattle.trees.specs.Trees.{extractLane, readTree}
+use Rattle.neon.specs.Op.{Op, Arrangement, bits_of_lane, full, bits_if}
+use Rattle.neon.specs.Form.{form, first_full, second_full, by_element, source_bits, most, lane_count, first_lane, second_lane}
+use Rattle.neon.proofs.Geometry.{sized, source-some, filled, inside, made-view, first_in, second_in}
+use Rattle.trees.specs.Simd.{extract_collapsing, concat_lanes}
+use Rattle.trees.specs.Neon.{neon_op, shape_of}
+use Rattle.trees.specs.Trees.{extract_lane, read_tree}
 use Rattle.trees.specs.Simd as Simd
 use Rattle.trees.proofs.Cuts.{cut-cut}
-use Rattle.saturation.specs.Bits.{yes, laneBit, saturable, bit_at, instructionBit, saturationTree}
-use Rattle.saturation_bits.specs.Lanes.{familyBit, laneAt}
+use Rattle.saturation.specs.Bits.{yes, lane_bit, saturable, bit_at, instruction_bit, saturation_tree}
+use Rattle.saturation_bits.specs.Lanes.{family_bit, lane_at}
 
 -- a lane of a low half is one of the register
-read-lane : (f : Bool) (t : Expr) (m x : ℕ) → 1 ≤ m → m * x + m ≤ bitsIf f → extractLane (readTree f t) m x ≡ extractLane t m x
-unfolding Simd.extractLane
+read-lane : (f : Bool) (t : Expr) (m x : ℕ) → 1 ≤ m → m * x + m ≤ bits_if f → extract_lane (read_tree f t) m x ≡ extract_lane t m x
+unfolding Simd.extract_lane
 read-lane true t m x l h = refl
 read-lane false t m x l h =
     cut-cut t 63 0 (m * x + m - 1) (m * x) (omega arith)
-    ∙ ap (λ (hi : ℕ). extractCollapsing t hi (m * x + 0)) {x = m * x + m - 1 + 0} {y = m * x + m - 1} (omega arith)
-    ∙ ap (λ (lo : ℕ). extractCollapsing t (m * x + m - 1) lo) {x = m * x + 0} {y = m * x} (omega arith)
+    ∙ ap (λ (hi : ℕ). extract_collapsing t hi (m * x + 0)) {x = m * x + m - 1 + 0} {y = m * x + m - 1} (omega arith)
+    ∙ ap (λ (lo : ℕ). extract_collapsing t (m * x + m - 1) lo) {x = m * x + 0} {y = m * x} (omega arith)
 
 -- the lanes that a family reads are those of its form
 family : (o : Op) (n k i : ℕ) (u : Bool) (d a b : Expr) (j : ℕ)
-    → laneBit (neonOp o i u) n (extractLane d n j) (extractLane a (sourceBits (form o).lanes n) (firstLane (form o).lanes k j))
-    (extractLane b (sourceBits (form o).lanes n) (secondLane (form o).lanes (byElement o) k i j))
-    ≡ familyBit (neonOp o i u) n k i d a b j
+    → lane_bit (neon_op o i u) n (extract_lane d n j) (extract_lane a (source_bits (form o).lanes n) (first_lane (form o).lanes k j))
+    (extract_lane b (source_bits (form o).lanes n) (second_lane (form o).lanes (by_element o) k i j))
+    ≡ family_bit (neon_op o i u) n k i d a b j
 family Op.SHL n k i u d a b j = refl
 family Op.SQSHLI n k i u d a b j = refl
 family Op.UQSHLI n k i u d a b j = refl
@@ -98,31 +98,31 @@ family Op.RADDHN n k i u d a b j = refl
 family Op.SUBHN n k i u d a b j = refl
 family Op.RSUBHN n k i u d a b j = refl
 
-module _ (o : Op) (v : Arrangement) (i : ℕ) (h : i ≤ most o (laneBits v)) (d a b : Expr) where
-  lanes-same : (j : ℕ) → j < laneCount o v
-      → bit_at o v i (readTree (full v) d) (readTree (firstFull (form o).lanes (full v)) a) (readTree (secondFull (form o).lanes (byElement o) (full v)) b) j
-      ≡ laneAt (shape_of o v i) d a b j
+module _ (o : Op) (v : Arrangement) (i : ℕ) (h : i ≤ most o (bits_of_lane v)) (d a b : Expr) where
+  lanes-same : (j : ℕ) → j < lane_count o v
+      → bit_at o v i (read_tree (full v) d) (read_tree (first_full (form o).lanes (full v)) a) (read_tree (second_full (form o).lanes (by_element o) (full v)) b) j
+      ≡ lane_at (shape_of o v i) d a b j
   unfolding bit_at
   lanes-same j l =
-      let n = laneBits v in
+      let n = bits_of_lane v in
       let g = (form o).lanes in
-      let some : 1 ≤ sourceBits g n = source-some g n (sized v).eight in
+      let some : 1 ≤ source_bits g n = source-some g n (sized v).eight in
       rw (
         read-lane (full v) d n j (omega (arith, (sized v).eight)) (omega (arith, inside v j g l, made-view g (full v))),
-        read-lane (firstFull g (full v)) a (sourceBits g n) (firstLane g (laneCount o v) j) some (first-in v j g l),
-        read-lane (secondFull g (byElement o) (full v)) b (sourceBits g n) (secondLane g (byElement o) (laneCount o v) i j) some (second-in v j g (form o).immediate i h l),
+        read-lane (first_full g (full v)) a (source_bits g n) (first_lane g (lane_count o v) j) some (first_in v j g l),
+        read-lane (second_full g (by_element o) (full v)) b (source_bits g n) (second_lane g (by_element o) (lane_count o v) i j) some (second_in v j g (form o).immediate i h l),
       )
-      (family o n (laneCount o v) i (full v) d a b j)
+      (family o n (lane_count o v) i (full v) d a b j)
 
-  concat-same : (m : ℕ) (f g : ℕ → Expr) → ((j : ℕ) → j ≤ m → f j ≡ g j) → concatLanes m f ≡ concatLanes m g
-  unfolding concatLanes
+  concat-same : (m : ℕ) (f g : ℕ → Expr) → ((j : ℕ) → j ≤ m → f j ≡ g j) → concat_lanes m f ≡ concat_lanes m g
+  unfolding concat_lanes
   concat-same zero f g e = e 0 (omega arith)
   concat-same (suc m) f g e = ap₂ Concat (e (suc m) (omega arith)) (concat-same m f g (λ j l. e j (omega arith)))
 
   pub whole : (t : Expr)
-      → saturationTree o v i (readTree (full v) d) (readTree (firstFull (form o).lanes (full v)) a) (readTree (secondFull (form o).lanes (byElement o) (full v)) b) t
-      ≡ cond (saturable (neonOp o i (full v))) (instructionBit (laneCount o v) (laneAt (shape_of o v i) d a b) t) t
-  unfolding saturationTree instructionBit
+      → saturation_tree o v i (read_tree (full v) d) (read_tree (first_full (form o).lanes (full v)) a) (read_tree (second_full (form o).lanes (by_element o) (full v)) b) t
+      ≡ cond (saturable (neon_op o i (full v))) (instruction_bit (lane_count o v) (lane_at (shape_of o v i) d a b) t) t
+  unfolding saturation_tree instruction_bit
   whole t =
-      ap (λ (x : Expr). cond (saturable (neonOp o i (full v))) (Ite (Compare Eq x (Const 0 (laneCount o v))) t yes) t)
-      (concat-same (laneCount o v - 1) _ _ (λ j l. lanes-same j (omega (arith, (filled (form o).lanes v).some))))
+      ap (λ (x : Expr). cond (saturable (neon_op o i (full v))) (Ite (Compare Eq x (Const 0 (lane_count o v))) t yes) t)
+      (concat-same (lane_count o v - 1) _ _ (λ j l. lanes-same j (omega (arith, (filled (form o).lanes v).some))))

@@ -1,14 +1,14 @@
 // Whether an instruction saturates: the bits of its lanes side by side, and the block's bit after it.
 ghost use Rattle.std.specs.Prelude.{true, cond, ◌≡◌, [], ◌+◌, ◌-◌, ◌*◌, ◌≤◌, ◌<◌};
 ghost use Rattle.pool.specs.Growth.{Room};
-ghost use Rattle.trees.specs.Simd.{concatLanes};
-ghost use Rattle.trees.specs.Arith.{kindBits};
-ghost use Rattle.trees.specs.Trees.{extractLane};
-ghost use Rattle.lower.specs.Builds.{Lowers, read, readIf, unread, Below};
-ghost use Rattle.lower_kinds.specs.Sources.{usesSecond, KindIn};
-ghost use Rattle.lower_neon.specs.Family.{readsSecond, readsOld, FamilyIn};
-ghost use Rattle.saturation.specs.Bits.{saturatingBit, saturable as saturableOp, saturableKind, saturableTo, saturableShift};
-ghost use Rattle.saturation_bits.specs.Lanes.{laneAt, bitsMost, BitMade};
+ghost use Rattle.trees.specs.Simd.{concat_lanes};
+ghost use Rattle.trees.specs.Arith.{kind_bits};
+ghost use Rattle.trees.specs.Trees.{extract_lane};
+ghost use Rattle.lower.specs.Builds.{Lowers, read, read_if, unread, Below};
+ghost use Rattle.lower_kinds.specs.Sources.{uses_second, KindIn};
+ghost use Rattle.lower_neon.specs.Family.{reads_second, reads_old, FamilyIn};
+ghost use Rattle.saturation.specs.Bits.{saturating_bit, saturable as saturableOp, saturable_kind, saturable_to, saturable_shift};
+ghost use Rattle.saturation_bits.specs.Lanes.{lane_at, bits_most, BitMade};
 
 use lower_doubling_long::source_lane;
 use lower_exact::kind_to;
@@ -31,11 +31,11 @@ fn saturating_some(
     index: Lane,
 ) -> Built
     requires room { Room pool.old count 20 }
-    requires first_lt_count { (first.0 < count) × Below (readIf (usesSecond kind) second 0) count }
-    requires le_lane_bits { (1 ≤ lane_bits) × (lane_bits ≤ 64) × KindIn kind lane_bits × (saturableKind kind ≡ true)
-        × (kindBits kind lane_bits * index.0 + kindBits kind lane_bits ≤ 128) }
-    ensures { Lowers pool.old count pool.new result 20 1 unread (read first 128) (readIf (usesSecond kind) second 128)
-        (λ d a b. saturatingBit kind (extractLane a (kindBits kind lane_bits) index.0) (extractLane b (kindBits kind lane_bits) index.0)
+    requires first_lt_count { (first.0 < count) × Below (read_if (uses_second kind) second 0) count }
+    requires le_lane_bits { (1 ≤ lane_bits) × (lane_bits ≤ 64) × KindIn kind lane_bits × (saturable_kind kind ≡ true)
+        × (kind_bits kind lane_bits * index.0 + kind_bits kind lane_bits ≤ 128) }
+    ensures { Lowers pool.old count pool.new result 20 1 unread (read first 128) (read_if (uses_second kind) second 128)
+        (λ d a b. saturating_bit kind (extract_lane a (kind_bits kind lane_bits) index.0) (extract_lane b (kind_bits kind lane_bits) index.0)
         lane_bits signed_sources) [] }
 {
     let range = kind_to(kind);
@@ -78,11 +78,11 @@ fn bit_at(
     index: Lane,
 ) -> Built
     requires room { Room pool.old count 37 }
-    requires first_lt_count { (first.0 < count) × Below (readIf (readsSecond shape.op) second 0) count × Below (readIf (readsOld shape.op) d 0) count }
+    requires first_lt_count { (first.0 < count) × Below (read_if (reads_second shape.op) second 0) count × Below (read_if (reads_old shape.op) d 0) count }
     requires bound { (8 ≤ shape.lane_bits) × (shape.lane_bits ≤ 64) × (index.0 < shape.lanes) × (shape.lane_bits * shape.lanes ≤ 128)
         × FamilyIn shape.op shape.lane_bits shape.lanes shape.source_index.0 × (saturableOp shape.op ≡ true) }
-    ensures { Lowers pool.old count pool.new result 37 1 (readIf (readsOld shape.op) d 128) (read first 128)
-        (readIf (readsSecond shape.op) second 128) (λ d a b. laneAt shape d a b index.0) [] }
+    ensures { Lowers pool.old count pool.new result 37 1 (read_if (reads_old shape.op) d 128) (read first 128)
+        (read_if (reads_second shape.op) second 128) (λ d a b. lane_at shape d a b index.0) [] }
 {
     let op = shape.op;
     let n = shape.lane_bits;
@@ -131,11 +131,11 @@ fn lane_bits_of(
     d: Node,
 ) -> Built
     requires room { Room pool.old count (38 * shape.lanes) }
-    requires first_lt_count { (first.0 < count) × Below (readIf (readsSecond shape.op) second 0) count × Below (readIf (readsOld shape.op) d 0) count }
+    requires first_lt_count { (first.0 < count) × Below (read_if (reads_second shape.op) second 0) count × Below (read_if (reads_old shape.op) d 0) count }
     requires bound { (8 ≤ shape.lane_bits) × (shape.lane_bits ≤ 64) × (1 ≤ shape.lanes) × (shape.lane_bits * shape.lanes ≤ 128)
         × FamilyIn shape.op shape.lane_bits shape.lanes shape.source_index.0 × (saturableOp shape.op ≡ true) }
-    ensures { Lowers pool.old count pool.new result (38 * shape.lanes) (1 * shape.lanes) (readIf (readsOld shape.op) d 128) (read first 128)
-        (readIf (readsSecond shape.op) second 128) (λ d a b. concatLanes (shape.lanes - 1) (laneAt shape d a b)) [] }
+    ensures { Lowers pool.old count pool.new result (38 * shape.lanes) (1 * shape.lanes) (read_if (reads_old shape.op) d 128) (read first 128)
+        (read_if (reads_second shape.op) second 128) (λ d a b. concat_lanes (shape.lanes - 1) (lane_at shape d a b)) [] }
 {
     let lanes = shape.lanes;
     let mut acc = bit_at(pool, count, shape, first, second, d, Lane::first());
@@ -158,8 +158,8 @@ pub fn instruction_bit(
     d: Node,
     before: Node,
 ) -> Built
-    requires room { Room pool.old count bitsMost }
-    requires first_lt_count { (first.0 < count) × Below (readIf (readsSecond shape.op) second 0) count × Below (readIf (readsOld shape.op) d 0) count × (before.0 < count) }
+    requires room { Room pool.old count bits_most }
+    requires first_lt_count { (first.0 < count) × Below (read_if (reads_second shape.op) second 0) count × Below (read_if (reads_old shape.op) d 0) count × (before.0 < count) }
     requires bound { (8 ≤ shape.lane_bits) × (shape.lane_bits ≤ 64) × (1 ≤ shape.lanes) × (shape.lane_bits * shape.lanes ≤ 128)
         × FamilyIn shape.op shape.lane_bits shape.lanes shape.source_index.0 × (saturableOp shape.op ≡ true) }
     ensures { BitMade pool.old count pool.new result shape first second d before }

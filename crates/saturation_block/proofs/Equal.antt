@@ -9,16 +9,16 @@ use Rattle.terms.specs.Expr.{Expr, Var}
 use Rattle.terms.specs.Value.{value, bit}
 use Rattle.pool.specs.Node.{places}
 use Rattle.neon.specs.declared.Instruction.{Instruction}
-use Rattle.trees.specs.Trees.{treeStep}
+use Rattle.trees.specs.Trees.{tree_step}
 use Rattle.block_map.specs.declared.RegisterMap.{RegisterMap}
-use Rattle.block_map.specs.Map.{firstMap, written}
+use Rattle.block_map.specs.Map.{first_map, written}
 use Rattle.trees_value.proofs.Block.{block-is}
 use Rattle.trees_value.proofs.Range.{block-lt}
 use Rattle.block.proofs.Equal.{legal-in}
-use Rattle.saturation.specs.Saturates.{saturatesRun}
-use Rattle.saturation.specs.Bits.{bitRun}
+use Rattle.saturation.specs.Saturates.{saturates_run}
+use Rattle.saturation.specs.Bits.{bit_run}
 use Rattle.saturation.proofs.Block.{block-bit-is}
-use Rattle.saturation_step.specs.Step.{raised, flagReserve}
+use Rattle.saturation_step.specs.Step.{raised, flag_reserve}
 use Rattle.saturation_run.specs.Run.{FlagLowered}
 use Rattle.saturation_block.specs.declared.SaturationAnswer.{SaturationAnswer}
 use Rattle.saturation_block.specs.Block.{Answered}
@@ -39,10 +39,10 @@ one-when false e = absurd (omega (arith, e))
 pub one-when-saturated : OneWhenSaturated
 one-when-saturated old cs new a h z start =
     let e = bit-holds old cs new a h z start in
-    (λ p. one-when (saturatesRun cs start) (sym e ∙ p), λ p. e ∙ ap bit p)
+    (λ p. one-when (saturates_run cs start) (sym e ∙ p), λ p. e ∙ ap bit p)
 
 pub empty-is-zero : EmptyIsZero
-unfolding bitRun
+unfolding bit_run
 empty-is-zero old new a h z = (h.accepted z).bit_is.tree
 
 pub registers-hold : RegistersHold
@@ -69,11 +69,11 @@ pub same-trees : SameTrees
 same-trees old cs new a h z old' new' a' h' z' r l = ((h.accepted z).terms r l).tree ∙ sym ((h'.accepted z').terms r l).tree
 
 lowered-most : (ws : List ℕ) (last : ℕ) (m : RegisterMap) (t : ℕ → Expr) (cs : List Instruction) (m' : RegisterMap) → FlagLowered ws last m t cs m'
-    → m'.count ≤ m.count + flagReserve * length cs
+    → m'.count ≤ m.count + flag_reserve * length cs
 lowered-most ws last m t [] m' h = rw h (omega arith)
 lowered-most ws last m t (c ∷ cs) m' h =
-    omega (arith, h.3.most, lowered-most ws last (written (raised m h.0) c.d h.1 h.2) (treeStep c t) cs m' h.4)
+    omega (arith, h.3.most, lowered-most ws last (written (raised m h.0) c.d h.1 h.2) (tree_step c t) cs m' h.4)
 
 pub block-adds : BlockAdds
 block-adds old cs new a h z =
-    ((legal-of h z).few, lowered-most new a.bit.0 (raised firstMap 33) Var cs a.map (h.accepted z).lowered)
+    ((legal-of h z).few, lowered-most new a.bit.0 (raised first_map 33) Var cs a.map (h.accepted z).lowered)

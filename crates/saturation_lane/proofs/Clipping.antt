@@ -17,12 +17,12 @@ use Rattle.trees.specs.declared.SaturateTo.{SaturateTo}
 use Rattle.trees.specs.declared.SaturateTo.TheVariants.{Signed, Unsigned, SignedToUnsigned}
 use Rattle.trees.specs.declared.Saturate.TheVariants.{Into}
 use Rattle.trees.specs.declared.SaturatingKind.{SaturatingKind}
-use Rattle.trees.specs.Lower.{unsignedMax}
-use Rattle.trees.specs.Arith.{joined, exactLane, exactBits, kindTo, kindBits}
+use Rattle.trees.specs.Lower.{unsigned_max}
+use Rattle.trees.specs.Arith.{joined, exact_lane, exact_bits, kind_to, kind_bits}
 use Rattle.lower.specs.Builds.{Builds1, Builds2, BuildsIf}
-use Rattle.lower_kinds.specs.Sources.{usesSecond}
+use Rattle.lower_kinds.specs.Sources.{uses_second}
 use Rattle.lower_exact.proofs.Exactly.{then2, then_if}
-use Rattle.saturation.specs.Bits.{no, yes, clippedBetween, clipped, saturatingBit, mixedSignBit}
+use Rattle.saturation.specs.Bits.{no, yes, clipped_between, clipped, saturating_bit, mixed_sign_bit}
 
 pub one-where : {w0 w1 w2 : List ℕ} {k : ℕ} {r1 r2 : Built} {test other : Node}
     → MadeConst w0 k w1 r1 1 0 1
@@ -74,7 +74,7 @@ below {value = value} {other = other} {wide = wide} l h lo e1 e2 e3 =
 pub between : {w0 w1 w2 : List ℕ} {k : ℕ} {r1 r2 : Built} {value : Node} {low high : Expr} {wide : ℕ}
     → Builds1 w0 k w1 r1 5 value wide 1 (λ v. Ite (Compare Slt high v) yes no) (value.0 ∷ [])
     → Builds2 w1 r1.count w2 r2 4 value wide r1.node 1 1 (λ v o. Ite (Compare Slt v low) yes o) (value.0 ∷ r1.node.0 ∷ [])
-    → Builds1 w0 k w2 r2 9 value wide 1 (λ v. clippedBetween v low high) (value.0 ∷ [])
+    → Builds1 w0 k w2 r2 9 value wide 1 (λ v. clipped_between v low high) (value.0 ∷ [])
 between {value = value} {wide = wide} e1 e2 =
     record {
       sized = omega (arith, e1.sized, e2.sized);
@@ -86,40 +86,40 @@ between {value = value} {wide = wide} e1 e2 =
 
 module _ {w0 w1 : List ℕ} {k : ℕ} {r : Built} {value : Node} {wide : ℕ} (narrow : ℕ) {to : SaturateTo} where
   pub clip-signed : {p low high : ℕ} → to ≡ Signed → p ≡ 2 ^ (narrow - 1) → low ≡ 2 ^ wide - 2 ^ (narrow - 1) → words (p - 1) 0 ≡ high
-      → Builds1 w0 k w1 r 9 value wide 1 (λ v. clippedBetween v (Const low wide) (Const high wide)) (value.0 ∷ [])
+      → Builds1 w0 k w1 r 9 value wide 1 (λ v. clipped_between v (Const low wide) (Const high wide)) (value.0 ∷ [])
       → Builds1 w0 k w1 r 9 value wide 1 (λ v. clipped v wide narrow to) (value.0 ∷ [])
   unfolding clipped
   clip-signed {p} {low} {high} q e f g d =
       let h : high ≡ 2 ^ (narrow - 1) - 1 = omega arith in
       rw (q, ← f, ← h) d
 
-  pub clip-unsigned : {h high : ℕ} → to ≡ Unsigned → h ≡ unsignedMax narrow → words h 0 ≡ high
+  pub clip-unsigned : {h high : ℕ} → to ≡ Unsigned → h ≡ unsigned_max narrow → words h 0 ≡ high
       → Builds1 w0 k w1 r 5 value wide 1 (λ v. Ite (Compare Ult (Const high wide) v) yes no) (value.0 ∷ [])
       → Builds1 w0 k w1 r 9 value wide 1 (λ v. clipped v wide narrow to) (value.0 ∷ [])
   unfolding clipped
   clip-unsigned {h} {high} q e f d =
-      let h' : high ≡ unsignedMax narrow = omega arith in
+      let h' : high ≡ unsigned_max narrow = omega arith in
       rw (q, ← h') (record { sized = omega (arith, d.sized); made = d.made })
 
-  pub clip-to-unsigned : {h high : ℕ} → to ≡ SignedToUnsigned → h ≡ unsignedMax narrow → words h 0 ≡ high
-      → Builds1 w0 k w1 r 9 value wide 1 (λ v. clippedBetween v (Const 0 wide) (Const high wide)) (value.0 ∷ [])
+  pub clip-to-unsigned : {h high : ℕ} → to ≡ SignedToUnsigned → h ≡ unsigned_max narrow → words h 0 ≡ high
+      → Builds1 w0 k w1 r 9 value wide 1 (λ v. clipped_between v (Const 0 wide) (Const high wide)) (value.0 ∷ [])
       → Builds1 w0 k w1 r 9 value wide 1 (λ v. clipped v wide narrow to) (value.0 ∷ [])
   unfolding clipped
   clip-to-unsigned {h} {high} q e f d =
-      let h' : high ≡ unsignedMax narrow = omega arith in
+      let h' : high ≡ unsigned_max narrow = omega arith in
       rw (q, ← h') d
 
 -- ---- a lane of the saturating kinds
 
 -- its exact value, and the bit of the range that it is clamped into
 pub saturating : {w0 w1 w2 : List ℕ} {k : ℕ} {r1 r2 : Built} (kind : SaturatingKind) (to : SaturateTo) {a b : Node} (n : ℕ) (signed : Bool) {wide : ℕ}
-    → wide ≡ exactBits kind n
-    → kindTo kind ≡ Into to
-    → BuildsIf w0 k w1 r1 9 a (kindBits kind n) (usesSecond kind) b (kindBits kind n) (exactBits kind n) (λ a b. exactLane kind a b n signed)
+    → wide ≡ exact_bits kind n
+    → kind_to kind ≡ Into to
+    → BuildsIf w0 k w1 r1 9 a (kind_bits kind n) (uses_second kind) b (kind_bits kind n) (exact_bits kind n) (λ a b. exact_lane kind a b n signed)
     → Builds1 w1 r1.count w2 r2 9 r1.node wide 1 (λ v. clipped v wide n to) (r1.node.0 ∷ [])
-    → BuildsIf w0 k w2 r2 18 a (kindBits kind n) (usesSecond kind) b (kindBits kind n) 1 (λ a b. saturatingBit kind a b n signed)
-unfolding saturatingBit
-saturating kind to n signed q p e1 e2 = rw p (then_if (usesSecond kind) e1 (rw q at e2))
+    → BuildsIf w0 k w2 r2 18 a (kind_bits kind n) (uses_second kind) b (kind_bits kind n) 1 (λ a b. saturating_bit kind a b n signed)
+unfolding saturating_bit
+saturating kind to n signed q p e1 e2 = rw p (then_if (uses_second kind) e1 (rw q at e2))
 
 -- ---- the sums of mixed sign
 pub mixed : {w0 w1 w2 : List ℕ} {k : ℕ} {r1 r2 : Built} {d a : Node} (n : ℕ) (signed : Bool) {other : Bool} {to : SaturateTo}
@@ -127,6 +127,6 @@ pub mixed : {w0 w1 w2 : List ℕ} {k : ℕ} {r1 r2 : Built} {d a : Node} (n : �
     → to ≡ cond signed Signed SignedToUnsigned
     → Builds2 w0 k w1 r1 3 d n a n (n + 2) (λ d a. joined Add d signed a other (n + 2)) (d.0 ∷ a.0 ∷ [])
     → Builds1 w1 r1.count w2 r2 9 r1.node (n + 2) 1 (λ v. clipped v (n + 2) n to) (r1.node.0 ∷ [])
-    → Builds2 w0 k w2 r2 12 d n a n 1 (λ d a. mixedSignBit signed d a n) (d.0 ∷ a.0 ∷ [])
-unfolding mixedSignBit
+    → Builds2 w0 k w2 r2 12 d n a n 1 (λ d a. mixed_sign_bit signed d a n) (d.0 ∷ a.0 ∷ [])
+unfolding mixed_sign_bit
 mixed n signed p q e1 e2 = rw (← p, ← q) (then2 e1 e2)

@@ -22,7 +22,7 @@ use Rattle.trees.specs.declared.ShiftKind.{ShiftKind}
 use Rattle.trees.specs.declared.ShiftKind.TheVariants.{LeftImmediate, RightImmediate, Register}
 use Rattle.lower.specs.Builds.{Builds1, Builds2, BuildsIf}
 use Rattle.lower_kinds.specs.Sources.{is_register}
-use Rattle.saturation.specs.Bits.{lost, leftBit, shiftedBit, saturableTo, saturableShift}
+use Rattle.saturation.specs.Bits.{lost, left_bit, shifted_bit, saturable_to, saturable_shift}
 
 pub is_lost : {w0 w1 w2 w3 w4 w5 w6 : List ℕ} {k : ℕ} {r1 r2 r3 r4 r5 r6 : Built} {value amount : Node} {op : BinOp} {n : ℕ} (signed : Bool)
     → 1 ≤ n
@@ -52,11 +52,11 @@ is_lost {value = value} {amount = amount} {n = n} signed l m f e1 e2 e3 e4 e5 e6
 
 pub left-exact : {w0 w1 : List ℕ} {k : ℕ} {r : Built} {value : Node} {to : SaturateTo} (shift n : ℕ) (signed : Bool)
     → to ≡ SignedToUnsigned
-    → Builds1 w0 k w1 r 12 value n 1 (λ v. leftBit (Into SignedToUnsigned) v shift n true) (value.0 ∷ [])
-    → Builds1 w0 k w1 r 12 value n 1 (λ v. leftBit (Into to) v shift n signed) (value.0 ∷ [])
+    → Builds1 w0 k w1 r 12 value n 1 (λ v. left_bit (Into SignedToUnsigned) v shift n true) (value.0 ∷ [])
+    → Builds1 w0 k w1 r 12 value n 1 (λ v. left_bit (Into to) v shift n signed) (value.0 ∷ [])
 left-exact shift n signed q e = rw q e
 
-left-plain : (to : SaturateTo) (v : Expr) (shift n : ℕ) (signed : Bool) → (to ≡ SignedToUnsigned → ⊥) → leftBit (Into to) v shift n signed ≡ lost v (Const shift n) signed
+left-plain : (to : SaturateTo) (v : Expr) (shift n : ℕ) (signed : Bool) → (to ≡ SignedToUnsigned → ⊥) → left_bit (Into to) v shift n signed ≡ lost v (Const shift n) signed
 left-plain Signed v shift n signed h = refl
 left-plain Unsigned v shift n signed h = refl
 left-plain SignedToUnsigned v shift n signed h = absurd (h refl)
@@ -67,7 +67,7 @@ pub left-lost : {w0 w1 w2 : List ℕ} {k : ℕ} {r1 r2 : Built} {value : Node} {
     → (to ≡ SignedToUnsigned → ⊥)
     → MadeConst w0 k w1 r1 shift 0 n
     → Builds2 w1 r1.count w2 r2 6 value n r1.node n 1 (λ v a. lost v a signed) (value.0 ∷ r1.node.0 ∷ [])
-    → Builds1 w0 k w2 r2 12 value n 1 (λ v. leftBit (Into to) v shift n signed) (value.0 ∷ [])
+    → Builds1 w0 k w2 r2 12 value n 1 (λ v. left_bit (Into to) v shift n signed) (value.0 ∷ [])
 left-lost {value = value} {to = to} shift n signed l m h e1 e2 =
     let fits : shift < 2 ^ n = small n shift n (omega arith) (omega arith) in
     record {
@@ -86,7 +86,7 @@ pub register : {w0 w1 w2 w3 w4 w5 : List ℕ} {k : ℕ} {r1 r2 r3 r4 r5 : Built}
     → MadeCompare w2 r2.count w3 r3 Slt amount r2.node
     → MadeConst w3 r3.count w4 r4 0 0 1
     → MadeIte w4 r4.count w5 r5 r3.node r4.node r1.node
-    → Builds2 w0 k w5 r5 10 value n amount n 1 (λ v a. shiftedBit (Register rounding true) signed v a n) (value.0 ∷ amount.0 ∷ [])
+    → Builds2 w0 k w5 r5 10 value n amount n 1 (λ v a. shifted_bit (Register rounding true) signed v a n) (value.0 ∷ amount.0 ∷ [])
 register {value = value} {amount = amount} n rounding signed l m e1 e2 e3 e4 e5 =
     record {
       sized = omega (arith, e1.sized, e2.sized, e3.sized, e4.sized, e5.sized);
@@ -101,25 +101,25 @@ register {value = value} {amount = amount} n rounding signed l m e1 e2 e3 e4 e5 
 
 -- ---- each kind
 pub some-into : {w0 w1 : List ℕ} {k : ℕ} {r : Built} {value : Node} {saturate : Saturate} {to : SaturateTo} (shift n : ℕ) (signed : Bool) → saturate ≡ Into to
-    → Builds1 w0 k w1 r 12 value n 1 (λ v. leftBit (Into to) v shift n signed) (value.0 ∷ [])
-    → Builds1 w0 k w1 r 12 value n 1 (λ v. leftBit saturate v shift n signed) (value.0 ∷ [])
+    → Builds1 w0 k w1 r 12 value n 1 (λ v. left_bit (Into to) v shift n signed) (value.0 ∷ [])
+    → Builds1 w0 k w1 r 12 value n 1 (λ v. left_bit saturate v shift n signed) (value.0 ∷ [])
 some-into shift n signed q e = rw q e
 
-pub not-never : (saturate : Saturate) → saturate ≡ Never → saturableTo saturate ≡ true → ⊥
-not-never saturate q h = false≢true (sym (ap saturableTo q) ∙ h)
+pub not-never : (saturate : Saturate) → saturate ≡ Never → saturable_to saturate ≡ true → ⊥
+not-never saturate q h = false≢true (sym (ap saturable_to q) ∙ h)
 
-pub not_right : (kind : ShiftKind) {shift : ℕ} {rounding : Bool} → kind ≡ RightImmediate shift rounding → saturableShift kind ≡ true → ⊥
-not_right kind q h = false≢true (sym (ap saturableShift q) ∙ h)
+pub not_right : (kind : ShiftKind) {shift : ℕ} {rounding : Bool} → kind ≡ RightImmediate shift rounding → saturable_shift kind ≡ true → ⊥
+not_right kind q h = false≢true (sym (ap saturable_shift q) ∙ h)
 
 module _ {w0 w1 : List ℕ} {k : ℕ} {r : Built} {kind : ShiftKind} {value amount : Node} {n : ℕ} (signed : Bool) where
   pub is-left : {shift : ℕ} {saturate : Saturate} → kind ≡ LeftImmediate shift saturate
-      → Builds1 w0 k w1 r 12 value n 1 (λ v. leftBit saturate v shift n signed) (value.0 ∷ [])
-      → BuildsIf w0 k w1 r 12 value n (is_register kind) amount n 1 (λ v a. shiftedBit kind signed v a n)
+      → Builds1 w0 k w1 r 12 value n 1 (λ v. left_bit saturate v shift n signed) (value.0 ∷ [])
+      → BuildsIf w0 k w1 r 12 value n (is_register kind) amount n 1 (λ v a. shifted_bit kind signed v a n)
   is-left q e = rw q (record { sized = e.sized; made = λ v x y. e.made v x })
 
-  pub is-register : {rounding saturate : Bool} → kind ≡ Register rounding saturate → saturableShift kind ≡ true
-      → Builds2 w0 k w1 r 10 value n amount n 1 (λ v a. shiftedBit (Register rounding true) signed v a n) (value.0 ∷ amount.0 ∷ [])
-      → BuildsIf w0 k w1 r 12 value n (is_register kind) amount n 1 (λ v a. shiftedBit kind signed v a n)
+  pub is-register : {rounding saturate : Bool} → kind ≡ Register rounding saturate → saturable_shift kind ≡ true
+      → Builds2 w0 k w1 r 10 value n amount n 1 (λ v a. shifted_bit (Register rounding true) signed v a n) (value.0 ∷ amount.0 ∷ [])
+      → BuildsIf w0 k w1 r 12 value n (is_register kind) amount n 1 (λ v a. shifted_bit kind signed v a n)
   is-register {rounding} {saturate} q h e =
-      let t : saturate ≡ true = sym (ap saturableShift q) ∙ h in
+      let t : saturate ≡ true = sym (ap saturable_shift q) ∙ h in
       rw (q, t) (record { sized = omega (arith, e.sized); made = λ v x y. e.made v x (y refl) })

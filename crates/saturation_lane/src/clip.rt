@@ -2,10 +2,10 @@
 ghost use Rattle.std.specs.Prelude.{[], ◌∷◌, ◌≤◌, ◌<◌, ◌^◌};
 ghost use Rattle.terms.specs.Expr.{Const, Ite, Compare};
 ghost use Rattle.terms.specs.declared.CmpOp.TheVariants.{Slt};
-ghost use Rattle.pool.specs.Node.{wide as wideWords};
+ghost use Rattle.pool.specs.Node.{wide as wide_words};
 ghost use Rattle.pool.specs.Growth.{Room};
 ghost use Rattle.lower.specs.Builds.{Builds1, Builds2};
-ghost use Rattle.saturation.specs.Bits.{yes, no, clippedBetween, clipped};
+ghost use Rattle.saturation.specs.Bits.{yes, no, clipped_between, clipped};
 
 use lower::Words;
 use pool::{Built, Node};
@@ -33,9 +33,9 @@ fn clip_above(
     wide: u64,
 ) -> Built
     requires room { Room pool.old count 5 }
-    requires value_lt_count { (value.0 < count) × (1 ≤ wide) × (wide ≤ 128) × (wideWords high.lo high.hi < 2 ^ wide) }
+    requires value_lt_count { (value.0 < count) × (1 ≤ wide) × (wide ≤ 128) × (wide_words high.lo high.hi < 2 ^ wide) }
     ensures { Builds1 pool.old count pool.new result 5 value wide 1
-        (λ v. Ite (Compare op (Const (wideWords high.lo high.hi) wide) v) yes no) (value.0 ∷ []) }
+        (λ v. Ite (Compare op (Const (wide_words high.lo high.hi) wide) v) yes no) (value.0 ∷ []) }
 {
     let most = pool_nodes::konst(pool, count, high.lo, high.hi, wide);
     let above = pool_nodes::compare(pool, most.count, op, most.node, value);
@@ -53,9 +53,9 @@ fn clip_below(
     wide: u64,
 ) -> Built
     requires room { Room pool.old count 4 }
-    requires value_lt_count { (value.0 < count) × (other.0 < count) × (1 ≤ wide) × (wide ≤ 128) × (wideWords low.lo low.hi < 2 ^ wide) }
+    requires value_lt_count { (value.0 < count) × (other.0 < count) × (1 ≤ wide) × (wide ≤ 128) × (wide_words low.lo low.hi < 2 ^ wide) }
     ensures { Builds2 pool.old count pool.new result 4 value wide other 1 1
-        (λ v o. Ite (Compare Slt v (Const (wideWords low.lo low.hi) wide)) yes o) (value.0 ∷ other.0 ∷ []) }
+        (λ v o. Ite (Compare Slt v (Const (wide_words low.lo low.hi) wide)) yes o) (value.0 ∷ other.0 ∷ []) }
 {
     let least = pool_nodes::konst(pool, count, low.lo, low.hi, wide);
     let below = pool_nodes::compare(pool, least.count, CmpOp::Slt, value, least.node);
@@ -73,9 +73,9 @@ fn clip_between(
 ) -> Built
     requires room { Room pool.old count 9 }
     requires value_lt_count { (value.0 < count) × (1 ≤ wide) × (wide ≤ 128) }
-    requires hi_bound { (wideWords low.lo low.hi < 2 ^ wide) × (wideWords high.lo high.hi < 2 ^ wide) }
+    requires hi_bound { (wide_words low.lo low.hi < 2 ^ wide) × (wide_words high.lo high.hi < 2 ^ wide) }
     ensures { Builds1 pool.old count pool.new result 9 value wide 1
-        (λ v. clippedBetween v (Const (wideWords low.lo low.hi) wide) (Const (wideWords high.lo high.hi) wide)) (value.0 ∷ []) }
+        (λ v. clipped_between v (Const (wide_words low.lo low.hi) wide) (Const (wide_words high.lo high.hi) wide)) (value.0 ∷ []) }
 {
     let above = clip_above(pool, count, CmpOp::Slt, value, high, wide);
     clip_below(pool, above.count, value, low, above.node, wide)

@@ -2,10 +2,10 @@
 ghost use Rattle.std.specs.Prelude.{◌≡◌, [], ◌∷◌, ◌+◌, ◌≤◌, ◌<◌};
 ghost use Rattle.pool.specs.Growth.{Room};
 ghost use Rattle.trees.specs.declared.Saturate.{Saturate};
-ghost use Rattle.trees.specs.Arith.{kindTo, kindBits};
+ghost use Rattle.trees.specs.Arith.{kind_to, kind_bits};
 ghost use Rattle.lower.specs.Builds.{Builds2, BuildsIf};
-ghost use Rattle.lower_kinds.specs.Sources.{usesSecond, KindIn};
-ghost use Rattle.saturation.specs.Bits.{saturatingBit, mixedSignBit};
+ghost use Rattle.lower_kinds.specs.Sources.{uses_second, KindIn};
+ghost use Rattle.saturation.specs.Bits.{saturating_bit, mixed_sign_bit};
 
 use lower_kinds::operators::mixed_to;
 use pool::{Built, Node};
@@ -27,9 +27,9 @@ pub fn saturating_bit(
     signed_sources: bool,
 ) -> Built
     requires room { Room pool.old count 18 }
-    requires a_lt_count { (a.0 < count) × (b.0 < count) × (1 ≤ lane_bits) × (lane_bits ≤ 64) × KindIn kind lane_bits × (kindTo kind ≡ Saturate.Into to) }
-    ensures { BuildsIf pool.old count pool.new result 18 a (kindBits kind lane_bits) (usesSecond kind) b (kindBits kind lane_bits)
-        1 (λ a b. saturatingBit kind a b lane_bits signed_sources) }
+    requires a_lt_count { (a.0 < count) × (b.0 < count) × (1 ≤ lane_bits) × (lane_bits ≤ 64) × KindIn kind lane_bits × (kind_to kind ≡ Saturate.Into to) }
+    ensures { BuildsIf pool.old count pool.new result 18 a (kind_bits kind lane_bits) (uses_second kind) b (kind_bits kind lane_bits)
+        1 (λ a b. saturating_bit kind a b lane_bits signed_sources) }
 {
     let wide = lower_exact::exact_bits(kind, lane_bits);
     let value = lower_exact::exact_lane(pool, count, kind, a, b, lane_bits, signed_sources);
@@ -48,7 +48,7 @@ pub fn mixed_bit(
     requires room { Room pool.old count 12 }
     requires d_lt_count { (d.0 < count) × (a.0 < count) × (1 ≤ lane_bits) × (lane_bits ≤ 64) }
     ensures { Builds2 pool.old count pool.new result 12 d lane_bits a lane_bits 1
-        (λ d a. mixedSignBit destination_signed d a lane_bits) (d.0 ∷ a.0 ∷ []) }
+        (λ d a. mixed_sign_bit destination_signed d a lane_bits) (d.0 ∷ a.0 ∷ []) }
 {
     let wide = lane_bits + 2;
     let other = !destination_signed;

@@ -5,7 +5,7 @@ ghost use Rattle.trees.specs.declared.Saturate.{Saturate};
 ghost use Rattle.trees.specs.declared.SaturateTo.{SaturateTo};
 ghost use Rattle.lower.specs.Builds.{Builds1, Builds2, BuildsIf};
 ghost use Rattle.lower_kinds.specs.Sources.{is_register, AmountIn};
-ghost use Rattle.saturation.specs.Bits.{lost as lostTree, leftBit, shiftedBit, saturableTo, saturableShift};
+ghost use Rattle.saturation.specs.Bits.{lost as lostTree, left_bit, shifted_bit, saturable_to, saturable_shift};
 
 use lower_kinds::operators::shift_op;
 use pool::{Built, Node};
@@ -40,7 +40,7 @@ fn exact_left_bit(pool: &mut [u64], count: usize, value: Node, shift: u64, lane_
     requires room { Room pool.old count 12 }
     requires value_lt_count { (value.0 < count) × (shift < lane_bits) × (lane_bits ≤ 64) }
     ensures { Builds1 pool.old count pool.new result 12 value lane_bits 1
-        (λ v. leftBit (Saturate.Into SaturateTo.SignedToUnsigned) v shift lane_bits true) (value.0 ∷ []) }
+        (λ v. left_bit (Saturate.Into SaturateTo.SignedToUnsigned) v shift lane_bits true) (value.0 ∷ []) }
 {
     let wide = lane_bits + shift + 1;
     let exact = lower_exact::shift_up(pool, count, value, shift, lane_bits, wide);
@@ -67,7 +67,7 @@ fn left_bit(
     requires room { Room pool.old count 12 }
     requires value_lt_count { (value.0 < count) × (shift < lane_bits) × (lane_bits ≤ 64) }
     ensures { Builds1 pool.old count pool.new result 12 value lane_bits 1
-        (λ v. leftBit (Saturate.Into to) v shift lane_bits signed) (value.0 ∷ []) }
+        (λ v. left_bit (Saturate.Into to) v shift lane_bits signed) (value.0 ∷ []) }
 {
     if let SaturateTo::SignedToUnsigned = to {
         return exact_left_bit(pool, count, value, shift, lane_bits);
@@ -87,9 +87,9 @@ fn left_some(
     signed: bool,
 ) -> Built
     requires room { Room pool.old count 12 }
-    requires value_lt_count { (value.0 < count) × (shift < lane_bits) × (lane_bits ≤ 64) × (saturableTo saturate ≡ true) }
+    requires value_lt_count { (value.0 < count) × (shift < lane_bits) × (lane_bits ≤ 64) × (saturable_to saturate ≡ true) }
     ensures { Builds1 pool.old count pool.new result 12 value lane_bits 1
-        (λ v. leftBit saturate v shift lane_bits signed) (value.0 ∷ []) }
+        (λ v. left_bit saturate v shift lane_bits signed) (value.0 ∷ []) }
 {
     match saturate {
         Saturate::Never => Built { node: value, count },
@@ -110,7 +110,7 @@ fn register_bit(
     requires room { Room pool.old count 10 }
     requires value_lt_count { (value.0 < count) × (amount.0 < count) × (8 ≤ lane_bits) × (lane_bits ≤ 64) }
     ensures { Builds2 pool.old count pool.new result 10 value lane_bits amount lane_bits 1
-        (λ v a. shiftedBit (ShiftKind.Register rounding true) signed v a lane_bits) (value.0 ∷ amount.0 ∷ []) }
+        (λ v a. shifted_bit (ShiftKind.Register rounding true) signed v a lane_bits) (value.0 ∷ amount.0 ∷ []) }
 {
     let left = lost(pool, count, value, amount, lane_bits, signed);
     let zero = pool_nodes::konst(pool, left.count, 0, 0, lane_bits);
@@ -130,9 +130,9 @@ pub fn shift_bit(
     lane_bits: u64,
 ) -> Built
     requires room { Room pool.old count 12 }
-    requires value_lt_count { (value.0 < count) × (amount.0 < count) × (8 ≤ lane_bits) × (lane_bits ≤ 64) × AmountIn kind lane_bits × (saturableShift kind ≡ true) }
+    requires value_lt_count { (value.0 < count) × (amount.0 < count) × (8 ≤ lane_bits) × (lane_bits ≤ 64) × AmountIn kind lane_bits × (saturable_shift kind ≡ true) }
     ensures { BuildsIf pool.old count pool.new result 12 value lane_bits (is_register kind) amount lane_bits 1
-        (λ v a. shiftedBit kind signed v a lane_bits) }
+        (λ v a. shifted_bit kind signed v a lane_bits) }
 {
     match kind {
         ShiftKind::LeftImmediate { shift, saturate } => {

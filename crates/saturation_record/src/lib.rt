@@ -1,9 +1,9 @@
 // The block's bit after a record: over the whole registers that it reads, and the bit before it.
 ghost use Rattle.std.specs.Prelude.{◌≡◌, ◌<◌};
 ghost use Rattle.pool.specs.Growth.{Room};
-ghost use Rattle.neon.specs.Refusal.{formNumber};
-ghost use Rattle.saturation.specs.Bits.{saturable as saturableTree, saturableKind, saturableTo, saturableShift};
-ghost use Rattle.saturation_bits.specs.Lanes.{bitsMost};
+ghost use Rattle.neon.specs.Refusal.{form_number};
+ghost use Rattle.saturation.specs.Bits.{saturable as saturableTree, saturable_kind, saturable_to, saturable_shift};
+ghost use Rattle.saturation_bits.specs.Lanes.{bits_most};
 ghost use Rattle.saturation_record.specs.Record.{RecordBit};
 
 use lower_exact::kind_to;
@@ -12,7 +12,7 @@ use saturation_bits::instruction_bit;
 use trees::{NeonOp, Saturate, SaturatingKind, ShiftKind};
 
 fn clamps(saturate: Saturate) -> bool
-    ensures { result ≡ saturableTo saturate }
+    ensures { result ≡ saturable_to saturate }
 {
     match saturate {
         Saturate::Never => false,
@@ -21,7 +21,7 @@ fn clamps(saturate: Saturate) -> bool
 }
 
 fn saturable_shift(kind: ShiftKind) -> bool
-    ensures { result ≡ saturableShift kind }
+    ensures { result ≡ saturable_shift kind }
 {
     match kind {
         ShiftKind::LeftImmediate { shift: _, saturate } => clamps(saturate),
@@ -37,7 +37,7 @@ fn saturable_shift(kind: ShiftKind) -> bool
 }
 
 fn saturable_kind(kind: SaturatingKind) -> bool
-    ensures { result ≡ saturableKind kind }
+    ensures { result ≡ saturable_kind kind }
 {
     let range = kind_to(kind);
     clamps(range)
@@ -88,8 +88,8 @@ pub fn record_bit(
     second: Node,
     before: Node,
 ) -> Built
-    requires room { Room pool.old count bitsMost }
-    requires i_value { formNumber operation arrangement i 0 ≡ 0 }
+    requires room { Room pool.old count bits_most }
+    requires i_value { form_number operation arrangement i 0 ≡ 0 }
     requires d_lt_count { (d.0 < count) × (first.0 < count) × (second.0 < count) × (before.0 < count) }
     ensures { RecordBit pool.old count pool.new result operation arrangement i d first second before }
 {

@@ -7,13 +7,13 @@ use Rattle.terms.specs.Expr.{Var}
 use Rattle.terms.specs.Value.{value, bit}
 use Rattle.neon.specs.declared.Instruction.{Instruction}
 use Rattle.neon.specs.Refusal.{AllLegal}
-use Rattle.pool.specs.Unfold.{unfoldAt}
-use Rattle.saturation.specs.Saturates.{saturatesRun}
+use Rattle.pool.specs.Unfold.{unfold_at}
+use Rattle.saturation.specs.Saturates.{saturates_run}
 use Rattle.saturation.specs.Bits.{no}
 use Rattle.saturation.proofs.Block.{block-bit-is}
 use Rattle.saturation_step.specs.declared.Flagged.{Flagged}
 use Rattle.saturation_run.specs.Run.{FlagRunMade}
 
 pub bit-holds : (old : List ℕ) (f : Flagged) (new : List ℕ) (f' : Flagged) (cs : List Instruction) → FlagRunMade old f new f' cs Var no → AllLegal cs → (start : ℕ → ℕ)
-    → value start (unfoldAt new f'.bit.0) ≡ bit (saturatesRun cs start)
+    → value start (unfold_at new f'.bit.0) ≡ bit (saturates_run cs start)
 bit-holds old f new f' cs m l start = ap (value start) m.bit_is.tree ∙ (block-bit-is start cs l).val

@@ -2,9 +2,9 @@
 ghost use Rattle.std.specs.Prelude.{◌*◌, ◌/◌, ◌<◌, length};
 ghost use Rattle.neon.specs.Refusal.{AllLegal};
 ghost use Rattle.pool.specs.Growth.{Room};
-ghost use Rattle.block_check.specs.Records.{recordsOf};
+ghost use Rattle.block_check.specs.Records.{records_of};
 ghost use Rattle.block_record.specs.Step.{MapOk};
-ghost use Rattle.saturation_step.specs.Step.{flagReserve};
+ghost use Rattle.saturation_step.specs.Step.{flag_reserve};
 ghost use Rattle.saturation_run.specs.Run.{FlagStarted, FlagRuns};
 
 use block::start_pool;
@@ -13,11 +13,11 @@ use saturation_step::{Flagged, flag_record};
 
 // Each on the map and the bit that the one before left.
 pub fn run_flagged(pool: &mut [u64], start: Flagged, records: &[u64]) -> Flagged
-    requires room { Room pool.old start.map.count (flagReserve * (length records.now / 6)) }
+    requires room { Room pool.old start.map.count (flag_reserve * (length records.now / 6)) }
     requires map_ok { MapOk start.map }
     requires bit_lt_count { start.bit.0 < start.map.count }
-    requires all_legal { AllLegal (recordsOf records.now) }
-    ensures { FlagRuns pool.old start pool.new result (recordsOf records.now) }
+    requires all_legal { AllLegal (records_of records.now) }
+    ensures { FlagRuns pool.old start pool.new result (records_of records.now) }
 {
     let count = records.len() / 6;
     let mut at = start;

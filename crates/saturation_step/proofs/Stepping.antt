@@ -13,7 +13,7 @@ use Rattle.block_map.specs.declared.RegisterMap.{RegisterMap}
 use Rattle.block_map.specs.Map.{node_of}
 use Rattle.block_record.specs.Step.{MapOk, Steps}
 use Rattle.block_record.proofs.Recording.{registers-in}
-use Rattle.saturation.specs.Bits.{recordBit}
+use Rattle.saturation.specs.Bits.{record_bit}
 use Rattle.saturation_record.specs.Record.{RecordBit}
 use Rattle.saturation_step.specs.Step.{raised, Flags}
 
@@ -29,13 +29,13 @@ pub flags : {w0 w1 w2 : List ℕ} (m : RegisterMap) (before : Node) (c : Instruc
     → RecordBit w0 m.count w1 r c.operation c.arrangement c.i d first second before
     → Steps w1 (raised m r.count) w2 after c
     → Flags w0 m before w2 (record { map = after; bit = r.node }) c
-unfolding recordBit
+unfolding record_bit
 flags {w0} {w1} {w2} m before c {r} {after} {d} {first} {second} ok l ed en em e1 e2 =
     let in_map = registers-in c l in
     record {
       long = e2.long ∙ e1.sized.long;
       most = omega (arith, e1.sized, e2.most);
-      map-ok = e2.map-ok;
+      map_ok = e2.map_ok;
       under = omega (arith, e1.sized.under, e2.more);
       made = λ {t} {b} v x y.
           let m1 = e1.made v (subst (λ (n : ℕ). NodeIs w0 m.count n 128 (t c.d)) (sym ed) (x c.d in_map.0))
@@ -47,7 +47,7 @@ flags {w0} {w1} {w2} m before c {r} {after} {d} {first} {second} ok l ed en em e
             valid = m2.valid;
             is = m2.is;
             bit_is = is-kept m2.grown m1.is;
-            earlier = reach-kept m2.grown m1.is.under m1.ins-reached.0;
+            earlier = reach-kept m2.grown m1.is.under m1.ins_reached.0;
             middle = r.count;
             map_is = e2.map_is;
             added =

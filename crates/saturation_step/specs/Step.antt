@@ -2,19 +2,19 @@
 use Rattle.std.specs.Prelude.{List, ◌≡◌, ℕ, ◌+◌, ◌≤◌, ◌<◌, length}
 use Rattle.terms.specs.Expr.{Expr}
 use Rattle.neon.specs.declared.Instruction.{Instruction}
-use Rattle.trees.specs.Trees.{treeStep}
+use Rattle.trees.specs.Trees.{tree_step}
 use Rattle.pool.specs.declared.Node.{Node}
 use Rattle.pool.specs.Rules.{Valid}
 use Rattle.pool.specs.Growth.{Reach, Grown, NodeIs}
 use Rattle.block_map.specs.declared.RegisterMap.{RegisterMap}
 use Rattle.block_map.specs.Map.{node_of, written}
 use Rattle.block_record.specs.Step.{MapOk, MapIs, Added}
-use Rattle.saturation.specs.Bits.{recordBit}
+use Rattle.saturation.specs.Bits.{record_bit}
 use Rattle.saturation_step.specs.declared.Flagged.{Flagged}
 
 -- the nodes that document 02 gives an instruction
-abbrev pub flagReserve : ℕ
-flagReserve = 2048
+abbrev pub flag_reserve : ℕ
+flag_reserve = 2048
 
 -- a map with a higher count
 abbrev pub raised : RegisterMap → ℕ → RegisterMap
@@ -26,14 +26,14 @@ pub record FlagAdded (ws : List ℕ) (last : ℕ) (m : RegisterMap) (t : ℕ →
   pub from : m.count ≤ middle
   pub bits : (x : ℕ) → m.count ≤ x → x < middle → Reach ws last x
   pub added : Added ws (raised m middle) t c answer k
-  pub most : k ≤ m.count + flagReserve
+  pub most : k ≤ m.count + flag_reserve
 
 -- the bit before the record's is reached from it
 pub record FlagMade (old : List ℕ) (m : RegisterMap) (before : Node) (new : List ℕ) (f : Flagged) (c : Instruction) (t : ℕ → Expr) (b : Expr) : Type 0 where
   pub grown : Grown old m.count new f.map.count
   pub valid : Valid new f.map.count
-  pub is : MapIs new f.map (treeStep c t)
-  pub bit_is : NodeIs new f.map.count f.bit.0 1 (recordBit c t b)
+  pub is : MapIs new f.map (tree_step c t)
+  pub bit_is : NodeIs new f.map.count f.bit.0 1 (record_bit c t b)
   pub earlier : Reach new f.bit.0 before.0
   pub middle : ℕ
   pub map_is : f.map ≡ written (raised m middle) c.d (node_of f.map c.d) f.map.count
@@ -41,7 +41,7 @@ pub record FlagMade (old : List ℕ) (m : RegisterMap) (before : Node) (new : Li
 
 pub record Flags (old : List ℕ) (m : RegisterMap) (before : Node) (new : List ℕ) (f : Flagged) (c : Instruction) : Type 0 where
   pub long : length new ≡ length old
-  pub most : f.map.count ≤ m.count + flagReserve
-  pub map-ok : MapOk f.map
+  pub most : f.map.count ≤ m.count + flag_reserve
+  pub map_ok : MapOk f.map
   pub under : f.bit.0 < f.map.count
   pub made : {t : ℕ → Expr} {b : Expr} → Valid old m.count → MapIs old m t → NodeIs old m.count before.0 1 b → FlagMade old m before new f c t b

@@ -4,7 +4,7 @@ ghost use Rattle.neon.specs.Refusal.{Legal};
 ghost use Rattle.pool.specs.Growth.{Room};
 ghost use Rattle.block_record_check.specs.Record.{instruction};
 ghost use Rattle.block_record.specs.Step.{MapOk};
-ghost use Rattle.saturation_step.specs.Step.{flagReserve, Flags};
+ghost use Rattle.saturation_step.specs.Step.{flag_reserve, Flags};
 
 use block_map::RegisterMap;
 use block_record::lower_record;
@@ -12,7 +12,7 @@ use pool::Node;
 use saturation_record::record_bit;
 
 // The map of the registers, and the block's bit.
-#[derive(Drop)]
+#[derive(Clone, Copy)]
 pub struct Flagged {
     pub map: RegisterMap,
     pub bit: Node,
@@ -29,7 +29,7 @@ pub fn flag_record(
     n: u64,
     m: u64,
 ) -> Flagged
-    requires room { Room pool.old map.count flagReserve }
+    requires room { Room pool.old map.count flag_reserve }
     requires map_ok { MapOk map }
     requires bit_lt_count { bit.0 < map.count }
     requires legal { Legal (instruction operation arrangement i d n m) }

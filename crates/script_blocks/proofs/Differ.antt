@@ -9,8 +9,8 @@ use borrow.Author.Tests.{lt-ltb, eq-eqb}
 use Rattle.terms.specs.Expr.{Expr}
 use Rattle.terms.specs.Value.{value}
 use Rattle.pool.specs.Node.{width_at}
-use Rattle.pool.specs.Rules.{ofWidth}
-use Rattle.pool.specs.Unfold.{unfoldAt}
+use Rattle.pool.specs.Rules.{of_width}
+use Rattle.pool.specs.Unfold.{unfold_at}
 use Rattle.pool.specs.Growth.{NodeIs}
 use Rattle.block_map.specs.Map.{node_of}
 use Rattle.block.proofs.Equal.{registers-hold}
@@ -20,7 +20,7 @@ use Rattle.script_length.proofs.Answers.{good-nodes}
 use Rattle.script_write.proofs.Means.{written-means, apart-when-holds}
 use Rattle.script_blocks.specs.Demand.{RegistersChosen, DifferWhenScriptHolds, NamesHold}
 
-may-be-chosen : (ws : List ℕ) (count n : ℕ) (t : Expr) → NodeIs ws count n 128 t → ofWidth ws count n 128 ≡ true
+may-be-chosen : (ws : List ℕ) (count n : ℕ) (t : Expr) → NodeIs ws count n 128 t → of_width ws count n 128 ≡ true
 may-be-chosen ws count n t h = rw (lt-ltb n count h.under, eq-eqb (width_at ws n) 128 h.wide)
 
 pub registers-chosen : RegistersChosen
@@ -39,7 +39,7 @@ differ-when-script-holds old cs new a h z r r' l l' buffer len out w start model
 pub names-hold : NamesHold
 names-hold old cs new a h z x y buffer len out w start model m =
     let read = written-means new a.map.count x y buffer len out w start model m in (
-      script read.names (not (eqb (value start (unfoldAt new x)) (value start (unfoldAt new y)))),
+      script read.names (not (eqb (value start (unfold_at new x)) (value start (unfold_at new y)))),
       read.meant_is,
       λ r l.
           let t = (h.accepted z).terms r l in

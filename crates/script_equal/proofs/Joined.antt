@@ -9,15 +9,15 @@ use borrow.Author.Tests.{lt-ltb, eq-eqb, ltb-true, ltb-false}
 use Rattle.terms.specs.Expr.{Var, width}
 use Rattle.neon.specs.declared.Instruction.{Instruction}
 use Rattle.pool.specs.Node.{width_at}
-use Rattle.pool.specs.Rules.{Valid, ofWidth}
-use Rattle.pool.specs.Unfold.{unfoldAt}
+use Rattle.pool.specs.Rules.{Valid, of_width}
+use Rattle.pool.specs.Unfold.{unfold_at}
 use Rattle.pool_check.proofs.Passed.{keeps}
 use Rattle.pool_check.proofs.Sound.{sound}
 use Rattle.block_map.specs.declared.RegisterMap.{RegisterMap}
-use Rattle.block_map.specs.Map.{firstMap, node_of}
+use Rattle.block_map.specs.Map.{first_map, node_of}
 use Rattle.block.specs.Block.{Accepted}
 use Rattle.block.proofs.Running.{lowered-more}
-use Rattle.join.specs.Join.{moved, joinCount}
+use Rattle.join.specs.Join.{moved, join_count}
 use Rattle.join.proofs.Meaning.{terms-kept, joined-passes}
 use Rattle.script_length.proofs.Answers.{good-nodes}
 use Rattle.script_write.proofs.Means.{apart-when-holds}
@@ -26,13 +26,13 @@ use Rattle.script_equal.proofs.Equal.{first-is, second_is}
 
 -- ---- a node of one pool that is in another with the same tree has the same width there
 
-same_width : (ws : List ℕ) (c n : ℕ) (out : List ℕ) (count x : ℕ) → Valid ws c → Valid out count → n < c → x < count → unfoldAt out x ≡ unfoldAt ws n
-    → width_at ws n ≡ 128 → ofWidth out count x 128 ≡ true
+same_width : (ws : List ℕ) (c n : ℕ) (out : List ℕ) (count x : ℕ) → Valid ws c → Valid out count → n < c → x < count → unfold_at out x ≡ unfold_at ws n
+    → width_at ws n ≡ 128 → of_width out count x 128 ≡ true
 same_width ws c n out count x v v' l l' e w =
     let wide : width_at out x ≡ 128 = sym (sound out count v' x l').wide ∙ ap width e ∙ (sound ws c v n l).wide ∙ w in
     rw (lt-ltb x count l', eq-eqb (width_at out x) 128 wide)
 
-moved-less : (c d m : ℕ) → 32 ≤ c → 32 ≤ d → m < d → moved c m < joinCount c d
+moved-less : (c d m : ℕ) → 32 ≤ c → 32 ≤ d → m < d → moved c m < join_count c d
 moved-less c d m lc ld l = go (ltb m 32) refl
   where
     go : (t : Bool) → ltb m 32 ≡ t → cond t m (m + c - 32) < c + d - 31
@@ -40,7 +40,7 @@ moved-less c d m lc ld l = go (ltb m 32) refl
     go false e = omega (arith, ltb-false m 32 e)
 
 registers-first : {old : List ℕ} {cs : List Instruction} {new : List ℕ} {m : RegisterMap} → Accepted old cs new m → 32 ≤ m.count
-registers-first {cs = cs} {new = new} {m = m} A = lowered-more new firstMap Var cs m A.lowered
+registers-first {cs = cs} {new = new} {m = m} A = lowered-more new first_map Var cs m A.lowered
 
 pub joined-registers-chosen : JoinedRegistersChosen
 joined-registers-chosen old cs new a A z old' cs' new' a' A' z' r r' h h' buffer out j joined e q q' l l' rest =
@@ -54,7 +54,7 @@ joined-registers-chosen old cs new a A z old' cs' new' a' A' z' r r' h h' buffer
     let more' = registers-first second in
     let passes = joined-passes new c new' d (node_of a.map r) (node_of a'.map r') buffer out j joined e in
     let kept = terms-kept new c new' d (node_of a.map r) (node_of a'.map r') buffer out j joined e in
-    let count : j.count ≡ joinCount c d = (joined.done e).count in
+    let count : j.count ≡ join_count c d = (joined.done e).count in
     let v = keeps out j.count passes in
     let t = first.terms q l in
     let t' = second.terms q' l' in

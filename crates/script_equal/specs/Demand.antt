@@ -3,7 +3,7 @@
 use Rattle.std.specs.Prelude.{List, ◌↔◌, ◌≡◌, ℕ, ◌+◌, ◌-◌, ◌*◌, ◌^◌, ◌<◌, take}
 use Rattle.terms.specs.declared.CmpOp.TheVariants.{Eq}
 use Rattle.neon.specs.declared.Instruction.{Instruction}
-use Rattle.neon.specs.Run.{armRun}
+use Rattle.neon.specs.Run.{arm_run}
 use Rattle.pool.specs.Node.{Cell, compare, cell_at}
 use Rattle.block_map.specs.Map.{node_of}
 use Rattle.join.specs.Join.{moved}
@@ -11,7 +11,7 @@ use Rattle.join_blocks.specs.Demand.{OfTwoBlocks}
 use Rattle.canonical_write.specs.declared.Canonised.{Canonised}
 use Rattle.canonical_write.specs.Canonise as canonise
 use Rattle.script_meaning.specs.Demand.{ModelOf, Holds}
-use Rattle.script_length.specs.Answer.{scriptNumber}
+use Rattle.script_length.specs.Answer.{script_number}
 use Rattle.script_write.specs.Answer as scripts
 use Rattle.script_lane_write.specs.Answer.{LaneAnswered}
 
@@ -38,7 +38,7 @@ OfTwoRegisters P =
 
 -- the registers may be chosen in the joined pool: their script is refused only if room is lacking
 abbrev pub JoinedRegistersChosen : Type 0
-JoinedRegistersChosen = OfTwoRegisters (λ cs cs' q q' out count x y. (rest : ℕ) → scriptNumber out count x y rest ≡ rest)
+JoinedRegistersChosen = OfTwoRegisters (λ cs cs' q q' out count x y. (rest : ℕ) → script_number out count x y rest ≡ rest)
 
 -- for every start: they differ after the two Arm runs exactly when the assertion of their script holds in the start's model
 abbrev pub DifferWhenJoinedScriptHolds : Type 0
@@ -46,7 +46,7 @@ DifferWhenJoinedScriptHolds =
     OfTwoRegisters (λ cs cs' q q' out count x y.
     (buffer : List ℕ) (len : ℕ) (text : List ℕ) → scripts.Answered out count x y buffer 0 len text
     → (start : ℕ → ℕ) (model : List ℕ → ℕ) → ModelOf start model
-    → (armRun cs start q ≡ armRun cs' start q' → ⊥) ↔ Holds model (take len text))
+    → (arm_run cs start q ≡ arm_run cs' start q' → ⊥) ↔ Holds model (take len text))
 
 -- ---- scripts by lanes
 
@@ -58,7 +58,7 @@ Start start = (r : ℕ) → r < 32 → start r < 2 ^ 128
 abbrev pub EqualWhenNoLaneIsMet : Type 0
 EqualWhenNoLaneIsMet =
     OfTwoRegisters (λ cs cs' q q' out count x y.
-    (w k : ℕ) → w * k ≡ 128 → NoLaneMet out count x y w k → (start : ℕ → ℕ) → Start start → armRun cs start q ≡ armRun cs' start q')
+    (w k : ℕ) → w * k ≡ 128 → NoLaneMet out count x y w k → (start : ℕ → ℕ) → Start start → arm_run cs start q ≡ arm_run cs' start q')
 
 -- if a model of a start meets the script of some bits, they differ at that start
 abbrev pub DifferWhereALaneIsMet : Type 0
@@ -66,11 +66,11 @@ DifferWhereALaneIsMet =
     OfTwoRegisters (λ cs cs' q q' out count x y.
     (hi lo : ℕ) (buffer : List ℕ) (len : ℕ) (text : List ℕ) → LaneAnswered out count x y hi lo buffer 0 len text
     → (start : ℕ → ℕ) (model : List ℕ → ℕ) → ModelOf start model → Holds model (take len text)
-    → armRun cs start q ≡ armRun cs' start q' → ⊥)
+    → arm_run cs start q ≡ arm_run cs' start q' → ⊥)
 
 -- the Eq of nodes x and y
-abbrev pub eqOf : (x y : ℕ) → Cell
-eqOf x y = record { kind = compare Eq; width = 0; a = x; b = y; c = 0; x = 0; y = 0 }
+abbrev pub eq_of : (x y : ℕ) → Cell
+eq_of x y = record { kind = compare Eq; width = 0; a = x; b = y; c = 0; x = 0; y = 0 }
 
 -- so it is if the scripts are of the canonical pool of the Eq, which has both routines' terms and nothing else: it ends with the Eq of x and y
 abbrev pub EqualWhenNoCanonicalLaneIsMet : Type 0
@@ -78,6 +78,6 @@ EqualWhenNoCanonicalLaneIsMet =
     OfTwoBlocks (λ cs a r cs' a' r' buffer out j.
     j.number ≡ 0
     → (old ws : List ℕ) (c : Canonised) → canonise.Answered out j.count j.node old ws c → c.number ≡ 0
-    → (x y : ℕ) → cell_at ws (c.count - 1) ≡ eqOf x y
+    → (x y : ℕ) → cell_at ws (c.count - 1) ≡ eq_of x y
     → (w k : ℕ) → w * k ≡ 128 → NoLaneMet ws c.count x y w k
-    → (start : ℕ → ℕ) → Start start → armRun cs start r ≡ armRun cs' start r')
+    → (start : ℕ → ℕ) → Start start → arm_run cs start r ≡ arm_run cs' start r')

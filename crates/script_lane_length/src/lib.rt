@@ -2,9 +2,9 @@
 ghost use Rattle.std.specs.Prelude.{◌≡◌, ◌*◌, ◌≤◌, ◌<◌, length};
 ghost use Rattle.text_series.specs.Series.{up_to};
 ghost use Rattle.script_length.specs.Answer.{Named, AllNamed};
-ghost use Rattle.script_lane_meaning.specs.LaneScript.{laneScriptOf};
-ghost use Rattle.script_lane_text.specs.Lines.{linesAt};
-ghost use Rattle.script_lane_length.specs.Answer.{laneNumber, LaneMeasured};
+ghost use Rattle.script_lane_meaning.specs.LaneScript.{lane_script_of};
+ghost use Rattle.script_lane_text.specs.Lines.{lines_at};
+ghost use Rattle.script_lane_length.specs.Answer.{lane_number, LaneMeasured};
 
 use pool::words::{Kind, kind_of, width_of};
 use pool::{Bit, Node};
@@ -14,7 +14,7 @@ use text_decimals::number_length;
 // Both lines of a node; nothing for a Var.
 fn node_length(p: &[u64], n: Node) -> usize
     requires { Named p.now n.0 }
-    ensures { (result ≡ length (linesAt p.now n.0)) × (result ≤ 192) }
+    ensures { (result ≡ length (lines_at p.now n.0)) × (result ≤ 192) }
 {
     let k = kind_of(p, n);
     if k == Kind::VAR {
@@ -28,7 +28,7 @@ fn node_length(p: &[u64], n: Node) -> usize
 // The lines of the nodes below count.
 fn nodes_length(p: &[u64], count: usize) -> usize
     requires { AllNamed p.now count × (count ≤ 65535) }
-    ensures { (result ≡ length (up_to count (linesAt p.now))) × (result ≤ 192 * count) }
+    ensures { (result ≡ length (up_to count (lines_at p.now))) × (result ≤ 192 * count) }
 {
     let mut n = 0;
     let mut sum = 0;
@@ -42,7 +42,7 @@ fn nodes_length(p: &[u64], count: usize) -> usize
 // The whole script: the first line and 32 declarations have 1,128 bytes.
 pub fn lane_measure(p: &[u64], count: usize, x: Node, y: Node, hi: Bit, lo: Bit) -> usize
     requires { AllNamed p.now count × (count ≤ 65535) × (x.0 < count) × (y.0 < count) × (hi.0 < 1000) × (lo.0 < 1000) }
-    ensures { result ≡ length (laneScriptOf p.now count x.0 y.0 hi.0 lo.0) }
+    ensures { result ≡ length (lane_script_of p.now count x.0 y.0 hi.0 lo.0) }
 {
     let claim = cut_length(p, x, hi, lo) + cut_length(p, y, hi, lo) + 34;
     nodes_length(p, count) + claim + 1128
@@ -50,7 +50,7 @@ pub fn lane_measure(p: &[u64], count: usize, x: Node, y: Node, hi: Bit, lo: Bit)
 
 // The number of a refusal that has nothing to do with a buffer: 1, 5, or 0.
 pub fn lane_number(pool: &[u64], count: usize, a: Node, b: Node, hi: Bit, lo: Bit) -> u64
-    ensures { result ≡ laneNumber pool.now count a.0 b.0 hi.0 lo.0 0 }
+    ensures { result ≡ lane_number pool.now count a.0 b.0 hi.0 lo.0 0 }
 {
     let number = script_number(pool, count, a, b);
     if 0 < number {

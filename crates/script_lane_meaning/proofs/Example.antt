@@ -2,12 +2,12 @@
 use mathlib.Core.Path.{◌≡◌, refl}
 use mathlib.Core.List.{List, ◌++◌}
 use Prim.Native.Nat.{ℕ}
-use Rattle.terms.specs.Display.{bytes, decimal, digitsTo}
+use Rattle.terms.specs.Display.{bytes, decimal, digits_to}
 use Rattle.pool.specs.Node.{kind_at, kinds}
-use Rattle.script_meaning.specs.Sexp.{show, showLines}
+use Rattle.script_meaning.specs.Sexp.{show, show_lines}
 use Rattle.script_meaning.specs.Script.{binary, declarations}
 use Rattle.script_meaning.proofs.Example.{pool}
-use Rattle.script_lane_meaning.specs.LaneScript.{equations, laneCommands, laneScriptOf}
+use Rattle.script_lane_meaning.specs.LaneScript.{equations, lane_commands, lane_script_of}
 
 abbrev written : List ℕ
 written =
@@ -71,6 +71,6 @@ written =
     ++ bytes "(assert (distinct ((_ extract 127 120) n43) ((_ extract 127 120) r0)))\n"
     ++ bytes "(check-sat)\n"
 
-example : laneScriptOf pool 44 43 0 127 120 ≡ written
-unfolding pool laneScriptOf laneCommands declarations equations showLines show binary decimal digitsTo kind_at kinds
+example : lane_script_of pool 44 43 0 127 120 ≡ written
+unfolding pool lane_script_of lane_commands declarations equations show_lines show binary decimal digits_to kind_at kinds
 example = refl

@@ -11,11 +11,11 @@ use Rattle.terms.specs.Rules.{Good}
 use Rattle.trees_value.proofs.Range.{value-lt}
 use Rattle.pool.specs.Node.{width_at}
 use Rattle.pool.specs.Rules.{Valid}
-use Rattle.pool.specs.Unfold.{unfoldAt}
+use Rattle.pool.specs.Unfold.{unfold_at}
 use Rattle.pool_check.proofs.Sound.{sound}
 use Rattle.script_meaning.specs.Values.{number}
 use Rattle.script_meaning.specs.Meaning.{values_of}
-use Rattle.script_meaning.specs.Script.{registerName, nodeName}
+use Rattle.script_meaning.specs.Script.{register_name, node_name}
 use Rattle.script_meaning.proofs.Numbers.{decimal-number}
 
 bit-lt : (b : Bool) → bit b < 2
@@ -40,17 +40,17 @@ module _ (start : ℕ → ℕ) (bits : (r : ℕ) → r < 32 → start r < 2 ^ 12
   fits t zero g e = condition-lt start t g e
   fits t (suc w) g e = rw e at (value-lt start bits t g (omega arith))
 
-  pub value-fits : (ws : List ℕ) (count n : ℕ) → Valid ws count → n < count → value start (unfoldAt ws n) < values_of (width_at ws n)
-  value-fits ws count n valid h = let s = sound ws count valid n h in fits (unfoldAt ws n) (width_at ws n) s.ok s.wide
+  pub value-fits : (ws : List ℕ) (count n : ℕ) → Valid ws count → n < count → value start (unfold_at ws n) < values_of (width_at ws n)
+  value-fits ws count n valid h = let s = sound ws count valid n h in fits (unfold_at ws n) (width_at ws n) s.ok s.wide
 
 module _ (ws : List ℕ) (start : ℕ → ℕ) where
   -- r and a number, or n and a number
-  abbrev pub poolModel : List ℕ → ℕ
-  poolModel [] = 0
-  poolModel (c ∷ ds) = cond (eqb c 114) (start (number 10 0 ds)) (value start (unfoldAt ws (number 10 0 ds)))
+  abbrev pub pool_model : List ℕ → ℕ
+  pool_model [] = 0
+  pool_model (c ∷ ds) = cond (eqb c 114) (start (number 10 0 ds)) (value start (unfold_at ws (number 10 0 ds)))
 
-  pub model-register : (r : ℕ) → poolModel (registerName r) ≡ start r
+  pub model-register : (r : ℕ) → pool_model (register_name r) ≡ start r
   model-register r = ap start (decimal-number r)
 
-  pub model-node : (n : ℕ) → poolModel (nodeName n) ≡ value start (unfoldAt ws n)
-  model-node n = ap (λ (m : ℕ). value start (unfoldAt ws m)) (decimal-number n)
+  pub model-node : (n : ℕ) → pool_model (node_name n) ≡ value start (unfold_at ws n)
+  model-node n = ap (λ (m : ℕ). value start (unfold_at ws m)) (decimal-number n)

@@ -5,18 +5,18 @@ use Prim.Native.Nat.{ℕ}
 use lib.ListN.{length, take}
 use Rattle.pool_check.proofs.Passed.{keeps, below, has_width}
 use Rattle.script_write.proofs.Answers.{front-is}
-use Rattle.script_lane_meaning.specs.LaneScript.{laneScriptOf}
+use Rattle.script_lane_meaning.specs.LaneScript.{lane_script_of}
 use Rattle.script_lane_meaning.specs.Demand.{LaneReads}
 use Rattle.script_lane_meaning.proofs.Script.{lane-script-means}
 use Rattle.script_lane_length.proofs.Answers.{fine}
-use Rattle.script_lane_write.specs.Answer.{writeNumber, LaneAnswered}
+use Rattle.script_lane_write.specs.Answer.{write_number, LaneAnswered}
 use Rattle.script_lane_write.specs.Demand.{LaneWrittenMeans}
 
 -- the bytes up to the length are the script
 pub written_is : (ws : List ℕ) (count a b hi lo : ℕ) (old : List ℕ) (len : ℕ) (new : List ℕ) → LaneAnswered ws count a b hi lo old 0 len new
-    → take len new ≡ laneScriptOf ws count a b hi lo
+    → take len new ≡ lane_script_of ws count a b hi lo
 written_is ws count a b hi lo old len new h =
-    front-is (writeNumber ws count a b hi lo (length old)) (laneScriptOf ws count a b hi lo) old len new h.number_is h.length-is h.buffer-is
+    front-is (write_number ws count a b hi lo (length old)) (lane_script_of ws count a b hi lo) old len new h.number_is h.length_is h.buffer_is
 
 pub lane-written-means : LaneWrittenMeans
 lane-written-means ws count a b hi lo old len new h start bits =

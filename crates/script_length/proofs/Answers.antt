@@ -6,13 +6,13 @@ use Prim.Native.Nat.{ℕ, ◌<◌}
 use native.Mathlib.Nat.{not-suc-le-zero}
 use native.Mathlib.Omega.{arith}
 use lib.ListN.{length}
-use Rattle.facts.specs.Refuse.{byNumber, unless}
+use Rattle.facts.specs.Refuse.{by_number, unless}
 use Rattle.facts.proofs.Refused.{zero-beside}
-use Rattle.pool.specs.Rules.{poolOk, ofWidth}
+use Rattle.pool.specs.Rules.{pool_ok, of_width}
 use Rattle.pool_check.proofs.Passed.{few}
 use Rattle.text_length.proofs.Answers.{ready}
-use Rattle.script_meaning.specs.Script.{scriptOf}
-use Rattle.script_length.specs.Answer.{AllNamed, scriptNumber, Measured}
+use Rattle.script_meaning.specs.Script.{script_of}
+use Rattle.script_length.specs.Answer.{AllNamed, script_number, Measured}
 
 -- ---- the tests
 
@@ -37,54 +37,54 @@ some true false y rest l = refl
 some false x y rest l = refl
 
 module _ (ws : List ℕ) (count a b : ℕ) where
-  pub bad-pool : (rest : ℕ) → poolOk ws count ≡ false → scriptNumber ws count a b rest ≡ 1
-  bad-pool rest h = ap (λ (p : Bool). number p (ofWidth ws count a 128) (ofWidth ws count b 128) rest) h
+  pub bad-pool : (rest : ℕ) → pool_ok ws count ≡ false → script_number ws count a b rest ≡ 1
+  bad-pool rest h = ap (λ (p : Bool). number p (of_width ws count a 128) (of_width ws count b 128) rest) h
 
-  pub bad-first : (rest : ℕ) → poolOk ws count ≡ true → ofWidth ws count a 128 ≡ false → scriptNumber ws count a b rest ≡ 5
+  pub bad-first : (rest : ℕ) → pool_ok ws count ≡ true → of_width ws count a 128 ≡ false → script_number ws count a b rest ≡ 5
   bad-first rest h e =
-      ap (λ (p : Bool). number p (ofWidth ws count a 128) (ofWidth ws count b 128) rest) h ∙ ap (λ (x : Bool). number true x (ofWidth ws count b 128) rest) e
+      ap (λ (p : Bool). number p (of_width ws count a 128) (of_width ws count b 128) rest) h ∙ ap (λ (x : Bool). number true x (of_width ws count b 128) rest) e
 
-  pub bad-second : (rest : ℕ) → poolOk ws count ≡ true → ofWidth ws count a 128 ≡ true → ofWidth ws count b 128 ≡ false → scriptNumber ws count a b rest ≡ 5
+  pub bad-second : (rest : ℕ) → pool_ok ws count ≡ true → of_width ws count a 128 ≡ true → of_width ws count b 128 ≡ false → script_number ws count a b rest ≡ 5
   bad-second rest h e f =
-      ap (λ (p : Bool). number p (ofWidth ws count a 128) (ofWidth ws count b 128) rest) h
-      ∙ ap (λ (x : Bool). number true x (ofWidth ws count b 128) rest) e
+      ap (λ (p : Bool). number p (of_width ws count a 128) (of_width ws count b 128) rest) h
+      ∙ ap (λ (x : Bool). number true x (of_width ws count b 128) rest) e
       ∙ ap (λ (y : Bool). number true true y rest) f
 
-  pub good-nodes : (rest : ℕ) → poolOk ws count ≡ true → ofWidth ws count a 128 ≡ true → ofWidth ws count b 128 ≡ true → scriptNumber ws count a b rest ≡ rest
+  pub good-nodes : (rest : ℕ) → pool_ok ws count ≡ true → of_width ws count a 128 ≡ true → of_width ws count b 128 ≡ true → script_number ws count a b rest ≡ rest
   good-nodes rest h e f =
-      ap (λ (p : Bool). number p (ofWidth ws count a 128) (ofWidth ws count b 128) rest) h
-      ∙ ap (λ (x : Bool). number true x (ofWidth ws count b 128) rest) e
+      ap (λ (p : Bool). number p (of_width ws count a 128) (of_width ws count b 128) rest) h
+      ∙ ap (λ (x : Bool). number true x (of_width ws count b 128) rest) e
       ∙ ap (λ (y : Bool). number true true y rest) f
 
   -- no refusal: each test was passed
   abbrev pub Good : Type 0
-  Good = Passed (poolOk ws count) (ofWidth ws count a 128) (ofWidth ws count b 128)
+  Good = Passed (pool_ok ws count) (of_width ws count a 128) (of_width ws count b 128)
 
-  pub good : (rest : ℕ) → scriptNumber ws count a b rest ≡ 0 → Good
-  good rest e = none (poolOk ws count) (ofWidth ws count a 128) (ofWidth ws count b 128) rest e
+  pub good : (rest : ℕ) → script_number ws count a b rest ≡ 0 → Good
+  good rest e = none (pool_ok ws count) (of_width ws count a 128) (of_width ws count b 128) rest e
 
-  pub past : (rest : ℕ) → Good → scriptNumber ws count a b rest ≡ rest
+  pub past : (rest : ℕ) → Good → script_number ws count a b rest ≡ rest
   past rest g = good-nodes rest g.pool g.first g.second
 
   -- a refusal is that whatever follows
-  pub refusal : (rest : ℕ) → 0 < scriptNumber ws count a b 0 → scriptNumber ws count a b rest ≡ scriptNumber ws count a b 0
-  refusal rest l = some (poolOk ws count) (ofWidth ws count a 128) (ofWidth ws count b 128) rest l
+  pub refusal : (rest : ℕ) → 0 < script_number ws count a b 0 → script_number ws count a b rest ≡ script_number ws count a b 0
+  refusal rest l = some (pool_ok ws count) (of_width ws count a 128) (of_width ws count b 128) rest l
 
 module _ (ws : List ℕ) (count : ℕ) where
-  pub all_named : poolOk ws count ≡ true → AllNamed ws count
+  pub all_named : pool_ok ws count ≡ true → AllNamed ws count
   all_named h n l = record { ready = ready ws count n h l; small = omega (arith, few ws count h) }
 
 -- ---- the answers
 
 module _ (ws : List ℕ) (count a b : ℕ) where
-  pub unmeasured : {k : ℕ} → k ≡ scriptNumber ws count a b 0 → 0 < k → Measured ws count a b k 0
+  pub unmeasured : {k : ℕ} → k ≡ script_number ws count a b 0 → 0 < k → Measured ws count a b k 0
   unmeasured {k} e h = record {
     number_is = e;
-    length-is = sym (zero-beside k (length (scriptOf ws count a b)) h) ∙ ap (λ (j : ℕ). byNumber j (length (scriptOf ws count a b))) e;
+    length_is = sym (zero-beside k (length (script_of ws count a b)) h) ∙ ap (λ (j : ℕ). by_number j (length (script_of ws count a b))) e;
   }
 
-  pub measured : {l : ℕ} → scriptNumber ws count a b 0 ≡ 0 → l ≡ length (scriptOf ws count a b) → Measured ws count a b 0 l
+  pub measured : {l : ℕ} → script_number ws count a b 0 ≡ 0 → l ≡ length (script_of ws count a b) → Measured ws count a b 0 l
   measured {l} z e = record {
     number_is = sym z;
-    length-is = e ∙ ap (λ (j : ℕ). byNumber j (length (scriptOf ws count a b))) (sym z);
+    length_is = e ∙ ap (λ (j : ℕ). by_number j (length (script_of ws count a b))) (sym z);
   }

@@ -1,12 +1,12 @@
 // The length of a pool's script (document 02, S-1), with no byte written: each line's length is a sum.
 ghost use Rattle.std.specs.Prelude.{◌≡◌, ◌+◌, ◌*◌, ◌≤◌, ◌<◌, length};
 ghost use Rattle.terms.specs.Display.{bytes};
-ghost use Rattle.pool.specs.Node.{kind_at, kindNumber};
+ghost use Rattle.pool.specs.Node.{kind_at, kind_number};
 ghost use Rattle.text_series.specs.Series.{up_to};
 ghost use Rattle.script_meaning.specs.Sexp.{show};
-ghost use Rattle.script_meaning.specs.Script.{name_of, termOf, scriptOf, sortBy, functionOf, apply1, apply2, apply3, index1, index2};
+ghost use Rattle.script_meaning.specs.Script.{name_of, term_of, script_of, sort_by, function_of, apply1, apply2, apply3, index1, index2};
 ghost use Rattle.script_text.specs.Lines.{line_at};
-ghost use Rattle.script_length.specs.Answer.{Named, AllNamed, scriptNumber, Measured};
+ghost use Rattle.script_length.specs.Answer.{Named, AllNamed, script_number, Measured};
 
 use pool::words::{Kind, kind_of, width_of};
 use pool::{Bit, Node};
@@ -28,7 +28,7 @@ fn name_length(p: &[u64], n: Node) -> usize
 // Bool, or (_ BitVec w).
 pub fn sort_length(width: u64) -> usize
     requires { width < 1000 }
-    ensures { (result ≡ length (show (sortBy width))) × (result ≤ 16) }
+    ensures { (result ≡ length (show (sort_by width))) × (result ≤ 16) }
 {
     if width == 0 {
         return 4;
@@ -39,7 +39,7 @@ pub fn sort_length(width: u64) -> usize
 // The function of a kind from 3 on.
 fn function_length(k: u64) -> usize
     requires { (3 ≤ k) × (k < 20) }
-    ensures { (result ≡ length (functionOf (kind_at k))) × (result ≤ 11) }
+    ensures { (result ≡ length (function_of (kind_at k))) × (result ≤ 11) }
 {
     match k {
         Kind::ADD => 5,
@@ -65,7 +65,7 @@ fn function_length(k: u64) -> usize
 // (f a b)
 fn two_length(p: &[u64], k: u64, a: Node, b: Node) -> usize
     requires { (3 ≤ k) × (k < 20) × Named p.now a.0 × Named p.now b.0 }
-    ensures { (result ≡ length (show (apply2 (functionOf (kind_at k)) (name_of p.now a.0) (name_of p.now b.0)))) × (result ≤ 131) }
+    ensures { (result ≡ length (show (apply2 (function_of (kind_at k)) (name_of p.now a.0) (name_of p.now b.0)))) × (result ≤ 131) }
 {
     function_length(k) + name_length(p, a) + name_length(p, b) + 4
 }
@@ -89,15 +89,15 @@ pub fn cut_length(p: &[u64], a: Node, hi: Bit, lo: Bit) -> usize
 // ((_ zero_extend by) a), ((_ sign_extend by) a)
 fn extension_length(p: &[u64], k: u64, by: u64, a: Node) -> usize
     requires { (3 ≤ k) × (k < 20) × Named p.now a.0 × (by < 1000) }
-    ensures { (result ≡ length (show (apply1 (index1 (functionOf (kind_at k)) by) (name_of p.now a.0)))) × (result ≤ 131) }
+    ensures { (result ≡ length (show (apply1 (index1 (function_of (kind_at k)) by) (name_of p.now a.0)))) × (result ≤ 131) }
 {
     function_length(k) + number_length(by) + name_length(p, a) + 8
 }
 
 // The term of a node that is no Var. k is the number of its kind.
 pub fn term_length(p: &[u64], n: Node, k: u64) -> usize
-    requires { Named p.now n.0 × (k ≡ kindNumber p.now n.0) × (2 ≤ k) }
-    ensures { (result ≡ length (show (termOf p.now n.0))) × (result ≤ 131) }
+    requires { Named p.now n.0 × (k ≡ kind_number p.now n.0) × (2 ≤ k) }
+    ensures { (result ≡ length (show (term_of p.now n.0))) × (result ≤ 131) }
 {
     if k == Kind::CONST {
         return (width_of(p, n) as usize) + 2;
@@ -147,7 +147,7 @@ fn lines_length(p: &[u64], count: usize) -> usize
 // The whole script: the first line and 32 declarations have 1,128 bytes.
 pub fn measure(p: &[u64], count: usize, x: Node, y: Node) -> usize
     requires { AllNamed p.now count × (count ≤ 65535) × (x.0 < count) × (y.0 < count) }
-    ensures { result ≡ length (scriptOf p.now count x.0 y.0) }
+    ensures { result ≡ length (script_of p.now count x.0 y.0) }
 {
     let claim = name_length(p, x) + name_length(p, y) + 34;
     lines_length(p, count) + claim + 1128
@@ -155,7 +155,7 @@ pub fn measure(p: &[u64], count: usize, x: Node, y: Node) -> usize
 
 // The number of a refusal that has nothing to do with a buffer: 1, 5, or 0.
 pub fn script_number(pool: &[u64], count: usize, a: Node, b: Node) -> u64
-    ensures { result ≡ scriptNumber pool.now count a.0 b.0 0 }
+    ensures { result ≡ script_number pool.now count a.0 b.0 0 }
 {
     if !pool_check(pool, count) {
         return 1;
@@ -170,7 +170,7 @@ pub fn script_number(pool: &[u64], count: usize, a: Node, b: Node) -> u64
 }
 
 // A number of the table, and the length of a script.
-#[derive(Drop)]
+#[derive(Clone, Copy)]
 pub struct Script {
     pub number: u64,
     pub length: usize,

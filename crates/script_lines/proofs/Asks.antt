@@ -7,27 +7,27 @@ use native.Mathlib.Omega.{arith}
 use lib.Dec.{leb, ltb}
 use lib.ListN.{length, take}
 use borrow.Author.Tests.{le-leb, lt-leb, leb-true, le-ltb, ltb-false}
-use Rattle.facts.specs.Refuse.{byNumber, unless}
+use Rattle.facts.specs.Refuse.{by_number, unless}
 use Rattle.neon.specs.declared.Instruction.{Instruction}
-use Rattle.neon.specs.Refusal.{Refusal, refusal, sizeNumber, blockRefusal}
+use Rattle.neon.specs.Refusal.{Refusal, refusal, size_number, block_refusal}
 use Rattle.pool.specs.Node.{places}
-use Rattle.pool.specs.Rules.{poolOk, ofWidth}
-use Rattle.script_meaning.specs.Script.{scriptOf}
+use Rattle.pool.specs.Rules.{pool_ok, of_width}
+use Rattle.script_meaning.specs.Script.{script_of}
 use Rattle.block_map.specs.Map.{node_of}
-use Rattle.block_check.specs.Records.{recordsOf}
+use Rattle.block_check.specs.Records.{records_of}
 use Rattle.block.specs.declared.BlockAnswer.{BlockAnswer}
 use Rattle.block.specs.Block as block
 use Rattle.script_write.specs.Answer as scripts
 use Rattle.block_check.specs.declared.ListAnswer.{ListAnswer}
-use Rattle.line_routine.specs.Routine.{routine_of, routineRefusal, LinesRead}
+use Rattle.line_routine.specs.Routine.{routine_of, routine_refusal, LinesRead}
 use Rattle.line_routine.proofs.Blocks as blocks
 use Rattle.line_routine.proofs.Blocks.{count_fits, block-is, records-are}
 use Rattle.script_lines.specs.declared.Given.{Given}
-use Rattle.script_lines.specs.Output.{askedRefusal, ScriptGiven}
+use Rattle.script_lines.specs.Output.{asked_refusal, ScriptGiven}
 
 -- ---- a script that is written fits
 
-fits_by : (p c l : Bool) (n room : ℕ) → (l ≡ true → n ≤ room) → byNumber (unless p 1 (unless c 5 (unless l 9 0))) n ≤ room
+fits_by : (p c l : Bool) (n room : ℕ) → (l ≡ true → n ≤ room) → by_number (unless p 1 (unless c 5 (unless l 9 0))) n ≤ room
 fits_by true true true n room h = h refl
 fits_by true true false n room h = omega arith
 fits_by true false l n room h = omega arith
@@ -35,9 +35,9 @@ fits_by false c l n room h = omega arith
 
 script-fits : {ws : List ℕ} {count x y : ℕ} {old : List ℕ} {n len : ℕ} {new : List ℕ} → scripts.Answered ws count x y old n len new → len ≤ length old
 script-fits {ws} {count} {x} {y} {old} s =
-    let size = length (scriptOf ws count x y) in
+    let size = length (script_of ws count x y) in
     omega
-    (arith, s.length-is, fits_by (poolOk ws count) (ofWidth ws count x 128 && ofWidth ws count y 128) (leb size (length old)) size (length old) (leb-true size (length old)))
+    (arith, s.length_is, fits_by (pool_ok ws count) (of_width ws count x 128 && of_width ws count y 128) (leb size (length old)) size (length old) (leb-true size (length old)))
 
 -- ---- the two registers
 
@@ -59,10 +59,10 @@ within a b h = go (ltb 31 a) refl (ltb 31 b) refl
 
 module _ (input : List ℕ) (a b : ℕ) (pool old : List ℕ) where
   abbrev asked : Refusal
-  asked = askedRefusal input a b (places pool)
+  asked = asked_refusal input a b (places pool)
 
   abbrev block_of : Refusal
-  block_of = blockRefusal (places pool) (routine_of input)
+  block_of = block_refusal (places pool) (routine_of input)
 
   -- ---- a refusal
 
@@ -70,27 +70,27 @@ module _ (input : List ℕ) (a b : ℕ) (pool old : List ℕ) where
       → {pool' : List ℕ} → pool' ≡ pool → ScriptGiven input a b pool old w pool' old
   given-refused n p z e w q kept =
       record {
-        refused = λ y. record { number_is = q.0 ∙ e.0; position-is = q.1 ∙ e.1; length-is = q.2; pool-kept = kept; buffer-kept = refl };
+        refused = λ y. record { number_is = q.0 ∙ e.0; position_is = q.1 ∙ e.1; length_is = q.2; pool_kept = kept; buffer_kept = refl };
         asked = λ y. absurd (omega (arith, y, e, z));
-        length-in = omega (arith, q.2);
+        length_in = omega (arith, q.2);
       }
 
   pub no-registers : (ltb 31 a || ltb 31 b) ≡ true → (7 ≡ asked.number) × (0 ≡ asked.position)
-  unfolding askedRefusal
+  unfolding asked_refusal
   no-registers h = rw (over a b h) (refl, refl)
 
   module _ (in-a : a ≤ 31) (in_b : b ≤ 31) where
     pub long-input : 65536 < length input → (8 ≡ asked.number) × (0 ≡ asked.position)
-    unfolding askedRefusal
+    unfolding asked_refusal
     long-input h = rw (le-leb a 31 in-a, le-leb b 31 in_b, lt-leb (length input) 65536 h) (refl, refl)
 
     module _ (fits : length input ≤ 65536) where
-      routine : asked ≡ routineRefusal input block_of
-      unfolding askedRefusal
+      routine : asked ≡ routine_refusal input block_of
+      unfolding asked_refusal
       routine = rw (le-leb a 31 in-a, le-leb b 31 in_b, le-leb (length input) 65536 fits)
 
       long : 85 < length (routine_of input) → block_of ≡ refusal 8 0
-      unfolding blockRefusal sizeNumber
+      unfolding block_refusal size_number
       long h = rw (lt-leb (length (routine_of input)) 85 h)
 
       module _ {none records : List ℕ} (r : ListAnswer) (size : length none ≡ 510) (h : LinesRead input none r records) where
@@ -101,18 +101,18 @@ module _ (input : List ℕ) (a b : ℕ) (pool old : List ℕ) where
         lines_fit = count_fits input block_of long r size h
 
         module _ (passed : r.number ≤ 0) {pool' : List ℕ} (answer : BlockAnswer)
-            (lowered : block.Answered pool (recordsOf (take (6 * r.count) records)) pool' answer) where
+            (lowered : block.Answered pool (records_of (take (6 * r.count) records)) pool' answer) where
           same : block.Answered pool (routine_of input) pool' answer
           same = subst (λ (cs : List Instruction). block.Answered pool cs pool' answer) (records-are input block_of long r size h passed) lowered
 
-          by-block : asked ≡ block_of
-          by-block = routine ∙ block-is input block_of long r size h passed
+          by_block : asked ≡ block_of
+          by_block = routine ∙ block-is input block_of long r size h passed
 
           pub block_refused : (answer.number ≡ asked.number) × (answer.position ≡ asked.position)
-          block_refused = rw by-block (same.number, same.position)
+          block_refused = rw by_block (same.number, same.position)
 
-          pub pool-kept : 0 < answer.number → pool' ≡ pool
-          pool-kept z = (same.refused (λ e. omega (arith, e, z))).1
+          pub pool_kept : 0 < answer.number → pool' ≡ pool
+          pool_kept z = (same.refused (λ e. omega (arith, e, z))).1
 
           pub given-asked : answer.number ≤ 0 → {x y n len : ℕ} {new : List ℕ} → x ≡ node_of answer.map a → y ≡ node_of answer.map b
               → scripts.Answered pool' answer.map.count x y old n len new
@@ -122,6 +122,6 @@ module _ (input : List ℕ) (a b : ℕ) (pool old : List ℕ) where
                 refused = λ y. absurd (omega (arith, y, block_refused, z));
                 asked =
                     λ _.
-                    record { answer = answer; lowered = same; accepted = omega arith; script = rw (ex, ey) at s; position-is = refl };
-                length-in = script-fits s;
+                    record { answer = answer; lowered = same; accepted = omega arith; script = rw (ex, ey) at s; position_is = refl };
+                length_in = script-fits s;
               }

@@ -11,17 +11,17 @@ use borrow.Author.Tests.{leb-true}
 use Rattle.facts.specs.Refuse.{unless}
 use Rattle.pool.specs.Node.{places}
 use Rattle.block_map.specs.Map.{node_of}
-use Rattle.script_meaning.specs.Script.{scriptOf}
+use Rattle.script_meaning.specs.Script.{script_of}
 use Rattle.script_write.specs.Answer as scripts
 use Rattle.script_blocks.proofs.Differ.{registers-chosen, differ-when-script-holds}
 use Rattle.line_routine.specs.Routine.{routine_of}
 use Rattle.script_lines.specs.declared.Given.{Given}
-use Rattle.script_lines.specs.Output.{askedRefusal, ScriptGiven}
+use Rattle.script_lines.specs.Output.{asked_refusal, ScriptGiven}
 use Rattle.script_lines.specs.Demand.{OutputMeans, AskedFits}
 
 -- what is not refused names two registers
-registers-in : (input : List ℕ) (a b p : ℕ) → (askedRefusal input a b p).number ≡ 0 → (a < 32) × (b < 32)
-unfolding askedRefusal
+registers-in : (input : List ℕ) (a b p : ℕ) → (asked_refusal input a b p).number ≡ 0 → (a < 32) × (b < 32)
+unfolding asked_refusal
 registers-in input a b p h = go (leb a 31) refl (leb b 31) refl
   where
     go : (x : Bool) → leb a 31 ≡ x → (y : Bool) → leb b 31 ≡ y → (a < 32) × (b < 32)
@@ -31,10 +31,10 @@ registers-in input a b p h = go (leb a 31) refl (leb b 31) refl
 
 -- 0 is an answer of what was asked
 was-asked : (input : List ℕ) (a b : ℕ) (pool old : List ℕ) (r : Given) (pool' new : List ℕ) → ScriptGiven input a b pool old r pool' new → r.number ≡ 0
-    → (askedRefusal input a b (places pool)).number ≡ 0
-was-asked input a b pool old r pool' new g z = go (askedRefusal input a b (places pool)).number refl
+    → (asked_refusal input a b (places pool)).number ≡ 0
+was-asked input a b pool old r pool' new g z = go (asked_refusal input a b (places pool)).number refl
   where
-    go : (n : ℕ) → (askedRefusal input a b (places pool)).number ≡ n → (askedRefusal input a b (places pool)).number ≡ 0
+    go : (n : ℕ) → (asked_refusal input a b (places pool)).number ≡ n → (asked_refusal input a b (places pool)).number ≡ 0
     go zero e = e
     go (suc n) e = absurd (omega (arith, e, z, (g.refused (omega (arith, e))).number_is))
 
@@ -54,7 +54,7 @@ asked-fits input a b pool old r pool' new g e =
     let c = k.answer.map.count in
     let x = node_of k.answer.map a in
     let y = node_of k.answer.map b in
-    let long = leb (length (scriptOf pool' c x y)) (length old) in
+    let long = leb (length (script_of pool' c x y)) (length old) in
     let n : r.number ≡ unless long 9 0 =
     k.script.number_is ∙ registers-chosen pool (routine_of input) pool' k.answer k.lowered k.accepted a b (unless long 9 0) h.0 h.1
     in

@@ -13,7 +13,7 @@ pub const MOST_BYTES: usize = 65536;
 pub const POOL_WORDS: usize = 4 * (32 + pool::Node::RESERVE * block_check::MOST_RECORDS);
 
 // 0 or a number of document 01, the position of the record that is refused, and the bytes written.
-#[derive(Drop)]
+#[derive(Clone, Copy)]
 pub struct Given {
     pub number: u64,
     pub position: usize,

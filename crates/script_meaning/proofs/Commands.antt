@@ -11,12 +11,12 @@ use Rattle.terms.specs.Value.{bit}
 use Rattle.script_meaning.specs.Sexp.{Sexp}
 use Rattle.script_meaning.specs.Values.{Meaning, meaning, Entry, ◌↦ᵉ◌, find}
 use Rattle.script_meaning.specs.Functions.{functions}
-use Rattle.script_meaning.specs.Meaning.{term, sort, commands, isFresh, values_of, script, done, command}
-use Rattle.script_meaning.specs.Script.{registerName, nodeName, sortBy, declareConst, assertion, defineFun}
+use Rattle.script_meaning.specs.Meaning.{term, sort, commands, is_fresh, values_of, script, done, command}
+use Rattle.script_meaning.specs.Script.{register_name, node_name, sort_by, declare_const, assertion, define_fun}
 use Rattle.script_meaning.proofs.Numbers.{decimal-numeral}
 use Rattle.script_meaning.proofs.Names.{node-free, register-free, decimal-symbolic}
 
-sort-by : (w : ℕ) → sort (sortBy w) ≡ some w
+sort-by : (w : ℕ) → sort (sort_by w) ≡ some w
 sort-by zero = refl
 sort-by (suc w) = rw (decimal-numeral (suc w), lt-ltb 0 (suc w) (omega arith))
 
@@ -25,27 +25,27 @@ bit-holds true = refl
 bit-holds false = refl
 
 module _ (env : List (Entry Meaning)) where
-  pub fresh-node : (n : ℕ) → find env (nodeName n) ≡ none → isFresh env (nodeName n) ≡ true
+  pub fresh-node : (n : ℕ) → find env (node_name n) ≡ none → is_fresh env (node_name n) ≡ true
   unfolding find functions
   fresh-node n f = rw (decimal-symbolic n, node-free n, f)
 
-  pub fresh-register : (r : ℕ) → find env (registerName r) ≡ none → isFresh env (registerName r) ≡ true
+  pub fresh-register : (r : ℕ) → find env (register_name r) ≡ none → is_fresh env (register_name r) ≡ true
   unfolding find functions
   fresh-register r f = rw (decimal-symbolic r, register-free r, f)
 
 module _ (model : List ℕ → ℕ) (env : List (Entry Meaning)) (holds : Bool) where
-  pub define-step : (n : List ℕ) (w : ℕ) (t : Sexp) (v : Meaning) → term t env ≡ some v → v.sort ≡ w → isFresh env n ≡ true
-      → command model (defineFun n (sortBy w) t) (script env holds) ≡ some (script (n ↦ᵉ v ∷ env) holds)
+  pub define-step : (n : List ℕ) (w : ℕ) (t : Sexp) (v : Meaning) → term t env ≡ some v → v.sort ≡ w → is_fresh env n ≡ true
+      → command model (define_fun n (sort_by w) t) (script env holds) ≡ some (script (n ↦ᵉ v ∷ env) holds)
   unfolding find commands done
   define-step n w t v e q f = rw (sort-by w, e, eq-eqb v.sort w q, f)
 
-  pub declare-step : (n : List ℕ) (w : ℕ) → model n < values_of w → isFresh env n ≡ true
-      → command model (declareConst n (sortBy w)) (script env holds) ≡ some (script (n ↦ᵉ meaning w (model n) ∷ env) holds)
+  pub declare-step : (n : List ℕ) (w : ℕ) → model n < values_of w → is_fresh env n ≡ true
+      → command model (declare_const n (sort_by w)) (script env holds) ≡ some (script (n ↦ᵉ meaning w (model n) ∷ env) holds)
   unfolding find commands done
   declare-step n w l f = rw (sort-by w, lt-ltb (model n) (values_of w) l, f)
 
   -- a constant has a value of its sort
-  pub declare-other : (n : List ℕ) (w : ℕ) → ltb (model n) (values_of w) ≡ false → command model (declareConst n (sortBy w)) (script env holds) ≡ none
+  pub declare-other : (n : List ℕ) (w : ℕ) → ltb (model n) (values_of w) ≡ false → command model (declare_const n (sort_by w)) (script env holds) ≡ none
   unfolding find commands done
   declare-other n w l = rw (sort-by w, l)
 

@@ -3,11 +3,11 @@ use mathlib.Core.Path.{◌≡◌, refl}
 use mathlib.Core.Bool.{true}
 use mathlib.Core.List.{List, [], ◌∷◌, ◌++◌}
 use Prim.Native.Nat.{ℕ}
-use Rattle.terms.specs.Display.{bytes, decimal, digitsTo}
+use Rattle.terms.specs.Display.{bytes, decimal, digits_to}
 use Rattle.pool.specs.Node.{kind_at, kinds}
-use Rattle.pool.specs.Rules.{okPool, poolOk}
-use Rattle.script_meaning.specs.Sexp.{show, showLines}
-use Rattle.script_meaning.specs.Script.{binary, declarations, definitions, commandsOf, scriptOf}
+use Rattle.pool.specs.Rules.{ok_pool, pool_ok}
+use Rattle.script_meaning.specs.Sexp.{show, show_lines}
+use Rattle.script_meaning.specs.Script.{binary, declarations, definitions, commands_of, script_of}
 
 unfoldable pub pool : List ℕ
 pool =
@@ -25,8 +25,8 @@ pool =
     ∷ 8598323217 ∷ 2228261 ∷ 0 ∷ 0 ∷ 196610 ∷ 0 ∷ 5 ∷ 0 ∷ 8589934604 ∷ 2555942 ∷ 0 ∷ 0 ∷ 8598323215 ∷ 163211378730 ∷ 0 ∷ 0 ∷ []
 
 -- it passes the pool check
-fine : poolOk pool 44 ≡ true
-unfolding pool okPool kind_at kinds
+fine : pool_ok pool 44 ≡ true
+unfolding pool ok_pool kind_at kinds
 fine = refl
 
 -- cuts, a shift, a comparison, choices, extensions, constants, an equation
@@ -80,6 +80,6 @@ written =
     ++ bytes "(assert (distinct n43 r0))\n"
     ++ bytes "(check-sat)\n"
 
-example : scriptOf pool 44 43 0 ≡ written
-unfolding pool scriptOf commandsOf declarations definitions showLines show binary decimal digitsTo kind_at kinds
+example : script_of pool 44 43 0 ≡ written
+unfolding pool script_of commands_of declarations definitions show_lines show binary decimal digits_to kind_at kinds
 example = refl

@@ -15,8 +15,8 @@ use Rattle.facts.proofs.Numbers.{before-or-from}
 use Rattle.terms.specs.Display.{digit, decimal}
 use Rattle.text_digits.proofs.Laws.{digits, digits-one, digits_more}
 use Rattle.text_digits.proofs.TwoDigits.{decimal_digit}
-use Rattle.script_meaning.specs.Read.{isDigit}
-use Rattle.script_meaning.specs.Values.{all, number, isNumeral, numeral, isBinaryDigit}
+use Rattle.script_meaning.specs.Read.{is_digit}
+use Rattle.script_meaning.specs.Values.{all, number, is_numeral, numeral, is_binary_digit}
 use Rattle.script_meaning.specs.Script.{binary}
 
 -- ---- decimals
@@ -26,7 +26,7 @@ unfolding number
 number_append b x [] c = refl
 number_append b x (d ∷ s) c = number_append b (b * x + (d - 48)) s c
 
-digit-digit : (d : ℕ) → d < 10 → isDigit (digit d) ≡ true
+digit-digit : (d : ℕ) → d < 10 → is_digit (digit d) ≡ true
 digit-digit d h = rw (decimal_digit d h, le-leb 48 (48 + d) (omega arith), le-leb (48 + d) 57 (omega arith))
 
 -- digits, the first not 0 if x is not
@@ -34,7 +34,7 @@ record Spelt (x : ℕ) (s : List ℕ) : Type 0 where
   first : ℕ
   more : List ℕ
   are : s ≡ first ∷ more
-  digits_are : all isDigit (first ∷ more) ≡ true
+  digits_are : all is_digit (first ∷ more) ≡ true
   no_zero : 0 < x → first ≡ 48 → ⊥
   alone : x ≡ 0 → more ≡ []
   is : number 10 0 s ≡ x
@@ -77,7 +77,7 @@ spelt (suc f) x h = go (before-or-from x 10) (λ g. spelt f (x / 10) (omega (ari
           first = s.first;
           more = s.more ++ (d ∷ []);
           are = digits_more 10 x (omega arith) g ∙ ap (λ (u : List ℕ). u ++ (d ∷ [])) s.are;
-          digits_are = all_append isDigit (s.first ∷ s.more) d s.digits_are (digit-digit (x % 10) l);
+          digits_are = all_append is_digit (s.first ∷ s.more) d s.digits_are (digit-digit (x % 10) l);
           no_zero = λ p e. s.no_zero (omega arith) e;
           alone = λ e. absurd (omega arith);
           is =
@@ -87,8 +87,8 @@ spelt (suc f) x h = go (before-or-from x 10) (λ g. spelt f (x / 10) (omega (ari
               ∙ omega (arith, decimal_digit (x % 10) l);
         }
 
-numeral-of : (x first : ℕ) (more : List ℕ) → all isDigit (first ∷ more) ≡ true → (0 < x → first ≡ 48 → ⊥) → (x ≡ 0 → more ≡ []) → isNumeral (first ∷ more) ≡ true
-numeral-of x first [] h z a = (and_both (isDigit first) true h).0
+numeral-of : (x first : ℕ) (more : List ℕ) → all is_digit (first ∷ more) ≡ true → (0 < x → first ≡ 48 → ⊥) → (x ≡ 0 → more ≡ []) → is_numeral (first ∷ more) ≡ true
+numeral-of x first [] h z a = (and_both (is_digit first) true h).0
 numeral-of zero first (d ∷ cs) h z a = let q : ◌≡◌ {A = ℕ} 0 1 = cc (a refl) in absurd (omega arith)
 numeral-of (suc x) first (d ∷ cs) h z a = rw (h, ne_eqb first 48 (z (omega arith)))
 
@@ -96,7 +96,7 @@ pub decimal-numeral : (x : ℕ) → numeral (decimal x) ≡ some x
 unfolding decimal
 decimal-numeral x =
     let s = spelt x x (omega arith) in
-    rw (ap isNumeral s.are ∙ numeral-of x s.first s.more s.digits_are s.no_zero s.alone, s.is)
+    rw (ap is_numeral s.are ∙ numeral-of x s.first s.more s.digits_are s.no_zero s.alone, s.is)
 
 pub decimal-number : (x : ℕ) → number 10 0 (decimal x) ≡ x
 unfolding decimal
@@ -107,7 +107,7 @@ pub decimal-one : (x y : ℕ) → decimal x ≡ decimal y → x ≡ y
 decimal-one x y e = sym (decimal-number x) ∙ ap (number 10 0) e ∙ decimal-number y
 
 -- a decimal is not empty, and of digits
-pub decimal-digits : (x : ℕ) → all isDigit (decimal x) ≡ true
+pub decimal-digits : (x : ℕ) → all is_digit (decimal x) ≡ true
 unfolding decimal
 decimal-digits x = let s = spelt x x (omega arith) in rw s.are s.digits_are
 
@@ -139,12 +139,12 @@ unfolding binary
 binary-length zero v = refl
 binary-length (suc w) v = ap suc (binary-length w v)
 
-pub binary-digits : (w v : ℕ) → all isBinaryDigit (binary w v) ≡ true
+pub binary-digits : (w v : ℕ) → all is_binary_digit (binary w v) ≡ true
 unfolding binary
 binary-digits zero v = refl
 binary-digits (suc w) v = rw (bit-digit (v / 2 ^ w % 2) (omega arith), binary-digits w v)
   where
-    bit-digit : (b : ℕ) → b < 2 → isBinaryDigit (48 + b) ≡ true
+    bit-digit : (b : ℕ) → b < 2 → is_binary_digit (48 + b) ≡ true
     bit-digit zero h = refl
     bit-digit (suc zero) h = refl
     bit-digit (suc (suc b)) h = absurd (omega arith)
@@ -153,12 +153,12 @@ pub decimal-some : (x : ℕ) → 0 < length (decimal x)
 unfolding decimal
 decimal-some x = rw (spelt x x (omega arith)).are (omega arith)
 
-pub binary-is-digits : (w v : ℕ) → all isDigit (binary w v) ≡ true
+pub binary-is-digits : (w v : ℕ) → all is_digit (binary w v) ≡ true
 unfolding binary
 binary-is-digits zero v = refl
 binary-is-digits (suc w) v = rw (bit-digit (v / 2 ^ w % 2) (omega arith), binary-is-digits w v)
   where
-    bit-digit : (b : ℕ) → b < 2 → isDigit (48 + b) ≡ true
+    bit-digit : (b : ℕ) → b < 2 → is_digit (48 + b) ≡ true
     bit-digit zero h = refl
     bit-digit (suc zero) h = refl
     bit-digit (suc (suc b)) h = absurd (omega arith)

@@ -8,7 +8,7 @@ use lib.Dec.{ltb, eqb}
 use Rattle.script_meaning.specs.Sexp.{Sexp, word, list, Items, stop, ◌⨾◌}
 use Rattle.script_meaning.specs.Values.{and_then, when, meaning, find}
 use Rattle.script_meaning.specs.Meaning.{term, sort, Command, declare, define, claim, check, commands}
-use Rattle.script_meaning.specs.Meaning.{Script, script, isFresh, asName, isStop, parts, values_of, done, command, run}
+use Rattle.script_meaning.specs.Meaning.{Script, script, is_fresh, as_name, is_stop, parts, values_of, done, command, run}
 
 -- no script: no assertion that holds
 abbrev pub holds_of : Option Script → Bool
@@ -29,17 +29,17 @@ module _ (model : List ℕ → ℕ) where
   done-fails declare [] s h = refl
   done-fails declare (n ∷ []) s h = refl
   done-fails declare (n ∷ m ∷ []) s h =
-      and-then (asName n) _ λ n.
-      and-then (sort m) _ λ m. and-then (when (ltb (model n) (values_of m)) (meaning m (model n))) _ λ v. when-fails (isFresh s.defined n) _ h
+      and-then (as_name n) _ λ n.
+      and-then (sort m) _ λ m. and-then (when (ltb (model n) (values_of m)) (meaning m (model n))) _ λ v. when-fails (is_fresh s.defined n) _ h
   done-fails declare (n ∷ m ∷ x ∷ xs) s h = refl
   done-fails define [] s h = refl
   done-fails define (n ∷ []) s h = refl
   done-fails define (n ∷ ps ∷ []) s h = refl
   done-fails define (n ∷ ps ∷ m ∷ []) s h = refl
   done-fails define (n ∷ ps ∷ m ∷ t ∷ []) s h =
-      and-then (asName n) _ λ n.
+      and-then (as_name n) _ λ n.
       and-then (sort m) _ λ m.
-      and-then (term t s.defined) _ λ v. and-then (when (isStop ps && eqb v.sort m) v) _ λ v. when-fails (isFresh s.defined n) _ h
+      and-then (term t s.defined) _ λ v. and-then (when (is_stop ps && eqb v.sort m) v) _ λ v. when-fails (is_fresh s.defined n) _ h
   done-fails define (n ∷ ps ∷ m ∷ t ∷ x ∷ xs) s h = refl
   done-fails claim [] s h = refl
   done-fails claim (t ∷ []) s h = and-then (term t s.defined) _ λ v. when-fails (eqb v.sort 0) (script s.defined (s.holds && ltb 0 v.is)) (rw h)

@@ -16,21 +16,21 @@ use Rattle.terms.specs.Expr.{Expr, width}
 use Rattle.terms.specs.Value.{value}
 use Rattle.terms.specs.Display.{bytes}
 use Rattle.pool.specs.Node.{Kind, bad, var, const, bv, compare, ite, extract, concat, zext, sext, Cell, wide}
-use Rattle.pool.specs.Rules.{okKind}
+use Rattle.pool.specs.Rules.{ok_kind}
 use Rattle.pool.specs.Unfold.{shape_of}
 use Rattle.pool_rules.proofs.Kept.{wide-one, const-wide, const_fits, bv-tests, compare-tests, ite-tests, extract-tests, concat-tests, zext-tests}
 use Rattle.script_meaning.specs.Sexp.{Sexp, word}
-use Rattle.script_meaning.specs.Values.{all, number, isBinaryDigit, literal, Meaning, meaning, Entry, find}
+use Rattle.script_meaning.specs.Values.{all, number, is_binary_digit, literal, Meaning, meaning, Entry, find}
 use Rattle.script_meaning.specs.Functions as tables
-use Rattle.script_meaning.specs.Functions.{Function, equal, choose, join, functions, cut, zeros, signs, indexed, applied, appliedAt}
+use Rattle.script_meaning.specs.Functions.{Function, equal, choose, join, functions, cut, zeros, signs, indexed, applied, applied_at}
 use Rattle.script_meaning.specs.Meaning.{atom, term}
-use Rattle.script_meaning.specs.Script.{binary, operator, apply1, applyTo, apply2, apply3, index1, index2, termBy}
-use Rattle.script_meaning.proofs.Vars.{isVar}
+use Rattle.script_meaning.specs.Script.{binary, operator, apply1, apply_to, apply2, apply3, index1, index2, term_by}
+use Rattle.script_meaning.proofs.Vars.{is_var}
 use Rattle.script_meaning.proofs.Numbers.{decimal-numeral, binary-number, binary-length, binary-digits}
 
 -- ---- literals
 
-literal-bits : (ds : List ℕ) → 0 < length ds → all isBinaryDigit ds ≡ true → literal (35 ∷ 98 ∷ ds) ≡ some (meaning (length ds) (number 2 0 ds))
+literal-bits : (ds : List ℕ) → 0 < length ds → all is_binary_digit ds ≡ true → literal (35 ∷ 98 ∷ ds) ≡ some (meaning (length ds) (number 2 0 ds))
 literal-bits [] h g = absurd (omega arith)
 literal-bits (c ∷ cs) h g = rw g
 
@@ -56,7 +56,7 @@ find-operator AShr = refl
 module _ (env : List (Entry Meaning)) where
   -- two arguments; the names of two and of three
   pub two-terms : (f : List ℕ) (s t : Sexp) (o : Function) (u v : Meaning) → find functions f ≡ some o → term s env ≡ some u → term t env ≡ some v
-      → term (applyTo f s t) env ≡ applied o (u ∷ v ∷ [])
+      → term (apply_to f s t) env ≡ applied o (u ∷ v ∷ [])
   unfolding term
   two-terms f s t o u v e p q = rw (p, q, e)
 
@@ -71,12 +71,12 @@ module _ (env : List (Entry Meaning)) where
   three-args f a b c o u v w e p q r = rw (p, q, r, e)
 
   indexed-1 : (f a : List ℕ) (i : ℕ) (o : tables.Indexed) (u : Meaning) → find indexed f ≡ some o → atom env a ≡ some u
-      → term (apply1 (index1 f i) a) env ≡ appliedAt o (i ∷ []) (u ∷ [])
+      → term (apply1 (index1 f i) a) env ≡ applied_at o (i ∷ []) (u ∷ [])
   unfolding term
   indexed-1 f a i o u e p = rw (p, e, decimal-numeral i)
 
   pub indexed-2 : (f a : List ℕ) (i j : ℕ) (o : tables.Indexed) (u : Meaning) → find indexed f ≡ some o → atom env a ≡ some u
-      → term (apply1 (index2 f i j) a) env ≡ appliedAt o (i ∷ j ∷ []) (u ∷ [])
+      → term (apply1 (index2 f i j) a) env ≡ applied_at o (i ∷ j ∷ []) (u ∷ [])
   unfolding term
   indexed-2 f a i j o u e p = rw (p, e, decimal-numeral i, decimal-numeral j)
 
@@ -90,9 +90,9 @@ pub record Means (env : List (Entry Meaning)) (regs : ℕ → ℕ) (a : List ℕ
 module _ (env : List (Entry Meaning)) (regs : ℕ → ℕ) (n : ℕ) (k : Cell) (A B C m : ℕ) (a b c : List ℕ) (x y z : Expr)
     (ha : k.a < n → Means env regs a x A) (hb : k.b < n → Means env regs b y B) (hc : k.c < n → Means env regs c z C) (hm : k.a < n → m ≡ A) where
   abbrev Reads : Kind → Type 0
-  Reads κ = term (termBy κ k m a b c) env ≡ some (meaning k.width (value regs (shape_of κ k x y z)))
+  Reads κ = term (term_by κ k m a b c) env ≡ some (meaning k.width (value regs (shape_of κ k x y z)))
 
-  compare-reads : (o : CmpOp) → okKind (compare o) n k A B C ≡ true → Reads (compare o)
+  compare-reads : (o : CmpOp) → ok_kind (compare o) n k A B C ≡ true → Reads (compare o)
   unfolding value applied find functions
   compare-reads Eq h =
       let t = compare-tests n k A B C Eq h in
@@ -106,8 +106,8 @@ module _ (env : List (Entry Meaning)) (regs : ℕ → ℕ) (n : ℕ) (k : Cell) 
       two-args env (bytes "bvslt") a b (tables.Function.compare Slt) _ _ refl (ha t.1).is (hb t.2).is
       ∙ rw (eq-eqb A B (sym t.4), lt-ltb 0 A t.3, t.0, (ha t.1).wide_is)
 
-  pub by_kind : (κ : Kind) → isVar κ ≡ false → okKind κ n k A B C ≡ true → Reads κ
-  unfolding value applied appliedAt find functions indexed term
+  pub by_kind : (κ : Kind) → is_var κ ≡ false → ok_kind κ n k A B C ≡ true → Reads κ
+  unfolding value applied applied_at find functions indexed term
   by_kind bad v h = absurd (false≢true h)
   by_kind var v h = absurd (false≢true (sym v))
   by_kind const v h = rw (literal-binary k.width (wide k.x k.y) (wide-one _ (const-wide n k A B C h)) (const_fits n k A B C h))

@@ -4,21 +4,21 @@ use mathlib.Core.Bool.{Bool, true, false, false≢true}
 use Prim.Native.Nat.{ℕ}
 use Rattle.pool.specs.Node.{Kind, bad, var, const, bv, compare, ite, extract, concat, zext, sext, Cell}
 use Rattle.script_meaning.specs.Sexp.{Sexp, Items, ◌⨾◌}
-use Rattle.script_meaning.specs.Script.{nodeName, nameBy, definedBy}
+use Rattle.script_meaning.specs.Script.{node_name, name_by, defined_by}
 
-abbrev pub isVar : Kind → Bool
-isVar bad = false
-isVar var = true
-isVar const = false
-isVar (bv o) = false
-isVar (compare o) = false
-isVar ite = false
-isVar extract = false
-isVar concat = false
-isVar zext = false
-isVar sext = false
+abbrev pub is_var : Kind → Bool
+is_var bad = false
+is_var var = true
+is_var const = false
+is_var (bv o) = false
+is_var (compare o) = false
+is_var ite = false
+is_var extract = false
+is_var concat = false
+is_var zext = false
+is_var sext = false
 
-pub is-var : (κ : Kind) → isVar κ ≡ true → κ ≡ var
+pub is-var : (κ : Kind) → is_var κ ≡ true → κ ≡ var
 is-var bad h = absurd (false≢true h)
 is-var var h = refl
 is-var const h = absurd (false≢true h)
@@ -30,7 +30,7 @@ is-var concat h = absurd (false≢true h)
 is-var zext h = absurd (false≢true h)
 is-var sext h = absurd (false≢true h)
 
-pub name-other : (κ : Kind) (k : Cell) (n : ℕ) → isVar κ ≡ false → nameBy κ k n ≡ nodeName n
+pub name-other : (κ : Kind) (k : Cell) (n : ℕ) → is_var κ ≡ false → name_by κ k n ≡ node_name n
 name-other bad k n h = refl
 name-other var k n h = absurd (false≢true (sym h))
 name-other const k n h = refl
@@ -42,7 +42,7 @@ name-other concat k n h = refl
 name-other zext k n h = refl
 name-other sext k n h = refl
 
-pub defined-other : (κ : Kind) (d : Sexp) (xs : Items) → isVar κ ≡ false → definedBy κ d xs ≡ (d ⨾ xs)
+pub defined-other : (κ : Kind) (d : Sexp) (xs : Items) → is_var κ ≡ false → defined_by κ d xs ≡ (d ⨾ xs)
 defined-other bad d xs h = refl
 defined-other var d xs h = absurd (false≢true (sym h))
 defined-other const d xs h = refl

@@ -64,20 +64,20 @@ three (a ∷ b ∷ c ∷ d ∷ cs) k = none
 abbrev pub is_vector : Meaning → Bool
 is_vector a = ltb 0 a.sort
 
-abbrev pub sameSort : Meaning → Meaning → Bool
-sameSort a b = eqb a.sort b.sort
+abbrev pub same_sort : Meaning → Meaning → Bool
+same_sort a b = eqb a.sort b.sort
 
 unfoldable pub applied : Function → List Meaning → Option Meaning
-applied (bv o) vs = two vs λ a b. when (is_vector a && sameSort a b) (meaning a.sort (apply o a.sort a.is b.is))
-applied (compare o) vs = two vs λ a b. when (is_vector a && sameSort a b) (meaning 0 (bit (holds o a.sort a.is b.is)))
-applied equal vs = two vs λ a b. when (sameSort a b) (meaning 0 (bit (eqb a.is b.is)))
-applied distinct vs = two vs λ a b. when (sameSort a b) (meaning 0 (bit (not (eqb a.is b.is))))
-applied choose vs = three vs λ c a b. when (eqb c.sort 0 && sameSort a b) (meaning a.sort (ite c.is a.is b.is))
+applied (bv o) vs = two vs λ a b. when (is_vector a && same_sort a b) (meaning a.sort (apply o a.sort a.is b.is))
+applied (compare o) vs = two vs λ a b. when (is_vector a && same_sort a b) (meaning 0 (bit (holds o a.sort a.is b.is)))
+applied equal vs = two vs λ a b. when (same_sort a b) (meaning 0 (bit (eqb a.is b.is)))
+applied distinct vs = two vs λ a b. when (same_sort a b) (meaning 0 (bit (not (eqb a.is b.is))))
+applied choose vs = three vs λ c a b. when (eqb c.sort 0 && same_sort a b) (meaning a.sort (ite c.is a.is b.is))
 applied join vs = two vs λ a b. when (is_vector a && is_vector b) (meaning (a.sort + b.sort) (a.is * 2 ^ b.sort + b.is))
 
-unfoldable pub appliedAt : Indexed → List ℕ → List Meaning → Option Meaning
-appliedAt cut js vs =
+unfoldable pub applied_at : Indexed → List ℕ → List Meaning → Option Meaning
+applied_at cut js vs =
     two js λ hi lo.
     one vs λ a. when (leb lo hi && ltb hi a.sort) (meaning (suc (hi - lo)) (a.is / 2 ^ lo % 2 ^ suc (hi - lo)))
-appliedAt zeros js vs = one js λ k. one vs λ a. when (is_vector a) (meaning (a.sort + k) a.is)
-appliedAt signs js vs = one js λ k. one vs λ a. when (is_vector a) (meaning (a.sort + k) (bvsext a.sort (a.sort + k) a.is))
+applied_at zeros js vs = one js λ k. one vs λ a. when (is_vector a) (meaning (a.sort + k) a.is)
+applied_at signs js vs = one js λ k. one vs λ a. when (is_vector a) (meaning (a.sort + k) (bvsext a.sort (a.sort + k) a.is))

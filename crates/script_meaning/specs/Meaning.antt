@@ -8,8 +8,8 @@ use Rattle.terms.specs.Display.{bytes}
 use Rattle.script_meaning.specs.Sexp.{Sexp, word, list, Items, stop, ◌⨾◌}
 use Rattle.script_meaning.specs.Read.{read}
 use Rattle.facts.specs.Same.{same}
-use Rattle.script_meaning.specs.Values.{and_then, when, is_none, Entry, ◌↦ᵉ◌, find, isAmong, numeral, isSymbol, Meaning, meaning, literal}
-use Rattle.script_meaning.specs.Functions.{functions, taken, indexed, one, two, three, applied, appliedAt}
+use Rattle.script_meaning.specs.Values.{and_then, when, is_none, Entry, ◌↦ᵉ◌, find, is_among, numeral, is_symbol, Meaning, meaning, literal}
+use Rattle.script_meaning.specs.Functions.{functions, taken, indexed, one, two, three, applied, applied_at}
 
 -- ---- terms
 
@@ -24,14 +24,14 @@ numerals [] = some []
 numerals (w ∷ ws) = and_then (numeral w) λ j. and_then (numerals ws) λ js. some (j ∷ js)
 
 -- a function: its name, or (_ name index ..)
-abbrev pub indexedBy : List (List ℕ) → List Meaning → Option Meaning
-indexedBy [] vs = none
-indexedBy (u ∷ []) vs = none
-indexedBy (u ∷ f ∷ ws) vs = and_then (when (same u (bytes "_")) f) λ f. and_then (find indexed f) λ o. and_then (numerals ws) λ js. appliedAt o js vs
+abbrev pub indexed_by : List (List ℕ) → List Meaning → Option Meaning
+indexed_by [] vs = none
+indexed_by (u ∷ []) vs = none
+indexed_by (u ∷ f ∷ ws) vs = and_then (when (same u (bytes "_")) f) λ f. and_then (find indexed f) λ o. and_then (numerals ws) λ js. applied_at o js vs
 
 abbrev pub called : Sexp → List Meaning → Option Meaning
 called (word f) vs = and_then (find functions f) λ o. applied o vs
-called (list xs) vs = and_then (words xs) λ ws. indexedBy ws vs
+called (list xs) vs = and_then (words xs) λ ws. indexed_by ws vs
 
 -- a binary, or a name that is defined
 abbrev pub atom : List (Entry Meaning) → List ℕ → Option Meaning
@@ -52,12 +52,12 @@ unfoldable mutual
 
 -- ---- commands
 
-abbrev pub vectorSort : List (List ℕ) → Option ℕ
-vectorSort ws = three ws λ u b m. and_then (when (same u (bytes "_") && same b (bytes "BitVec")) m) λ m. and_then (numeral m) λ m. when (ltb 0 m) m
+abbrev pub vector_sort : List (List ℕ) → Option ℕ
+vector_sort ws = three ws λ u b m. and_then (when (same u (bytes "_") && same b (bytes "BitVec")) m) λ m. and_then (numeral m) λ m. when (ltb 0 m) m
 
 abbrev pub sort : Sexp → Option ℕ
 sort (word w) = when (same w (bytes "Bool")) 0
-sort (list xs) = and_then (words xs) vectorSort
+sort (list xs) = and_then (words xs) vector_sort
 
 pub data Command : Type 0 where
   declare define claim check : Command
@@ -74,20 +74,20 @@ abbrev pub script : List (Entry Meaning) → Bool → Script
 script d h = record { defined = d; holds = h }
 
 -- a symbol that means nothing yet: no word that is taken, no function, no name that was given before
-abbrev pub isFresh : List (Entry Meaning) → List ℕ → Bool
-isFresh env w = isSymbol w && not (isAmong taken w) && is_none (find functions w) && is_none (find env w)
+abbrev pub is_fresh : List (Entry Meaning) → List ℕ → Bool
+is_fresh env w = is_symbol w && not (is_among taken w) && is_none (find functions w) && is_none (find env w)
 
-abbrev pub asName : Sexp → Option (List ℕ)
-asName (word w) = some w
-asName (list xs) = none
+abbrev pub as_name : Sexp → Option (List ℕ)
+as_name (word w) = some w
+as_name (list xs) = none
 
-abbrev pub isStop : Sexp → Bool
-isStop (word w) = false
-isStop (list stop) = true
-isStop (list (x ⨾ xs)) = false
+abbrev pub is_stop : Sexp → Bool
+is_stop (word w) = false
+is_stop (list stop) = true
+is_stop (list (x ⨾ xs)) = false
 
 abbrev pub added : Script → List ℕ → Meaning → Option Script
-added s n v = when (isFresh s.defined n) (script (n ↦ᵉ v ∷ s.defined) s.holds)
+added s n v = when (is_fresh s.defined n) (script (n ↦ᵉ v ∷ s.defined) s.holds)
 
 abbrev pub parts : Items → List Sexp
 parts stop = []
@@ -100,9 +100,9 @@ defined s (n ∷ []) = none
 defined s (n ∷ ps ∷ []) = none
 defined s (n ∷ ps ∷ m ∷ []) = none
 defined s (n ∷ ps ∷ m ∷ t ∷ []) =
-    and_then (asName n) λ n.
+    and_then (as_name n) λ n.
     and_then (sort m) λ m.
-    and_then (term t s.defined) λ v. and_then (when (isStop ps && eqb v.sort m) v) λ v. added s n v
+    and_then (term t s.defined) λ v. and_then (when (is_stop ps && eqb v.sort m) v) λ v. added s n v
 defined s (n ∷ ps ∷ m ∷ t ∷ x ∷ xs) = none
 
 -- how many values a sort has
@@ -114,7 +114,7 @@ values_of (suc m) = 2 ^ suc m
 unfoldable pub done : (model : List ℕ → ℕ) → Command → List Sexp → Script → Option Script
 done model declare xs s =
     two xs λ n m.
-    and_then (asName n) λ n. and_then (sort m) λ m. and_then (when (ltb (model n) (values_of m)) (meaning m (model n))) λ v. added s n v
+    and_then (as_name n) λ n. and_then (sort m) λ m. and_then (when (ltb (model n) (values_of m)) (meaning m (model n))) λ v. added s n v
 done model define xs s = defined s xs
 done model claim xs s =
     one xs λ t. and_then (term t s.defined) λ v. when (eqb v.sort 0) (script s.defined (s.holds && ltb 0 v.is))
@@ -132,16 +132,16 @@ run model stop s = some s
 run model (x ⨾ xs) s = and_then (command model x s) λ s. run model xs s
 
 -- a script begins with (set-logic QF_BV)
-abbrev pub isLogic : List (List ℕ) → Bool
-isLogic [] = false
-isLogic (a ∷ []) = false
-isLogic (a ∷ b ∷ []) = same a (bytes "set-logic") && same b (bytes "QF_BV")
-isLogic (a ∷ b ∷ c ∷ cs) = false
+abbrev pub is_logic : List (List ℕ) → Bool
+is_logic [] = false
+is_logic (a ∷ []) = false
+is_logic (a ∷ b ∷ []) = same a (bytes "set-logic") && same b (bytes "QF_BV")
+is_logic (a ∷ b ∷ c ∷ cs) = false
 
 abbrev pub begun : (model : List ℕ → ℕ) → Items → Option Script
 begun model stop = none
 begun model (word w ⨾ xs) = none
-begun model (list ys ⨾ xs) = and_then (words ys) λ ws. and_then (when (isLogic ws) xs) λ xs. run model xs (script [] true)
+begun model (list ys ⨾ xs) = and_then (words ys) λ ws. and_then (when (is_logic ws) xs) λ xs. run model xs (script [] true)
 
 -- the bytes of a script, read and run at a start
 unfoldable pub meant : (model : List ℕ → ℕ) → List ℕ → Option Script

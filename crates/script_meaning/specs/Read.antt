@@ -5,27 +5,27 @@ use Rattle.std.proofs.Math.Option.{Option, some, none}
 use Rattle.terms.specs.Display.{bytes}
 use Rattle.script_meaning.specs.Sexp.{word, list, Items, stop, ◌⨾◌}
 
-abbrev pub isIn : ℕ → List ℕ → Bool
-isIn c [] = false
-isIn c (x ∷ xs) = eqb c x || isIn c xs
+abbrev pub is_in : ℕ → List ℕ → Bool
+is_in c [] = false
+is_in c (x ∷ xs) = eqb c x || is_in c xs
 
 -- tab, line feed, carriage return, blank
-abbrev pub isBlank : ℕ → Bool
-isBlank c = isIn c (9 ∷ 10 ∷ 13 ∷ 32 ∷ [])
+abbrev pub is_blank : ℕ → Bool
+is_blank c = is_in c (9 ∷ 10 ∷ 13 ∷ 32 ∷ [])
 
-abbrev pub isDigit : ℕ → Bool
-isDigit c = leb 48 c && leb c 57
+abbrev pub is_digit : ℕ → Bool
+is_digit c = leb 48 c && leb c 57
 
-abbrev pub isLetter : ℕ → Bool
-isLetter c = leb 65 c && leb c 90 || leb 97 c && leb c 122
+abbrev pub is_letter : ℕ → Bool
+is_letter c = leb 65 c && leb c 90 || leb 97 c && leb c 122
 
 -- the characters of simple symbols
-abbrev pub isSymbolic : ℕ → Bool
-isSymbolic c = isDigit c || isLetter c || isIn c (bytes "~!@$%^&*_-+=<>.?/")
+abbrev pub is_symbolic : ℕ → Bool
+is_symbolic c = is_digit c || is_letter c || is_in c (bytes "~!@$%^&*_-+=<>.?/")
 
 -- the characters of words: of symbols, numerals, binaries and keywords
 abbrev pub is_plain : ℕ → Bool
-is_plain c = isSymbolic c || isIn c (bytes "#:")
+is_plain c = is_symbolic c || is_in c (bytes "#:")
 
 -- what follows the place that is reached: the rest of a word, the items after it in its list, and the items after each list about that
 pub data Reading : Type 0 where
@@ -54,14 +54,14 @@ abbrev pub spelt : ℕ → Reading → Reading
 spelt c (at w xs out) = at (c ∷ w) xs out
 spelt c broken = broken
 
-abbrev pub readByte : ℕ → Reading → Reading
-readByte c r =
+abbrev pub read_byte : ℕ → Reading → Reading
+read_byte c r =
     cond (is_plain c) (spelt c r)
-    (cond (isBlank c) (parted r) (cond (eqb c 40) (opened (parted r)) (cond (eqb c 41) (closed (parted r)) broken)))
+    (cond (is_blank c) (parted r) (cond (eqb c 40) (opened (parted r)) (cond (eqb c 41) (closed (parted r)) broken)))
 
 unfoldable pub reading : List ℕ → Reading
 reading [] = at [] stop []
-reading (c ∷ cs) = readByte c (reading cs)
+reading (c ∷ cs) = read_byte c (reading cs)
 
 -- every bracket has its other
 abbrev pub whole : Reading → Option Items

@@ -8,15 +8,15 @@ use Rattle.script_meaning.specs.Meaning.{meant}
 abbrev pub after : List ℕ → List ℕ
 after command = bytes "(set-logic QF_BV) (declare-const a Bool) (declare-const x (_ BitVec 8)) (declare-const y (_ BitVec 4)) " ++ command
 
-abbrev pub rightCommands : List (List ℕ)
-rightCommands =
+abbrev pub right_commands : List (List ℕ)
+right_commands =
     bytes "" ∷ bytes "(check-sat)" ∷ bytes "(assert a)" ∷ bytes "(assert (= x #b00000111))" ∷ bytes "(assert (distinct a a))"
     ∷ bytes "(assert (bvult y y))" ∷ bytes "(define-fun z () (_ BitVec 8) (bvadd x x))" ∷ bytes "(define-fun z () Bool (bvslt x (concat y y)))"
     ∷ bytes "(define-fun z () (_ BitVec 8) (ite a x x))" ∷ bytes "(define-fun z () (_ BitVec 4) ((_ extract 7 4) x))"
     ∷ bytes "(define-fun z () (_ BitVec 8) ((_ zero_extend 4) y))" ∷ bytes "(declare-const assertion Bool) (assert assertion)" ∷ []
 
-abbrev pub wrongCommands : List (List ℕ)
-wrongCommands =
+abbrev pub wrong_commands : List (List ℕ)
+wrong_commands =
     -- sorts that do not agree
     bytes "(assert (= x y))" ∷ bytes "(assert (= a x))" ∷ bytes "(assert (distinct x y))" ∷ bytes "(assert (bvult x y))" ∷ bytes "(assert (bvslt y x))"
     ∷ bytes "(assert (= x (bvadd x y)))" ∷ bytes "(assert (= x (ite a x y)))" ∷ bytes "(define-fun z () (_ BitVec 4) x)" ∷ bytes "(define-fun z () Bool x)"
@@ -51,22 +51,22 @@ wrongCommands =
     ∷ bytes "(assert 'a)" ∷ []
 
 -- no logic, another one, or not first
-abbrev pub wrongBegun : List (List ℕ)
-wrongBegun =
+abbrev pub wrong_begun : List (List ℕ)
+wrong_begun =
     bytes "(check-sat)" ∷ bytes "(declare-const a Bool) (assert a)" ∷ bytes "(declare-const a Bool) (set-logic QF_BV)" ∷ bytes "(set-logic)"
     ∷ bytes "(set-logic QF_BVX) (check-sat)" ∷ bytes "(set-logic qf_bv) (check-sat)" ∷ bytes "(set-logic QF_BV QF_BV) (check-sat)"
     ∷ bytes "set-logic QF_BV" ∷ []
 
 -- in the model in which every constant is 0
-unfoldable pub isRead : List ℕ → Bool
-isRead cs = not (is_none (meant (λ n. 0) cs))
+unfoldable pub is_read : List ℕ → Bool
+is_read cs = not (is_none (meant (λ n. 0) cs))
 
 unfoldable pub every : (List ℕ → Bool) → List (List ℕ) → Bool
 every f [] = true
 every f (c ∷ cs) = f c && every f cs
 
 abbrev pub RightRead : Type 0
-RightRead = every (λ c. isRead (after c)) rightCommands ≡ true
+RightRead = every (λ c. is_read (after c)) right_commands ≡ true
 
 abbrev pub WrongRefused : Type 0
-WrongRefused = (every (λ c. not (isRead (after c))) wrongCommands && every (λ c. not (isRead c)) wrongBegun) ≡ true
+WrongRefused = (every (λ c. not (is_read (after c))) wrong_commands && every (λ c. not (is_read c)) wrong_begun) ≡ true

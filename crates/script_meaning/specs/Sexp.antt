@@ -17,16 +17,16 @@ mutual
 unfoldable mutual
   pub show : Sexp → List ℕ
   show (word w) = w
-  show (list xs) = bytes "(" ++ (showAll xs ++ bytes ")")
+  show (list xs) = bytes "(" ++ (show_all xs ++ bytes ")")
 
-  pub showAll : Items → List ℕ
-  showAll stop = []
-  showAll (x ⨾ xs) = show x ++ showMore xs
+  pub show_all : Items → List ℕ
+  show_all stop = []
+  show_all (x ⨾ xs) = show x ++ show_more xs
 
-  pub showMore : Items → List ℕ
-  showMore stop = []
-  showMore (x ⨾ xs) = bytes " " ++ (show x ++ showMore xs)
+  pub show_more : Items → List ℕ
+  show_more stop = []
+  show_more (x ⨾ xs) = bytes " " ++ (show x ++ show_more xs)
 
-unfoldable pub showLines : Items → List ℕ
-showLines stop = []
-showLines (x ⨾ xs) = show x ++ (bytes "\n" ++ showLines xs)
+unfoldable pub show_lines : Items → List ℕ
+show_lines stop = []
+show_lines (x ⨾ xs) = show x ++ (bytes "\n" ++ show_lines xs)

@@ -4,7 +4,7 @@ use Rattle.std.specs.Prelude.{Bool, true, false, cond, ◌&&◌, ◌||◌, not, 
 use Rattle.std.proofs.Math.Option.{Option, some, none}
 use Rattle.facts.specs.Same.{same}
 use Rattle.terms.specs.Display.{bytes}
-use Rattle.script_meaning.specs.Read.{isIn, isDigit, isSymbolic}
+use Rattle.script_meaning.specs.Read.{is_in, is_digit, is_symbolic}
 
 -- ---- may be missing
 
@@ -35,9 +35,9 @@ unfoldable pub find : {A : Type 0} → List (Entry A) → List ℕ → Option A
 find [] n = none
 find (e ∷ es) n = cond (same e.name n) (some e.is) (find es n)
 
-abbrev pub isAmong : List (List ℕ) → List ℕ → Bool
-isAmong [] n = false
-isAmong (w ∷ ws) n = same w n || isAmong ws n
+abbrev pub is_among : List (List ℕ) → List ℕ → Bool
+is_among [] n = false
+is_among (w ∷ ws) n = same w n || is_among ws n
 
 -- ---- numerals and binaries
 
@@ -51,21 +51,21 @@ number b x [] = x
 number b x (c ∷ cs) = number b (b * x + (c - 48)) cs
 
 -- 0, or digits that do not begin with 0
-abbrev pub isNumeral : List ℕ → Bool
-isNumeral [] = false
-isNumeral (c ∷ []) = isDigit c
-isNumeral (c ∷ d ∷ cs) = all isDigit (c ∷ d ∷ cs) && not (eqb c 48)
+abbrev pub is_numeral : List ℕ → Bool
+is_numeral [] = false
+is_numeral (c ∷ []) = is_digit c
+is_numeral (c ∷ d ∷ cs) = all is_digit (c ∷ d ∷ cs) && not (eqb c 48)
 
 abbrev pub numeral : List ℕ → Option ℕ
-numeral cs = when (isNumeral cs) (number 10 0 cs)
+numeral cs = when (is_numeral cs) (number 10 0 cs)
 
-abbrev pub isBinaryDigit : ℕ → Bool
-isBinaryDigit c = eqb c 48 || eqb c 49
+abbrev pub is_binary_digit : ℕ → Bool
+is_binary_digit c = eqb c 48 || eqb c 49
 
 -- a simple symbol of a script (3.1): letters, digits and other characters; the first is no digit, and neither @ nor ., which solvers keep for themselves
-abbrev pub isSymbol : List ℕ → Bool
-isSymbol [] = false
-isSymbol (c ∷ cs) = not (isDigit c) && not (isIn c (bytes "@.")) && all isSymbolic (c ∷ cs)
+abbrev pub is_symbol : List ℕ → Bool
+is_symbol [] = false
+is_symbol (c ∷ cs) = not (is_digit c) && not (is_in c (bytes "@.")) && all is_symbolic (c ∷ cs)
 
 -- ---- values
 
@@ -83,4 +83,4 @@ literal [] = none
 literal (a ∷ []) = none
 literal (a ∷ b ∷ []) = none
 literal (a ∷ b ∷ c ∷ cs) =
-    when (eqb a 35 && eqb b 98 && all isBinaryDigit (c ∷ cs)) (meaning (length (c ∷ cs)) (number 2 0 (c ∷ cs)))
+    when (eqb a 35 && eqb b 98 && all is_binary_digit (c ∷ cs)) (meaning (length (c ∷ cs)) (number 2 0 (c ∷ cs)))

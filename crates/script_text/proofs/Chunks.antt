@@ -4,9 +4,9 @@ use mathlib.Core.List.{List, ◌++◌, append_assoc}
 use Prim.Native.Nat.{ℕ, zero, suc}
 use Rattle.terms.specs.Display.{bytes, decimal}
 use Rattle.script_meaning.specs.Sexp.{Sexp, show}
-use Rattle.script_meaning.specs.Script.{apply1, apply2, apply3, index1, index2, sortBy, defineFun}
+use Rattle.script_meaning.specs.Script.{apply1, apply2, apply3, index1, index2, sort_by, define_fun}
 
-pub vector-sort : (w : ℕ) → show (sortBy (suc w)) ≡ bytes "(_ BitVec " ++ (decimal (suc w) ++ bytes ")")
+pub vector-sort : (w : ℕ) → show (sort_by (suc w)) ≡ bytes "(_ BitVec " ++ (decimal (suc w) ++ bytes ")")
 unfolding show
 vector-sort w = simp append_assoc
 
@@ -28,14 +28,14 @@ unfolding show
 indexed-2 f a i j = simp append_assoc
 
 pub line : (n : List ℕ) (s t : Sexp)
-    → show (defineFun n s t) ++ bytes "\n" ≡ bytes "(define-fun " ++ (n ++ (bytes " () " ++ (show s ++ (bytes " " ++ (show t ++ bytes ")\n")))))
+    → show (define_fun n s t) ++ bytes "\n" ≡ bytes "(define-fun " ++ (n ++ (bytes " () " ++ (show s ++ (bytes " " ++ (show t ++ bytes ")\n")))))
 unfolding show
 line n s t = simp append_assoc
 
-pub short-sort : (w : ℕ) → w ≡ 0 → show (sortBy w) ≡ bytes "Bool"
+pub short-sort : (w : ℕ) → w ≡ 0 → show (sort_by w) ≡ bytes "Bool"
 unfolding show
 short-sort w e = rw e
 
-pub long-sort : (w : ℕ) → (w ≡ 0 → ⊥) → show (sortBy w) ≡ bytes "(_ BitVec " ++ (decimal w ++ bytes ")")
+pub long-sort : (w : ℕ) → (w ≡ 0 → ⊥) → show (sort_by w) ≡ bytes "(_ BitVec " ++ (decimal w ++ bytes ")")
 long-sort zero f = absurd (f refl)
 long-sort (suc w) f = vector-sort w

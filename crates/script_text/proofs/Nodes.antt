@@ -12,16 +12,16 @@ use Rattle.terms.specs.declared.BinOp.TheVariants.{Add, Sub, Mul, And, Or, Xor, 
 use Rattle.terms.specs.declared.CmpOp.{CmpOp}
 use Rattle.terms.specs.declared.CmpOp.TheVariants.{Eq, Ult, Slt}
 use Rattle.pool.specs.Node.{Kind, bad, var, const, bv, compare, ite, extract, concat, zext, sext}
-use Rattle.pool.specs.Node.{kind_at, kinds, bvCode, compare_code, kindNumber, width_at, word_at, wide, code_of, Cell, cell_at}
-use Rattle.pool.specs.Rules.{okKind, widthBefore, ifEarlier}
+use Rattle.pool.specs.Node.{kind_at, kinds, bv_code, compare_code, kind_number, width_at, word_at, wide, code_of, Cell, cell_at}
+use Rattle.pool.specs.Rules.{ok_kind, width_before, if_earlier}
 use Rattle.pool.proofs.Facts.{kind-code, valid-node}
 use Rattle.pool_rules.proofs.Kept.{wide-most, const-wide, bv-tests, compare-tests, ite-tests, extract-tests, concat-tests, zext-tests}
 use Rattle.pool_fields.specs.Fields.{op_a, op_b, op_c}
 use Rattle.text_parts.specs.Text.{Ready}
 use Rattle.script_meaning.specs.Sexp.{Sexp, show}
-use Rattle.script_meaning.specs.Script.{binary, name_of, functionOf, apply1, apply2, apply3, index1, index2, termBy, termOf}
+use Rattle.script_meaning.specs.Script.{binary, name_of, function_of, apply1, apply2, apply3, index1, index2, term_by, term_of}
 
-bv-code : (o : BinOp) → bvCode o ≤ 11
+bv-code : (o : BinOp) → bv_code o ≤ 11
 bv-code Add = omega arith
 bv-code Sub = omega arith
 bv-code Mul = omega arith
@@ -37,7 +37,7 @@ compare-code Eq = omega arith
 compare-code Ult = omega arith
 compare-code Slt = omega arith
 
-bv-some : (o : BinOp) → 1 ≤ bvCode o
+bv-some : (o : BinOp) → 1 ≤ bv_code o
 bv-some Add = omega arith
 bv-some Sub = omega arith
 bv-some Mul = omega arith
@@ -59,50 +59,50 @@ pub record Two (n a b : ℕ) (t u : Sexp) : Type 0 where
   pub less-b : b < n
   pub term_is : t ≡ u
 
-module _ (ws : List ℕ) (n : ℕ) (r : Ready ws n) (k : ℕ) (is-k : k ≡ kindNumber ws n) where
+module _ (ws : List ℕ) (n : ℕ) (r : Ready ws n) (k : ℕ) (is-k : k ≡ kind_number ws n) where
   abbrev cell : Cell
   cell = cell_at ws n
 
   abbrev A : ℕ
-  A = widthBefore ws n cell.a
+  A = width_before ws n cell.a
 
   abbrev B : ℕ
-  B = widthBefore ws n cell.b
+  B = width_before ws n cell.b
 
   abbrev C : ℕ
-  C = widthBefore ws n cell.c
+  C = width_before ws n cell.c
 
   abbrev spelt : Kind → Sexp
-  spelt κ = termBy κ cell (width_at ws cell.a) (name_of ws cell.a) (name_of ws cell.b) (name_of ws cell.c)
+  spelt κ = term_by κ cell (width_at ws cell.a) (name_of ws cell.a) (name_of ws cell.b) (name_of ws cell.c)
 
-  ok : okKind (kind_at k) n cell A B C ≡ true
-  ok = subst (λ (j : ℕ). okKind (kind_at j) n cell A B C ≡ true) (sym is-k) (valid-node ws (n + 1) n r.valid (omega arith))
+  ok : ok_kind (kind_at k) n cell A B C ≡ true
+  ok = subst (λ (j : ℕ). ok_kind (kind_at j) n cell A B C ≡ true) (sym is-k) (valid-node ws (n + 1) n r.valid (omega arith))
 
-  term-at : termOf ws n ≡ spelt (kind_at k)
+  term-at : term_of ws n ≡ spelt (kind_at k)
   term-at = ap (λ (j : ℕ). spelt (kind_at j)) (sym is-k)
 
-  at-kind : (j : ℕ) (κ : Kind) → k ≡ j → kind_at j ≡ κ → (okKind κ n cell A B C ≡ true) × (termOf ws n ≡ spelt κ)
+  at-kind : (j : ℕ) (κ : Kind) → k ≡ j → kind_at j ≡ κ → (ok_kind κ n cell A B C ≡ true) × (term_of ws n ≡ spelt κ)
   at-kind j κ e q =
       let p : kind_at k ≡ κ = ap kind_at e ∙ q in
-      (subst (λ (κ : Kind). okKind κ n cell A B C ≡ true) p ok, term-at ∙ ap spelt p)
+      (subst (λ (κ : Kind). ok_kind κ n cell A B C ≡ true) p ok, term-at ∙ ap spelt p)
 
-  pub constant : k ≡ 2 → (width_at ws n ≤ 129) × (show (termOf ws n) ≡ bytes "#b" ++ binary (width_at ws n) (wide (word_at ws n 2) (word_at ws n 3)))
+  pub constant : k ≡ 2 → (width_at ws n ≤ 129) × (show (term_of ws n) ≡ bytes "#b" ++ binary (width_at ws n) (wide (word_at ws n 2) (word_at ws n 3)))
   unfolding kind_at kinds show
   constant e =
       let h = at-kind 2 const e refl in
       (wide-most _ (const-wide n cell A B C h.0), ap show h.1)
 
-  pub three-of : k ≡ 15 → (op_a ws n < n) × (op_b ws n < n) × (op_c ws n < n) × (termOf ws n ≡ apply3 (bytes "ite") (name_of ws (op_a ws n)) (name_of ws (op_b ws n)) (name_of ws (op_c ws n)))
+  pub three-of : k ≡ 15 → (op_a ws n < n) × (op_b ws n < n) × (op_c ws n < n) × (term_of ws n ≡ apply3 (bytes "ite") (name_of ws (op_a ws n)) (name_of ws (op_b ws n)) (name_of ws (op_c ws n)))
   unfolding kind_at kinds
   three-of e = let h = at-kind 15 ite e refl in let t = ite-tests n cell A B C h.0 in (t.1, t.2, t.3, h.1)
 
-  pub cut_of : k ≡ 16 → (op_a ws n < n) × (termOf ws n ≡ apply1 (index2 (bytes "extract") (word_at ws n 2) (word_at ws n 3)) (name_of ws (op_a ws n)))
+  pub cut_of : k ≡ 16 → (op_a ws n < n) × (term_of ws n ≡ apply1 (index2 (bytes "extract") (word_at ws n 2) (word_at ws n 3)) (name_of ws (op_a ws n)))
   unfolding kind_at kinds
   cut_of e = let h = at-kind 16 extract e refl in let t = extract-tests n cell A B C h.0 in (t.0, h.1)
 
   -- the kinds of two operands
-  by_two : (κ : Kind) → okKind κ n cell A B C ≡ true → 3 ≤ code_of κ → code_of κ ≤ 17 → (code_of κ ≡ 15 → ⊥) → (code_of κ ≡ 16 → ⊥)
-      → Two n (op_a ws n) (op_b ws n) (spelt κ) (apply2 (functionOf κ) (name_of ws (op_a ws n)) (name_of ws (op_b ws n)))
+  by_two : (κ : Kind) → ok_kind κ n cell A B C ≡ true → 3 ≤ code_of κ → code_of κ ≤ 17 → (code_of κ ≡ 15 → ⊥) → (code_of κ ≡ 16 → ⊥)
+      → Two n (op_a ws n) (op_b ws n) (spelt κ) (apply2 (function_of κ) (name_of ws (op_a ws n)) (name_of ws (op_b ws n)))
   by_two bad h l m f g = absurd (false≢true h)
   by_two var h l m f g = absurd (omega (arith, l))
   by_two const h l m f g = absurd (omega (arith, l))
@@ -115,9 +115,9 @@ module _ (ws : List ℕ) (n : ℕ) (r : Ready ws n) (k : ℕ) (is-k : k ≡ kind
   by_two sext h l m f g = absurd (omega (arith, m))
 
   code_is : code_of (kind_at k) ≡ k
-  code_is = ⊎_elim (λ e. absurd (false≢true (subst (λ (κ : Kind). okKind κ n cell A B C ≡ true) e ok))) (λ e. e) (kind-code k)
+  code_is = ⊎_elim (λ e. absurd (false≢true (subst (λ (κ : Kind). ok_kind κ n cell A B C ≡ true) e ok))) (λ e. e) (kind-code k)
 
-  pub two-of : 3 ≤ k → k < 18 → (k ≡ 15 → ⊥) → (k ≡ 16 → ⊥) → Two n (op_a ws n) (op_b ws n) (termOf ws n) (apply2 (functionOf (kind_at k)) (name_of ws (op_a ws n)) (name_of ws (op_b ws n)))
+  pub two-of : 3 ≤ k → k < 18 → (k ≡ 15 → ⊥) → (k ≡ 16 → ⊥) → Two n (op_a ws n) (op_b ws n) (term_of ws n) (apply2 (function_of (kind_at k)) (name_of ws (op_a ws n)) (name_of ws (op_b ws n)))
   two-of l h f g =
       let t = by_two (kind_at k) ok (omega (arith, code_is)) (omega (arith, code_is)) (λ e. f (sym code_is ∙ e)) (λ e. g (sym code_is ∙ e)) in
       record { less-a = t.less-a; less-b = t.less-b; term_is = term-at ∙ t.term_is }
@@ -126,9 +126,9 @@ module _ (ws : List ℕ) (n : ℕ) (r : Ready ws n) (k : ℕ) (is-k : k ≡ kind
   pub record Extends (κ : Kind) : Type 0 where
     pub less-a : op_a ws n < n
     pub longer : width_at ws (op_a ws n) ≤ width_at ws n
-    pub term_is : spelt κ ≡ apply1 (index1 (functionOf κ) (width_at ws n - width_at ws (op_a ws n))) (name_of ws (op_a ws n))
+    pub term_is : spelt κ ≡ apply1 (index1 (function_of κ) (width_at ws n - width_at ws (op_a ws n))) (name_of ws (op_a ws n))
 
-  by-extension : (κ : Kind) → okKind κ n cell A B C ≡ true → 18 ≤ code_of κ → Extends κ
+  by-extension : (κ : Kind) → ok_kind κ n cell A B C ≡ true → 18 ≤ code_of κ → Extends κ
   by-extension bad h l = absurd (false≢true h)
   by-extension var h l = absurd (omega (arith, l))
   by-extension const h l = absurd (omega (arith, l))
@@ -139,15 +139,15 @@ module _ (ws : List ℕ) (n : ℕ) (r : Ready ws n) (k : ℕ) (is-k : k ≡ kind
   by-extension concat h l = absurd (omega (arith, l))
   by-extension zext h l =
       let t = zext-tests n cell A B C h in
-      record { less-a = t.1; longer = subst (λ (b : Bool). ifEarlier b (width_at ws cell.a) ≤ width_at ws n) (lt-ltb cell.a n t.1) t.3; term_is = refl }
+      record { less-a = t.1; longer = subst (λ (b : Bool). if_earlier b (width_at ws cell.a) ≤ width_at ws n) (lt-ltb cell.a n t.1) t.3; term_is = refl }
   by-extension sext h l =
       let t = zext-tests n cell A B C h in
-      record { less-a = t.1; longer = subst (λ (b : Bool). ifEarlier b (width_at ws cell.a) ≤ width_at ws n) (lt-ltb cell.a n t.1) t.3; term_is = refl }
+      record { less-a = t.1; longer = subst (λ (b : Bool). if_earlier b (width_at ws cell.a) ≤ width_at ws n) (lt-ltb cell.a n t.1) t.3; term_is = refl }
 
   pub extension-of : 18 ≤ k → Extends (kind_at k)
   extension-of l = by-extension (kind_at k) ok (omega (arith, code_is))
 
-  pub extension-term : 18 ≤ k → termOf ws n ≡ apply1 (index1 (functionOf (kind_at k)) (width_at ws n - width_at ws (op_a ws n))) (name_of ws (op_a ws n))
+  pub extension-term : 18 ≤ k → term_of ws n ≡ apply1 (index1 (function_of (kind_at k)) (width_at ws n - width_at ws (op_a ws n))) (name_of ws (op_a ws n))
   extension-term l = term-at ∙ (extension-of l).term_is
 
   -- the last kind is 19
@@ -170,7 +170,7 @@ module _ (ws : List ℕ) (n : ℕ) (r : Ready ws n) (k : ℕ) (is-k : k ≡ kind
   pub kind-above : 1 ≤ k
   kind-above = by_code (kind_at k) code_is ok
     where
-      by_code : (κ : Kind) → code_of κ ≡ k → okKind κ n cell A B C ≡ true → 1 ≤ k
+      by_code : (κ : Kind) → code_of κ ≡ k → ok_kind κ n cell A B C ≡ true → 1 ≤ k
       by_code bad e h = absurd (false≢true h)
       by_code var e h = omega arith
       by_code const e h = omega arith

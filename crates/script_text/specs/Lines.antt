@@ -4,34 +4,34 @@ use Rattle.terms.specs.Display.{bytes}
 use Rattle.pool.specs.Node.{Kind, bad, var, const, bv, compare, ite, extract, concat, zext, sext, cell_at}
 use Rattle.text_parts.specs.Text.{Ready}
 use Rattle.script_meaning.specs.Sexp.{Sexp, show}
-use Rattle.script_meaning.specs.Script.{registerName, name_of, sortBy, apply2, declareConst, assertion, definition}
+use Rattle.script_meaning.specs.Script.{register_name, name_of, sort_by, apply2, declare_const, assertion, definition}
 
 -- a Var has none
-abbrev pub lineBy : Kind → List ℕ → List ℕ
-lineBy bad s = s
-lineBy var s = []
-lineBy const s = s
-lineBy (bv o) s = s
-lineBy (compare o) s = s
-lineBy ite s = s
-lineBy extract s = s
-lineBy concat s = s
-lineBy zext s = s
-lineBy sext s = s
+abbrev pub line_by : Kind → List ℕ → List ℕ
+line_by bad s = s
+line_by var s = []
+line_by const s = s
+line_by (bv o) s = s
+line_by (compare o) s = s
+line_by ite s = s
+line_by extract s = s
+line_by concat s = s
+line_by zext s = s
+line_by sext s = s
 
 unfoldable pub line_at : List ℕ → ℕ → List ℕ
-line_at ws n = lineBy (cell_at ws n).kind (show (definition ws n) ++ bytes "\n")
+line_at ws n = line_by (cell_at ws n).kind (show (definition ws n) ++ bytes "\n")
 
 -- the line that declares a register
 abbrev pub declaration : ℕ → Sexp
-declaration r = declareConst (registerName r) (sortBy 128)
+declaration r = declare_const (register_name r) (sort_by 128)
 
-abbrev pub declarationLine : ℕ → List ℕ
-declarationLine r = show (declaration r) ++ bytes "\n"
+abbrev pub declaration_line : ℕ → List ℕ
+declaration_line r = show (declaration r) ++ bytes "\n"
 
 -- the last two lines
-abbrev pub claimLines : List ℕ → (x y : ℕ) → List ℕ
-claimLines ws x y = show (assertion (apply2 (bytes "distinct") (name_of ws x) (name_of ws y))) ++ bytes "\n(check-sat)\n"
+abbrev pub claim_lines : List ℕ → (x y : ℕ) → List ℕ
+claim_lines ws x y = show (assertion (apply2 (bytes "distinct") (name_of ws x) (name_of ws y))) ++ bytes "\n(check-sat)\n"
 
 -- each node below count may be written
 abbrev pub AllReady : List ℕ → ℕ → Type 0

@@ -2,9 +2,9 @@
 ghost use Rattle.std.specs.Prelude.{◌+◌, ◌*◌, ◌<◌, length};
 ghost use Rattle.text_digits.specs.Writing.{Room, Wrote};
 ghost use Rattle.text_parts.specs.Text.{Ready};
-ghost use Rattle.script_text.specs.Lines.{line_at, declarationLine, claimLines, AllReady};
+ghost use Rattle.script_text.specs.Lines.{line_at, declaration_line, claim_lines, AllReady};
 ghost use Rattle.text_series.specs.Series.{up_to};
-ghost use Rattle.script_meaning.specs.Script.{scriptOf};
+ghost use Rattle.script_meaning.specs.Script.{script_of};
 
 use pool::Node;
 use pool::words::{Kind, kind_of, width_of};
@@ -35,8 +35,8 @@ pub fn put_definition(p: &[u64], n: Node, buf: &mut [u8], at: usize) -> usize
 
 // The line that declares a register.
 fn put_declaration(r: u64, buf: &mut [u8], at: usize) -> usize
-    requires { Room buf.old at (declarationLine r) }
-    ensures { Wrote buf.old at (declarationLine r) result buf.new }
+    requires { Room buf.old at (declaration_line r) }
+    ensures { Wrote buf.old at (declaration_line r) result buf.new }
 {
     let i = put(b"(declare-const ", buf, at);
     let j = put_register_name(r, buf, i);
@@ -44,8 +44,8 @@ fn put_declaration(r: u64, buf: &mut [u8], at: usize) -> usize
 }
 
 pub fn put_declarations(buf: &mut [u8], at: usize) -> usize
-    requires { Room buf.old at (up_to 32 declarationLine) }
-    ensures { Wrote buf.old at (up_to 32 declarationLine) result buf.new }
+    requires { Room buf.old at (up_to 32 declaration_line) }
+    ensures { Wrote buf.old at (up_to 32 declaration_line) result buf.new }
 {
     let mut r = 0;
     let mut end = at;
@@ -74,8 +74,8 @@ fn put_definitions(p: &[u64], count: usize, buf: &mut [u8], at: usize) -> usize
 // The last two lines.
 pub fn put_claim(p: &[u64], x: Node, y: Node, buf: &mut [u8], at: usize) -> usize
     requires x_in_bounds { (4 * x.0 + 3 < length p.now) × (4 * y.0 + 3 < length p.now) }
-    requires room { Room buf.old at (claimLines p.now x.0 y.0) }
-    ensures { Wrote buf.old at (claimLines p.now x.0 y.0) result buf.new }
+    requires room { Room buf.old at (claim_lines p.now x.0 y.0) }
+    ensures { Wrote buf.old at (claim_lines p.now x.0 y.0) result buf.new }
 {
     let i = put(b"(assert (distinct ", buf, at);
     let j = put_name(p, x, buf, i);
@@ -87,8 +87,8 @@ pub fn put_claim(p: &[u64], x: Node, y: Node, buf: &mut [u8], at: usize) -> usiz
 // The whole script.
 pub fn put_script(p: &[u64], count: usize, x: Node, y: Node, buf: &mut [u8], at: usize) -> usize
     requires all_ready { AllReady p.now count × (4 * x.0 + 3 < length p.now) × (4 * y.0 + 3 < length p.now) }
-    requires room { Room buf.old at (scriptOf p.now count x.0 y.0) }
-    ensures { Wrote buf.old at (scriptOf p.now count x.0 y.0) result buf.new }
+    requires room { Room buf.old at (script_of p.now count x.0 y.0) }
+    ensures { Wrote buf.old at (script_of p.now count x.0 y.0) result buf.new }
 {
     let i = put(b"(set-logic QF_BV)\n", buf, at);
     let j = put_declarations(buf, i);

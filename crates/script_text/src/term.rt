@@ -1,11 +1,11 @@
 // Names, sorts and terms as a script spells them (document 02, S-1).
 ghost use Rattle.std.specs.Prelude.{◌≡◌, ◌++◌, ◌+◌, ◌*◌, ◌/◌, ◌%◌, ◌^◌, ◌≤◌, ◌<◌, length};
 ghost use Rattle.terms.specs.Display.{bytes};
-ghost use Rattle.pool.specs.Node.{wide, kind_at, kindNumber};
+ghost use Rattle.pool.specs.Node.{wide, kind_at, kind_number};
 ghost use Rattle.text_digits.specs.Writing.{Room, Wrote};
 ghost use Rattle.text_parts.specs.Text.{Ready};
 ghost use Rattle.script_meaning.specs.Sexp.{show};
-ghost use Rattle.script_meaning.specs.Script.{binary, nodeName, registerName, name_of, termOf, sortBy, functionOf, apply1, apply2, apply3, index1, index2};
+ghost use Rattle.script_meaning.specs.Script.{binary, node_name, register_name, name_of, term_of, sort_by, function_of, apply1, apply2, apply3, index1, index2};
 
 use pool::words::{Kind, kind_of, width_of};
 use pool::{Bit, Node};
@@ -45,8 +45,8 @@ fn put_binary(low: u64, high: u64, width: u64, buf: &mut [u8], at: usize) -> usi
 
 // A node's own name, and a register's.
 pub fn put_node_name(n: Node, buf: &mut [u8], at: usize) -> usize
-    requires { Room buf.old at (nodeName n.0) }
-    ensures { Wrote buf.old at (nodeName n.0) result buf.new }
+    requires { Room buf.old at (node_name n.0) }
+    ensures { Wrote buf.old at (node_name n.0) result buf.new }
 {
     let i = put(b"n", buf, at);
     put_number(n.0 as u64, buf, i)
@@ -54,8 +54,8 @@ pub fn put_node_name(n: Node, buf: &mut [u8], at: usize) -> usize
 
 // Bool, or (_ BitVec w).
 pub fn put_sort(width: u64, buf: &mut [u8], at: usize) -> usize
-    requires { Room buf.old at (show (sortBy width)) }
-    ensures { Wrote buf.old at (show (sortBy width)) result buf.new }
+    requires { Room buf.old at (show (sort_by width)) }
+    ensures { Wrote buf.old at (show (sort_by width)) result buf.new }
 {
     if width == 0 {
         return put(b"Bool", buf, at);
@@ -66,8 +66,8 @@ pub fn put_sort(width: u64, buf: &mut [u8], at: usize) -> usize
 }
 
 pub fn put_register_name(r: u64, buf: &mut [u8], at: usize) -> usize
-    requires { Room buf.old at (registerName r) }
-    ensures { Wrote buf.old at (registerName r) result buf.new }
+    requires { Room buf.old at (register_name r) }
+    ensures { Wrote buf.old at (register_name r) result buf.new }
 {
     let i = put(b"r", buf, at);
     put_number(r, buf, i)
@@ -88,8 +88,8 @@ pub fn put_name(p: &[u64], n: Node, buf: &mut [u8], at: usize) -> usize
 // The function of a kind from 3 on.
 fn put_function(k: u64, buf: &mut [u8], at: usize) -> usize
     requires le_k { (3 ≤ k) × (k < 20) }
-    requires room { Room buf.old at (functionOf (kind_at k)) }
-    ensures { Wrote buf.old at (functionOf (kind_at k)) result buf.new }
+    requires room { Room buf.old at (function_of (kind_at k)) }
+    ensures { Wrote buf.old at (function_of (kind_at k)) result buf.new }
 {
     match k {
         Kind::ADD => put(b"bvadd", buf, at),
@@ -115,8 +115,8 @@ fn put_function(k: u64, buf: &mut [u8], at: usize) -> usize
 // (f a b)
 fn put_two(p: &[u64], k: u64, a: Node, b: Node, buf: &mut [u8], at: usize) -> usize
     requires le_k { (3 ≤ k) × (k < 20) × (4 * a.0 + 3 < length p.now) × (4 * b.0 + 3 < length p.now) }
-    requires room { Room buf.old at (show (apply2 (functionOf (kind_at k)) (name_of p.now a.0) (name_of p.now b.0))) }
-    ensures { Wrote buf.old at (show (apply2 (functionOf (kind_at k)) (name_of p.now a.0) (name_of p.now b.0))) result buf.new }
+    requires room { Room buf.old at (show (apply2 (function_of (kind_at k)) (name_of p.now a.0) (name_of p.now b.0))) }
+    ensures { Wrote buf.old at (show (apply2 (function_of (kind_at k)) (name_of p.now a.0) (name_of p.now b.0))) result buf.new }
 {
     let i = put(b"(", buf, at);
     let j = put_function(k, buf, i);
@@ -161,8 +161,8 @@ pub fn put_cut(p: &[u64], a: Node, hi: Bit, lo: Bit, buf: &mut [u8], at: usize) 
 // ((_ zero_extend by) a), ((_ sign_extend by) a)
 fn put_extension(p: &[u64], k: u64, by: u64, a: Node, buf: &mut [u8], at: usize) -> usize
     requires le_k { (3 ≤ k) × (k < 20) × (4 * a.0 + 3 < length p.now) }
-    requires room { Room buf.old at (show (apply1 (index1 (functionOf (kind_at k)) by) (name_of p.now a.0))) }
-    ensures { Wrote buf.old at (show (apply1 (index1 (functionOf (kind_at k)) by) (name_of p.now a.0))) result buf.new }
+    requires room { Room buf.old at (show (apply1 (index1 (function_of (kind_at k)) by) (name_of p.now a.0))) }
+    ensures { Wrote buf.old at (show (apply1 (index1 (function_of (kind_at k)) by) (name_of p.now a.0))) result buf.new }
 {
     let i = put(b"((_ ", buf, at);
     let j = put_function(k, buf, i);
@@ -185,9 +185,9 @@ fn put_constant(low: u64, high: u64, width: u64, buf: &mut [u8], at: usize) -> u
 
 // The term of a node that is no Var. k is the number of its kind.
 pub fn put_term(p: &[u64], n: Node, k: u64, buf: &mut [u8], at: usize) -> usize
-    requires ready { Ready p.now n.0 × (k ≡ kindNumber p.now n.0) × (2 ≤ k) }
-    requires room { Room buf.old at (show (termOf p.now n.0)) }
-    ensures { Wrote buf.old at (show (termOf p.now n.0)) result buf.new }
+    requires ready { Ready p.now n.0 × (k ≡ kind_number p.now n.0) × (2 ≤ k) }
+    requires room { Room buf.old at (show (term_of p.now n.0)) }
+    ensures { Wrote buf.old at (show (term_of p.now n.0)) result buf.new }
 {
     if k == Kind::CONST {
         return put_constant(low(p, n), high(p, n), width_of(p, n), buf, at);

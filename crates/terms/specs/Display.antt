@@ -18,15 +18,15 @@ abbrev pub one : ℕ → List ℕ
 one x = list.◌∷◌ (digit x) list.[]
 
 -- the digits of x in base b with no leading zeros, at most f + 1 of them
-unfoldable pub digitsTo : ℕ → ℕ → ℕ → List ℕ
-digitsTo zero b x = one x
-digitsTo (suc f) b x = elim (ltb x b) [ true ↦ one x | false ↦ digitsTo f b (x / b) ++ one (x % b) ]
+unfoldable pub digits_to : ℕ → ℕ → ℕ → List ℕ
+digits_to zero b x = one x
+digits_to (suc f) b x = elim (ltb x b) [ true ↦ one x | false ↦ digits_to f b (x / b) ++ one (x % b) ]
 
 unfoldable pub decimal : ℕ → List ℕ
-decimal x = digitsTo x 10 x
+decimal x = digits_to x 10 x
 
 unfoldable pub hexadecimal : ℕ → List ℕ
-hexadecimal x = digitsTo x 16 x
+hexadecimal x = digits_to x 16 x
 
 abbrev pub operator : BinOp → List ℕ
 operator Add = bytes " + "

@@ -15,7 +15,7 @@ pub data Expr : Type 0 where
   Extract : (source : Expr) (hi lo : ℕ) → Expr
   Concat : (high low : Expr) → Expr
   ZeroExtend SignExtend : (source : Expr) (bits : ℕ) → Expr
-  deriving Discrete as sameExpr
+  deriving Discrete as same_expr
 
 -- the width in bits; a condition's is 0
 unfoldable pub width : Expr → ℕ

@@ -1,7 +1,7 @@
 // The operators of bit-vector terms. `Expr` in specs/ is built over them, and so is a pool's node.
 
 // The nine operators that keep the width of their operands: kinds 3 to 11.
-#[derive(Drop)]
+#[derive(Clone, Copy)]
 pub enum BinOp {
     Add,
     Sub,
@@ -15,7 +15,7 @@ pub enum BinOp {
 }
 
 // The three comparisons, whose term is a condition: kinds 12 to 14.
-#[derive(Drop)]
+#[derive(Clone, Copy)]
 pub enum CmpOp {
     Eq,
     Ult,

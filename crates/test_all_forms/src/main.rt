@@ -9,7 +9,7 @@ use instruction::Lowering;
 use pool::{Bit, Node};
 
 // Whether the input had one more case, and the nodes that it added.
-#[derive(Drop)]
+#[derive(Clone, Copy)]
 struct Turn {
     more: bool,
     added: usize,

@@ -10,7 +10,7 @@ use text_length::left_after_text;
 use text_write::write_node;
 
 // A number of document 01, and the length of the text that was written.
-#[derive(Drop)]
+#[derive(Clone, Copy)]
 pub struct Written {
     pub number: u64,
     pub length: usize,

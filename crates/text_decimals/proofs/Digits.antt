@@ -80,4 +80,4 @@ module _ {l : List ℕ} {i b : ℕ} {s t : List ℕ} where
 -- two digits
 pub wrote-last : {l : List ℕ} {i : ℕ} {t : List ℕ} {a b r q : ℕ} → r ≡ a → q ≡ b → t ≡ a ∷ b ∷ [] → Wrote l i t (i + 2) (set (set l i r) (i + 1) q)
 wrote-last {l} {i} {t} {a} {b} {r} {q} x y p =
-    record { next-is = let h = ap length p in omega (arith, h); after_is = rw (p, x, y, add-one i) refl }
+    record { next_is = let h = ap length p in omega (arith, h); after_is = rw (p, x, y, add-one i) refl }

@@ -8,7 +8,7 @@ ghost use Rattle.text_decimals.specs.Padded.{padded};
 use text_digits::{decimal_digit, put_decimal};
 
 // The digit of a place, and what is left of the number below it.
-#[derive(Drop)]
+#[derive(Clone, Copy)]
 struct Place {
     digit: u64,
     rest: u64,

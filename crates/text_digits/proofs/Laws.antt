@@ -9,31 +9,31 @@ use lib.Dec.{ltb}
 use lib.ListN.{length, set, length-append}
 use lib.Seq.{sets, length-sets}
 use borrow.Author.Tests.{lt-ltb, le-ltb, ltb-true, ltb-false}
-use Rattle.terms.specs.Display.{digit, digitsTo}
+use Rattle.terms.specs.Display.{digit, digits_to}
 use Rattle.pool.specs.Node.{wide}
 use Rattle.text_digits.specs.Writing.{Room, Wrote}
 
 -- ---- digits
 
 -- how many digits are allowed does not matter, once they are enough
-below-base : (f b x : ℕ) → x < b → digitsTo f b x ≡ digit x ∷ []
-unfolding digitsTo
+below-base : (f b x : ℕ) → x < b → digits_to f b x ≡ digit x ∷ []
+unfolding digits_to
 below-base zero b x h = refl
-below-base (suc f) b x h = rw (digitsTo, lt-ltb x b h)
+below-base (suc f) b x h = rw (digits_to, lt-ltb x b h)
 
-from-base : (f b x : ℕ) → b ≤ x → digitsTo (suc f) b x ≡ digitsTo f b (x / b) ++ (digit (x % b) ∷ [])
-unfolding digitsTo
-from-base f b x h = rw (digitsTo, le-ltb x b h)
+from-base : (f b x : ℕ) → b ≤ x → digits_to (suc f) b x ≡ digits_to f b (x / b) ++ (digit (x % b) ∷ [])
+unfolding digits_to
+from-base f b x h = rw (digits_to, le-ltb x b h)
 
 part-less : (b x : ℕ) → 2 ≤ b → b ≤ x → x / b < x
 part-less b x hb h = div-lt_self (omega arith) (omega arith)
 
-stable : (f g b x : ℕ) → 2 ≤ b → x ≤ f → x ≤ g → digitsTo f b x ≡ digitsTo g b x
+stable : (f g b x : ℕ) → 2 ≤ b → x ≤ f → x ≤ g → digits_to f b x ≡ digits_to g b x
 stable zero g b x hb hf hg = below-base zero b x (omega arith) ∙ sym (below-base g b x (omega arith))
 stable (suc f) zero b x hb hf hg = below-base (suc f) b x (omega arith) ∙ sym (below-base zero b x (omega arith))
 stable (suc f) (suc g) b x hb hf hg = go (ltb x b) refl (λ h k. stable f g b (x / b) hb h k)
   where
-    go : (t : Bool) → ltb x b ≡ t → (x / b ≤ f → x / b ≤ g → digitsTo f b (x / b) ≡ digitsTo g b (x / b)) → digitsTo (suc f) b x ≡ digitsTo (suc g) b x
+    go : (t : Bool) → ltb x b ≡ t → (x / b ≤ f → x / b ≤ g → digits_to f b (x / b) ≡ digits_to g b (x / b)) → digits_to (suc f) b x ≡ digits_to (suc g) b x
     go true e ih = below-base (suc f) b x (ltb-true x b e) ∙ sym (below-base (suc g) b x (ltb-true x b e))
     go false e ih =
         let h : b ≤ x = ltb-false x b e in
@@ -42,7 +42,7 @@ stable (suc f) (suc g) b x hb hf hg = go (ltb x b) refl (λ h k. stable f g b (x
 
 -- the digits of x in base b
 abbrev pub digits : ℕ → ℕ → List ℕ
-digits b x = digitsTo x b x
+digits b x = digits_to x b x
 
 pub digits-one : (b x : ℕ) → x < b → digits b x ≡ digit x ∷ []
 digits-one b x h = below-base x b x h
@@ -63,15 +63,15 @@ sets-append l i [] b = rw add-zero
 sets-append l i (x ∷ a) b = sets-append (set l i x) (suc i) a b ∙ rw (suc-add, ← add-suc)
 
 pub wrote_none : (l : List ℕ) (i : ℕ) → Wrote l i [] i l
-wrote_none l i = record { next-is = omega arith; after_is = refl }
+wrote_none l i = record { next_is = omega arith; after_is = refl }
 
 pub wrote-byte : (l : List ℕ) (i x : ℕ) → Wrote l i (x ∷ []) (i + 1) (set l i x)
-wrote-byte l i x = record { next-is = refl; after_is = refl }
+wrote-byte l i x = record { next_is = refl; after_is = refl }
 
 pub wrote_then : {l m n : List ℕ} {i j k : ℕ} {a b : List ℕ} → Wrote l i a j m → Wrote m j b k n → Wrote l i (a ++ b) k n
 wrote_then {l} {m} {n} {i} {j} {k} {a} {b} u v = record {
-  next-is = v.next-is ∙ ap (λ (z : ℕ). z + length b) u.next-is ∙ add_assoc i (length a) (length b) ∙ ap (λ (z : ℕ). i + z) (sym (length-append a b));
-  after_is = v.after_is ∙ ap (λ (z : List ℕ). sets z j b) u.after_is ∙ ap (λ (z : ℕ). sets (sets l i a) z b) u.next-is ∙ sym (sets-append l i a b);
+  next_is = v.next_is ∙ ap (λ (z : ℕ). z + length b) u.next_is ∙ add_assoc i (length a) (length b) ∙ ap (λ (z : ℕ). i + z) (sym (length-append a b));
+  after_is = v.after_is ∙ ap (λ (z : List ℕ). sets z j b) u.after_is ∙ ap (λ (z : ℕ). sets (sets l i a) z b) u.next_is ∙ sym (sets-append l i a b);
 }
 
 -- a run of stores leaves the length as it was
@@ -130,7 +130,7 @@ pub room-front : {l : List ℕ} {i : ℕ} {a : List ℕ} (r : List ℕ) → Room
 room-front {l} {i} {a} r h = record { room = omega (arith, h.room, length-append a r) }
 
 pub room-step : {l m : List ℕ} {i j : ℕ} {a r : List ℕ} → Wrote l i a j m → Room l i (a ++ r) → Room m j r
-room-step {l} {m} {i} {j} {a} {r} w h = record { room = omega (arith, h.room, length-append a r, w.next-is, wrote-length w) }
+room-step {l} {m} {i} {j} {a} {r} w h = record { room = omega (arith, h.room, length-append a r, w.next_is, wrote-length w) }
 
 pub room_as : {l : List ℕ} {i : ℕ} {u s : List ℕ} → u ≡ s → Room l i u → Room l i s
 room_as {l} {i} {u} {s} e h = subst (λ (z : List ℕ). Room l i z) e h

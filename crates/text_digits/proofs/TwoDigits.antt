@@ -13,7 +13,7 @@ use borrow.Author.Tests.{eqb-true, lt-ltb}
 use Rattle.facts.proofs.Tests.{and_both}
 use Rattle.terms.specs.Display.{digit}
 use Rattle.text_digits.specs.Writing.{Wrote}
-use Rattle.text_digits.specs.Pairs.{pair_of, fourPairs}
+use Rattle.text_digits.specs.Pairs.{pair_of, four_pairs}
 use Rattle.text_digits.proofs.Laws.{digits, digits-one, digits_more}
 
 -- a test of every number below n
@@ -30,13 +30,13 @@ all-at (suc n) f h x l =
 
 -- the pair of x, as code takes it out of a word
 abbrev pub taken : ℕ → ℕ
-taken x = fourPairs (x / 4) / 2 ^ (16 * (x % 4)) % 65536
+taken x = four_pairs (x / 4) / 2 ^ (16 * (x % 4)) % 65536
 
 right : ℕ → Bool
 right x = eqb (taken x) (pair_of x)
 
 pub pair-at : (x : ℕ) → x < 100 → taken x ≡ pair_of x
-unfolding right all fourPairs
+unfolding right all four_pairs
 pair-at x l = eqb-true (taken x) (pair_of x) (all-at 100 right refl x l)
 
 pub decimal_digit : (d : ℕ) → d < 10 → digit d ≡ 48 + d
@@ -82,4 +82,4 @@ three-digits x h l =
     ∙ (rw (q, r, o))
 
 pub wrote-both : (l : List ℕ) (i : ℕ) {p q a b : ℕ} → p ≡ a → q ≡ b → Wrote l i (a ∷ b ∷ []) (i + 2) (set (set l i p) (i + 1) q)
-wrote-both l i e f = record { next-is = refl; after_is = rw (e, f, add-one i) }
+wrote-both l i e f = record { next_is = refl; after_is = rw (e, f, add-one i) }

@@ -7,5 +7,5 @@ abbrev pub pair_of : ℕ → ℕ
 pair_of x = digit (x / 10) + 256 * digit (x % 10)
 
 -- of 4 × k to 4 × k + 3, the first lowest
-unfoldable pub fourPairs : ℕ → ℕ
-fourPairs k = pair_of (4 * k) + 65536 * pair_of (4 * k + 1) + 4294967296 * pair_of (4 * k + 2) + 281474976710656 * pair_of (4 * k + 3)
+unfoldable pub four_pairs : ℕ → ℕ
+four_pairs k = pair_of (4 * k) + 65536 * pair_of (4 * k + 1) + 4294967296 * pair_of (4 * k + 2) + 281474976710656 * pair_of (4 * k + 3)

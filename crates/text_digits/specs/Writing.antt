@@ -8,5 +8,5 @@ pub record Room (l : List ℕ) (i : ℕ) (s : List ℕ) : Type 0 where
 
 -- the text s was written into the buffer `before` at `at`: what the buffer then holds, and the place after it
 pub record Wrote (before : List ℕ) (at : ℕ) (s : List ℕ) (next : ℕ) (after : List ℕ) : Type 0 where
-  pub next-is : next ≡ at + length s
+  pub next_is : next ≡ at + length s
   pub after_is : after ≡ sets before at s

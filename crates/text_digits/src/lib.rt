@@ -2,7 +2,7 @@
 ghost use Rattle.std.specs.Prelude.{◌≡◌, [], ◌∷◌, ◌+◌, ◌*◌, ◌-◌, ◌/◌, ◌%◌, ◌≤◌, ◌<◌, ltb, length};
 ghost use Rattle.terms.specs.Display.{digit, decimal, hexadecimal};
 ghost use Rattle.pool.specs.Node.{wide};
-ghost use Rattle.text_digits.specs.Pairs.{fourPairs};
+ghost use Rattle.text_digits.specs.Pairs.{four_pairs};
 ghost use Rattle.text_digits.specs.Writing.{Room, Wrote};
 
 // What is left of x when y is taken off, and 0 if y is larger.
@@ -33,7 +33,7 @@ fn hex_digit(d: u64) -> u8
 }
 
 // A number as tens and ones.
-#[derive(Drop)]
+#[derive(Clone, Copy)]
 pub struct Tens {
     pub tens: u64,
     pub ones: u64,
@@ -76,7 +76,7 @@ pub fn decimal_length(x: u64) -> usize
 // the compiler makes a table in read-only memory; a constant array would be copied at each use.
 fn pairs(k: u64) -> u64
     requires { k < 25 }
-    ensures { result ≡ fourPairs k }
+    ensures { result ≡ four_pairs k }
 {
     match k {
         0 => 0x3330323031303030,

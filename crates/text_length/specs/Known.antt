@@ -1,7 +1,7 @@
 -- The lengths of a pool's first nodes in a list: what summing up node by node keeps.
 use Rattle.std.specs.Prelude.{List, ◌≡◌, ℕ, ◌+◌, ◌≤◌, ◌<◌, min, length, get_or}
 use Rattle.terms.specs.Display.{decimal}
-use Rattle.pool.specs.Node.{word_at, kindNumber}
+use Rattle.pool.specs.Node.{word_at, kind_number}
 use Rattle.text_parts.specs.Text.{text}
 
 -- of nodes 0 to j - 1, each up to b
@@ -15,7 +15,7 @@ pub record Kept (lengths : List ℕ) (m : ℕ) : Type 0 where
 
 -- node r is Var r, for each of the 32 registers
 pub record Registers (ws : List ℕ) : Type 0 where
-  pub at : (r : ℕ) → r < 32 → (kindNumber ws r ≡ 1) × (word_at ws r 2 ≡ r)
+  pub at : (r : ℕ) → r < 32 → (kind_number ws r ≡ 1) × (word_at ws r 2 ≡ r)
 
 -- 256 places, the first 32 with the lengths of the registers' texts
 pub record RegisterLengths (lengths : List ℕ) : Type 0 where

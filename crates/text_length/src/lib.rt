@@ -1,8 +1,8 @@
 // The length of a node's text up to a ceiling: by a pass over the text that stops once the ceiling is passed, or node by node.
 ghost use Rattle.std.specs.Prelude.{◌≡◌, true, cond, ◌+◌, ◌-◌, ◌≤◌, ◌<◌, min, eqb, length};
-ghost use Rattle.pool.specs.Node.{kindNumber};
-ghost use Rattle.text_operators.specs.Between.{Joined, betweenText};
-ghost use Rattle.text_parts.specs.Text.{text, Ready, openText, endText, single};
+ghost use Rattle.pool.specs.Node.{kind_number};
+ghost use Rattle.text_operators.specs.Between.{Joined, between_text};
+ghost use Rattle.text_parts.specs.Text.{text, Ready, open_text, end_text, single};
 ghost use Rattle.text_length.specs.Answer.{Measured};
 ghost use Rattle.text_length.specs.Known.{Registers};
 
@@ -22,7 +22,7 @@ const BY_NODES: usize = 2097152;
 // What is left of b when the length of a Var's or a Const's text is taken off it, and 0 where the text is longer.
 // k is the number of the node's kind.
 fn left_after_leaf(p: &[u64], n: Node, k: u64, b: usize) -> usize
-    requires { Ready p.now n.0 × (k ≡ kindNumber p.now n.0) × (k < 3) }
+    requires { Ready p.now n.0 × (k ≡ kind_number p.now n.0) × (k < 3) }
     ensures { result ≡ b - length (text p.now n.0) }
 {
     if k == Kind::VAR {
@@ -34,8 +34,8 @@ fn left_after_leaf(p: &[u64], n: Node, k: u64, b: usize) -> usize
 
 // The same for what stands about the operand of an Extract and of an extension.
 fn left_after_single(p: &[u64], n: Node, k: u64, b: usize) -> usize
-    requires { Ready p.now n.0 × (k ≡ kindNumber p.now n.0) × (single k ≡ true) }
-    ensures { result ≡ b - (length (openText k) + length (endText p.now n.0)) }
+    requires { Ready p.now n.0 × (k ≡ kind_number p.now n.0) × (single k ≡ true) }
+    ensures { result ≡ b - (length (open_text k) + length (end_text p.now n.0)) }
 {
     if k == Kind::EXTRACT {
         let c = minus_or_zero(b, decimal_length(cut_hi(p, n).0) + 3);
@@ -48,7 +48,7 @@ fn left_after_single(p: &[u64], n: Node, k: u64, b: usize) -> usize
 // in a register, 16 bytes more of stack at each level of nesting.
 fn own_length(k: u64) -> usize
     requires { Joined k }
-    ensures { result ≡ length (openText k) + cond (eqb k 15) 2 0 + length (betweenText k) + 1 }
+    ensures { result ≡ length (open_text k) + cond (eqb k 15) 2 0 + length (between_text k) + 1 }
 {
     if k < Kind::ITE {
         return operator_length(k) + 2;
@@ -121,7 +121,7 @@ pub fn length_in_block(p: &[u64], n: Node, ceiling: u32) -> u64
 }
 
 // A number of document 01, and the text's length up to a ceiling.
-#[derive(Drop)]
+#[derive(Clone, Copy)]
 pub struct TextLength {
     pub number: u64,
     pub length: u64,

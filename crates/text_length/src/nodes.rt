@@ -2,10 +2,10 @@
 // grows with the nodes; a text may have a node far more often than the pool.
 ghost use Rattle.std.specs.Prelude.{◌≡◌, ◌+◌, ◌*◌, ◌≤◌, ◌<◌, min, length, get_or};
 ghost use Rattle.terms.specs.Display.{hexadecimal};
-ghost use Rattle.pool.specs.Node.{wide, kindNumber};
+ghost use Rattle.pool.specs.Node.{wide, kind_number};
 ghost use Rattle.pool_fields.specs.Fields.{op_a, op_b};
-ghost use Rattle.text_operators.specs.Between.{betweenText};
-ghost use Rattle.text_parts.specs.Text.{text, Ready, openText, endText};
+ghost use Rattle.text_operators.specs.Between.{between_text};
+ghost use Rattle.text_parts.specs.Text.{text, Ready, open_text, end_text};
 ghost use Rattle.text_length.specs.Known.{Known, Kept, Registers, RegisterLengths};
 
 use pool::Node;
@@ -37,7 +37,7 @@ fn hex_length(low: u64, high: u64) -> usize
 
 // The length of a Var's or a Const's text. k is the number of the node's kind.
 fn leaf_length(p: &[u64], n: Node, k: u64) -> usize
-    requires { Ready p.now n.0 × (k ≡ kindNumber p.now n.0) × (k < 3) }
+    requires { Ready p.now n.0 × (k ≡ kind_number p.now n.0) × (k < 3) }
     ensures { result ≡ length (text p.now n.0) }
 {
     if k == Kind::VAR {
@@ -48,8 +48,8 @@ fn leaf_length(p: &[u64], n: Node, k: u64) -> usize
 
 // What stands about the operand of an Extract, and of an extension.
 fn range_length(p: &[u64], n: Node) -> usize
-    requires { Ready p.now n.0 × (kindNumber p.now n.0 ≡ 16) }
-    ensures { (result ≡ length (openText (kindNumber p.now n.0)) + length (endText p.now n.0)) × (result ≤ 9) }
+    requires { Ready p.now n.0 × (kind_number p.now n.0 ≡ 16) }
+    ensures { (result ≡ length (open_text (kind_number p.now n.0)) + length (end_text p.now n.0)) × (result ≤ 9) }
 {
     let hi = cut_hi(p, n);
     let lo = cut_lo(p, n);
@@ -57,15 +57,15 @@ fn range_length(p: &[u64], n: Node) -> usize
 }
 
 fn extension_length(p: &[u64], n: Node) -> usize
-    requires { Ready p.now n.0 × (18 ≤ kindNumber p.now n.0) }
-    ensures { (result ≡ length (openText (kindNumber p.now n.0)) + length (endText p.now n.0)) × (result ≤ 11) }
+    requires { Ready p.now n.0 × (18 ≤ kind_number p.now n.0) }
+    ensures { (result ≡ length (open_text (kind_number p.now n.0)) + length (end_text p.now n.0)) × (result ≤ 11) }
 {
     decimal_length(width_of(p, n)) + 8
 }
 
 fn operator_characters(k: u64) -> usize
     requires { (3 ≤ k) × (k < 15) }
-    ensures { (result ≡ length (openText k) + length (betweenText k) + 1) × (result < 16) }
+    ensures { (result ≡ length (open_text k) + length (between_text k) + 1) × (result < 16) }
 {
     ((OPERATORS >> (4 * (k - Kind::ADD))) % 16) as usize
 }

@@ -1,7 +1,7 @@
 // What `Display` of the Rust's expr.rs writes between two operands.
 ghost use Rattle.std.specs.Prelude.{◌≡◌, [], ◌∷◌, ◌≤◌, ◌<◌, length};
 ghost use Rattle.text_digits.specs.Writing.{Room, Wrote};
-ghost use Rattle.text_operators.specs.Between.{Joined, betweenText};
+ghost use Rattle.text_operators.specs.Between.{Joined, between_text};
 
 use pool::words::Kind;
 use text_digits::put;
@@ -9,7 +9,7 @@ use text_digits::put;
 // The one character of the operators 3 to 8.
 fn sign(k: u64) -> u8
     requires { (3 ≤ k) × (k < 9) }
-    ensures { betweenText k ≡ 32 ∷ result ∷ 32 ∷ [] }
+    ensures { between_text k ≡ 32 ∷ result ∷ 32 ∷ [] }
 {
     match k {
         Kind::ADD => b'+',
@@ -23,8 +23,8 @@ fn sign(k: u64) -> u8
 
 // The operator between two operands, and the comma of an Ite's arms and of a Concat.
 pub fn put_between(k: u64, buf: &mut [u8], at: usize) -> usize
-    requires { Joined k × Room buf.old at (betweenText k) }
-    ensures { Wrote buf.old at (betweenText k) result buf.new }
+    requires { Joined k × Room buf.old at (between_text k) }
+    ensures { Wrote buf.old at (between_text k) result buf.new }
 {
     if k < Kind::SHL {
         return put(&[b' ', sign(k), b' '], buf, at);
@@ -43,7 +43,7 @@ pub fn put_between(k: u64, buf: &mut [u8], at: usize) -> usize
 // The length of an operator. A constant table would be copied to the frame of each level of nesting.
 pub fn operator_length(k: u64) -> usize
     requires { (3 ≤ k) × (k < 15) }
-    ensures { (result ≡ length (betweenText k)) × (result ≤ 5) }
+    ensures { (result ≡ length (between_text k)) × (result ≤ 5) }
 {
     if k < Kind::SHL {
         return 3;

@@ -12,8 +12,8 @@ use borrow.Author.Tests.{lt-ltb, ltb-true, ltb-false, leb-true, leb-false, eqb-t
 use Rattle.terms.specs.declared.BinOp.TheVariants.{Add, Sub, Mul, And, Or, Xor, Shl, LShr, AShr}
 use Rattle.terms.specs.declared.CmpOp.TheVariants.{Eq, Ult, Slt}
 use Rattle.facts.proofs.Tests.{and_both}
-use Rattle.pool.specs.Node.{bad, kinds, kind_at, Cell, cell_at, width_at, word_at, kindNumber}
-use Rattle.pool.specs.Rules.{widthBefore, okKind, okPool, Valid}
+use Rattle.pool.specs.Node.{bad, kinds, kind_at, Cell, cell_at, width_at, word_at, kind_number}
+use Rattle.pool.specs.Rules.{width_before, ok_kind, ok_pool, Valid}
 use Rattle.pool.proofs.Facts.{valid-node}
 use Rattle.pool_rules.proofs.Numbers.{within, is-bad}
 use Rattle.pool_fields.specs.Fields.{op_a, op_b, op_c}
@@ -23,7 +23,7 @@ use Rattle.pool_rules.proofs.Kept.{wide-extract, wide-concat, wide-zext, most-ba
 
 -- fewer nodes of a valid pool are a valid pool
 valid-less : (ws : List ℕ) (k j : ℕ) → j ≤ k → Valid ws k → Valid ws j
-unfolding okPool
+unfolding ok_pool
 valid-less ws zero zero l v = v
 valid-less ws zero (suc j) l v = absurd (not-suc-le-zero l)
 valid-less ws (suc k) j l v =
@@ -37,21 +37,21 @@ ready_of ws count n v l h = record { inside = omega arith; valid = valid-less ws
 
 -- the widths of node n's operands
 abbrev wa : List ℕ → ℕ → ℕ
-wa ws n = widthBefore ws n (op_a ws n)
+wa ws n = width_before ws n (op_a ws n)
 
 abbrev wb : List ℕ → ℕ → ℕ
-wb ws n = widthBefore ws n (op_b ws n)
+wb ws n = width_before ws n (op_b ws n)
 
 abbrev wc : List ℕ → ℕ → ℕ
-wc ws n = widthBefore ws n (op_c ws n)
+wc ws n = width_before ws n (op_c ws n)
 
 -- the rules of node n, by its kind
 rules : (ws : List ℕ) (n : ℕ) → Ready ws n
-    → okKind (kind_at (kindNumber ws n)) n (cell_at ws n) (wa ws n) (wb ws n) (wc ws n) ≡ true
+    → ok_kind (kind_at (kind_number ws n)) n (cell_at ws n) (wa ws n) (wb ws n) (wc ws n) ≡ true
 rules ws n r = valid-node ws (n + 1) n r.valid (omega arith)
 
 -- the width of an earlier node is read
-seen : (ws : List ℕ) (n m : ℕ) → m < n → widthBefore ws n m ≡ width_at ws m
+seen : (ws : List ℕ) (n m : ℕ) → m < n → width_before ws n m ≡ width_at ws m
 seen ws n m l = rw (lt-ltb m n l)
 
 -- ---- by the number κ of the kind
@@ -103,23 +103,23 @@ module _ (n : ℕ) (k : Cell) (A B C : ℕ) where
 
 -- ---- nodes of a pool
 
-kind-below : (ws : List ℕ) (n : ℕ) → Ready ws n → kindNumber ws n < 20
-kind-below ws n r = go (ltb (kindNumber ws n) 20) refl
+kind-below : (ws : List ℕ) (n : ℕ) → Ready ws n → kind_number ws n < 20
+kind-below ws n r = go (ltb (kind_number ws n) 20) refl
   where
-    go : (t : Bool) → ltb (kindNumber ws n) 20 ≡ t → kindNumber ws n < 20
+    go : (t : Bool) → ltb (kind_number ws n) 20 ≡ t → kind_number ws n < 20
     go true e = ltb-true _ _ e
-    go false e = absurd (false≢true (rw (is-bad (kindNumber ws n) (ltb-false _ _ e)) at (rules ws n r)))
+    go false e = absurd (false≢true (rw (is-bad (kind_number ws n) (ltb-false _ _ e)) at (rules ws n r)))
 
 none : (κ : ℕ) → κ ≤ 0 → kind_at κ ≡ bad
 unfolding kind_at kinds
 none κ l = let e : κ ≡ 0 = omega arith in rw e
 
-kind-above : (ws : List ℕ) (n : ℕ) → Ready ws n → 1 ≤ kindNumber ws n
-kind-above ws n r = go (ltb 0 (kindNumber ws n)) refl
+kind-above : (ws : List ℕ) (n : ℕ) → Ready ws n → 1 ≤ kind_number ws n
+kind-above ws n r = go (ltb 0 (kind_number ws n)) refl
   where
-    go : (t : Bool) → ltb 0 (kindNumber ws n) ≡ t → 1 ≤ kindNumber ws n
+    go : (t : Bool) → ltb 0 (kind_number ws n) ≡ t → 1 ≤ kind_number ws n
     go true e = ltb-true _ _ e
-    go false e = absurd (false≢true (rw (none (kindNumber ws n) (ltb-false _ _ e)) at (rules ws n r)))
+    go false e = absurd (false≢true (rw (none (kind_number ws n) (ltb-false _ _ e)) at (rules ws n r)))
 
 -- no width is above 129
 most : (ws : List ℕ) (f n : ℕ) → n < f → Ready ws n → width_at ws n ≤ 129
@@ -127,24 +127,24 @@ most ws zero n l r = absurd (not-suc-le-zero l)
 most ws (suc f) n l r =
     most-of n (cell_at ws n) (wa ws n) (wb ws n) (wc ws n)
     (λ h. rw (seen ws n (op_a ws n) h) (most ws f (op_a ws n) (omega arith) (ready-less h r)))
-    (kindNumber ws n) (kind-below ws n r) (rules ws n r)
+    (kind_number ws n) (kind-below ws n r) (rules ws n r)
 
 width-most : (ws : List ℕ) (n : ℕ) → Ready ws n → width_at ws n ≤ 129
 width-most ws n r = most ws (suc n) n (omega arith) r
 
 -- a node with no width is a comparison
-pub condition-kind : (ws : List ℕ) (n : ℕ) → Ready ws n → width_at ws n ≡ 0 → (12 ≤ kindNumber ws n) × (kindNumber ws n < 15)
-condition-kind ws n r z = (go (ltb (kindNumber ws n) 12) refl, up (ltb (kindNumber ws n) 15) refl)
+pub condition-kind : (ws : List ℕ) (n : ℕ) → Ready ws n → width_at ws n ≡ 0 → (12 ≤ kind_number ws n) × (kind_number ws n < 15)
+condition-kind ws n r z = (go (ltb (kind_number ws n) 12) refl, up (ltb (kind_number ws n) 15) refl)
   where
-    go : (t : Bool) → ltb (kindNumber ws n) 12 ≡ t → 12 ≤ kindNumber ws n
+    go : (t : Bool) → ltb (kind_number ws n) 12 ≡ t → 12 ≤ kind_number ws n
     go true e =
-        absurd (omega (arith, z, wide_low n (cell_at ws n) (wa ws n) (wb ws n) (wc ws n) (kindNumber ws n) (ltb-true _ _ e) (rules ws n r)))
+        absurd (omega (arith, z, wide_low n (cell_at ws n) (wa ws n) (wb ws n) (wc ws n) (kind_number ws n) (ltb-true _ _ e) (rules ws n r)))
     go false e = ltb-false _ _ e
 
-    up : (t : Bool) → ltb (kindNumber ws n) 15 ≡ t → kindNumber ws n < 15
+    up : (t : Bool) → ltb (kind_number ws n) 15 ≡ t → kind_number ws n < 15
     up true e = ltb-true _ _ e
     up false e =
-        absurd (omega (arith, z, wide_high n (cell_at ws n) (wa ws n) (wb ws n) (wc ws n) (kindNumber ws n) (ltb-false _ _ e) (kind-below ws n r) (rules ws n r)))
+        absurd (omega (arith, z, wide_high n (cell_at ws n) (wa ws n) (wb ws n) (wc ws n) (kind_number ws n) (ltb-false _ _ e) (kind-below ws n r) (rules ws n r)))
 
 -- ---- what a node's operands are, from the number k of its kind that code has read
 
@@ -164,7 +164,7 @@ pub record Pair (k : ℕ) : Type 0 where
   pub from : 3 ≤ k
   pub to : k < 18
   pub no-ite : k ≡ 15 → ⊥
-  pub no-extract : k ≡ 16 → ⊥
+  pub no_extract : k ≡ 16 → ⊥
 
 -- 16, or 18 and more
 pub record Single (k : ℕ) : Type 0 where
@@ -183,7 +183,7 @@ is-pair k l i h = go (eqb k 16) refl h
   where
     go : (t : Bool) → eqb k 16 ≡ t → (t || leb 18 k) ≡ false → Pair k
     go true e q = absurd (false≢true (sym q))
-    go false e q = record { from = l; to = leb-false 18 k q; no-ite = i; no-extract = eqb-false k 16 e }
+    go false e q = record { from = l; to = leb-false 18 k q; no-ite = i; no_extract = eqb-false k 16 e }
 
 -- a Pair is one of 3 to 14, or 17; a Single is 16, or 18 and more
 pub pair-kinds : {k : ℕ} → Pair k → (k < 15) ⊎ (k ≡ 17)
@@ -191,7 +191,7 @@ pair-kinds {k} b = go (ltb k 15) refl
   where
     go : (t : Bool) → ltb k 15 ≡ t → (k < 15) ⊎ (k ≡ 17)
     go true e = inl (ltb-true k 15 e)
-    go false e = let l : 15 ≤ k = ltb-false k 15 e in inr (omega (arith, b.no-ite, b.no-extract, b.to))
+    go false e = let l : 15 ≤ k = ltb-false k 15 e in inr (omega (arith, b.no-ite, b.no_extract, b.to))
 
 pub single-kinds : {k : ℕ} → Single k → (k ≡ 16) ⊎ (18 ≤ k)
 single-kinds {k} s = ⊎_elim (λ e. inl (sym e)) (λ l. inr (omega (arith, s.no-concat))) (eq-or-lt_of_le s.from)
@@ -199,8 +199,8 @@ single-kinds {k} s = ⊎_elim (λ e. inl (sym e)) (λ l. inr (omega (arith, s.no
 pub from-18 : {k : ℕ} → Single k → (k ≡ 16 → ⊥) → 18 ≤ k
 from-18 s h = ⊎_elim (λ e. absurd (h e)) (λ l. l) (single-kinds s)
 
-module _ (ws : List ℕ) (n : ℕ) (r : Ready ws n) (k : ℕ) (is-k : k ≡ kindNumber ws n) where
-  term : {m : ℕ} → m < n → 1 ≤ widthBefore ws n m → Term ws n m
+module _ (ws : List ℕ) (n : ℕ) (r : Ready ws n) (k : ℕ) (is-k : k ≡ kind_number ws n) where
+  term : {m : ℕ} → m < n → 1 ≤ width_before ws n m → Term ws n m
   term {m} l w = record { before = l; ready = ready-less l r; wide = rw (seen ws n m l) at w }
 
   pub to-nineteen : k < 20

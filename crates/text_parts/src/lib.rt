@@ -2,9 +2,9 @@
 // buffer. k is the number of the node's kind.
 ghost use Rattle.std.specs.Prelude.{◌≡◌, true, ◌∷◌, ◌++◌, ◌≤◌, ◌<◌};
 ghost use Rattle.terms.specs.Display.{bytes, decimal, hexadecimal};
-ghost use Rattle.pool.specs.Node.{wide, kindNumber};
+ghost use Rattle.pool.specs.Node.{wide, kind_number};
 ghost use Rattle.text_digits.specs.Writing.{Room, Wrote};
-ghost use Rattle.text_parts.specs.Text.{text, Ready, openText, widthText, endText, single};
+ghost use Rattle.text_parts.specs.Text.{text, Ready, open_text, width_text, end_text, single};
 
 use pool::Node;
 use pool::words::{Kind, width_of};
@@ -31,7 +31,7 @@ fn put_value(lo: u64, hi: u64, buf: &mut [u8], at: usize) -> usize
 
 // Var and Const, which have no operand.
 pub fn put_leaf(p: &[u64], n: Node, k: u64, buf: &mut [u8], at: usize) -> usize
-    requires ready { Ready p.now n.0 × (k ≡ kindNumber p.now n.0) × (k < 3) }
+    requires ready { Ready p.now n.0 × (k ≡ kind_number p.now n.0) × (k < 3) }
     requires room { Room buf.old at (text p.now n.0) }
     ensures { Wrote buf.old at (text p.now n.0) result buf.new }
 {
@@ -44,8 +44,8 @@ pub fn put_leaf(p: &[u64], n: Node, k: u64, buf: &mut [u8], at: usize) -> usize
 
 // What comes before the operands. An Extract has nothing there.
 pub fn put_open(k: u64, buf: &mut [u8], at: usize) -> usize
-    requires { (3 ≤ k) × (k < 20) × Room buf.old at (openText k) }
-    ensures { Wrote buf.old at (openText k) result buf.new }
+    requires { (3 ≤ k) × (k < 20) × Room buf.old at (open_text k) }
+    ensures { Wrote buf.old at (open_text k) result buf.new }
 {
     if k < Kind::ITE {
         return put(b"(", buf, at);
@@ -63,8 +63,8 @@ pub fn put_open(k: u64, buf: &mut [u8], at: usize) -> usize
 
 // An extension's width.
 fn put_width(w: u64, buf: &mut [u8], at: usize) -> usize
-    requires { Room buf.old at (widthText w) }
-    ensures { Wrote buf.old at (widthText w) result buf.new }
+    requires { Room buf.old at (width_text w) }
+    ensures { Wrote buf.old at (width_text w) result buf.new }
 {
     let i = put(b", ", buf, at);
     let j = put_decimal(w, buf, i);
@@ -73,9 +73,9 @@ fn put_width(w: u64, buf: &mut [u8], at: usize) -> usize
 
 // What comes after the operand of an Extract and of an extension.
 pub fn put_end(p: &[u64], n: Node, k: u64, buf: &mut [u8], at: usize) -> usize
-    requires ready { Ready p.now n.0 × (k ≡ kindNumber p.now n.0) × (single k ≡ true) }
-    requires room { Room buf.old at (endText p.now n.0) }
-    ensures { Wrote buf.old at (endText p.now n.0) result buf.new }
+    requires ready { Ready p.now n.0 × (k ≡ kind_number p.now n.0) × (single k ≡ true) }
+    requires room { Room buf.old at (end_text p.now n.0) }
+    ensures { Wrote buf.old at (end_text p.now n.0) result buf.new }
 {
     if k == Kind::EXTRACT {
         let hi = cut_hi(p, n);

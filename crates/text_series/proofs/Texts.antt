@@ -21,7 +21,7 @@ grows (suc k) j g h =
 
 module _ {b buf : List ℕ} {at end : ℕ} (g : ℕ → List ℕ) where
   pub room_next : (k j : ℕ) → j < k → Room b at (up_to k g) → Wrote b at (up_to j g) end buf → Room buf end (g j)
-  room_next k j h r w = record { room = omega (arith, grows k j g h, r.room, w.next-is, wrote-length w) }
+  room_next k j h r w = record { room = omega (arith, grows k j g h, r.room, w.next_is, wrote-length w) }
 
   pub wrote-next : (j : ℕ) {buf' : List ℕ} {end' : ℕ} → Wrote b at (up_to j g) end buf → Wrote buf end (g j) end' buf' → Wrote b at (up_to (j + 1) g) end' buf'
   unfolding up_to

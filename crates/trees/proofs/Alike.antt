@@ -7,21 +7,21 @@ use native.Mathlib.Omega.{arith}
 use lib.Dec.{ltb, eqb}
 use Rattle.terms.specs.Expr.{Expr, Const, Bv, Compare, Ite, Concat, ZeroExtend, SignExtend}
 use Rattle.neon.specs.declared.Instruction.{Instruction}
-use Rattle.neon.specs.Op.{Op, opAt, Arrangement, arrangementAt, laneBits, full}
-use Rattle.neon.specs.Form.{form, laneCount, firstFull, secondFull, byElement}
+use Rattle.neon.specs.Op.{Op, op_at, Arrangement, arrangement_at, bits_of_lane, full}
+use Rattle.neon.specs.Form.{form, lane_count, first_full, second_full, by_element}
 use Rattle.neon.proofs.Geometry.{sized}
 use Rattle.trees.specs.declared.NeonOp.{NeonOp}
 use Rattle.trees.specs.declared.NeonOp.TheVariants.{Shift, ShiftInsert, MixedSignAdd, DoublingLong, Saturating, BitwiseUnary}
 use Rattle.trees.specs.declared.NeonOp.TheVariants.{AbsoluteDifference, HighNarrow}
-use Rattle.trees.specs.Simd.{Cutter, concatLanes}
+use Rattle.trees.specs.Simd.{Cutter, concat_lanes}
 use Rattle.trees.specs.Lower.{extend}
 use Rattle.trees.specs.Arith.{BinOp, Add, Sub, Mul, And, Or, Xor, Shl, CmpOp, Eq, Ult, Slt, SaturateTo, Signed, Unsigned, SignedToUnsigned}
 use Rattle.trees.specs.Arith.{Saturate, Never, Into, ShiftKind, LeftImmediate, RightImmediate, Register, SaturatingKind, AddSub, Halving, Narrow}
 use Rattle.trees.specs.Arith.{ShiftNarrow, DoublingMultiplyHigh, Unary, PopulationCount, LeadingZeros, LeadingSignBits, ReverseBits, Combine, Nothing}
-use Rattle.trees.specs.Arith.{With, clamped, plus_if, negated, joined, twice, exactLane, exactBits, kindTo, roundingBits, shiftBound, saturatingShiftLeft}
-use Rattle.trees.specs.Arith.{registerShiftMax, leftBy, absoluteDifferenceLane, accumulated, narrowing, kindBits}
-use Rattle.trees.specs.Neon.{neonOp}
-use Rattle.trees.specs.Block.{widenTree}
+use Rattle.trees.specs.Arith.{With, clamped, plus_if, negated, joined, twice, exact_lane, exact_bits, kind_to, rounding_bits, shift_bound, saturating_shift_left}
+use Rattle.trees.specs.Arith.{register_shift_max, left_by, absolute_difference_lane, accumulated, narrowing, kind_bits}
+use Rattle.trees.specs.Neon.{neon_op}
+use Rattle.trees.specs.Block.{widen_tree}
 use Rattle.trees.specs.Simd as Simd
 use Rattle.trees.specs.Arith as Arith
 use Rattle.trees.specs.Width as Width
@@ -44,12 +44,12 @@ module _ {R : Expr → Expr → Type 0} {c c' : Cutter} (k : Alike R c c') where
   open k use {const, bv, compare, ite, concat, zext, sext, lane, bits}
 
   -- ---- lanes of registers, and lanes side by side
-  pub like-lane : {v v' : Expr} (n j : ℕ) → 0 < n → R v v' → R (Simd.extractLane c v n j) (Simd.extractLane c' v' n j)
-  unfolding Simd.extractLane
+  pub like-lane : {v v' : Expr} (n j : ℕ) → 0 < n → R v v' → R (Simd.extract_lane c v n j) (Simd.extract_lane c' v' n j)
+  unfolding Simd.extract_lane
   like-lane n j h p = lane (n * j + n - 1) (n * j) (omega arith) p
 
-  pub like-lanes : (last : ℕ) {f f' : ℕ → Expr} → ((j : ℕ) → R (f j) (f' j)) → R (concatLanes last f) (concatLanes last f')
-  unfolding concatLanes
+  pub like-lanes : (last : ℕ) {f f' : ℕ → Expr} → ((j : ℕ) → R (f j) (f' j)) → R (concat_lanes last f) (concat_lanes last f')
+  unfolding concat_lanes
   like-lanes zero p = p zero
   like-lanes (suc last) p = concat (p (suc last)) (like-lanes last p)
 
@@ -86,7 +86,7 @@ module _ {R : Expr → Expr → Type 0} {c c' : Cutter} (k : Alike R c c') where
   like-twice : {a a' b b' : Expr} (wide : ℕ) → R a a' → R b b' → R (twice a b wide) (twice a' b' wide)
   like-twice wide p q = bv Shl (like-joined Mul true true wide p q) (const 1 wide)
 
-  like-exact : {a a' b b' : Expr} (kind : SaturatingKind) (n : ℕ) (s : Bool) → R a a' → R b b' → R (exactLane kind a b n s) (exactLane kind a' b' n s)
+  like-exact : {a a' b b' : Expr} (kind : SaturatingKind) (n : ℕ) (s : Bool) → R a a' → R b b' → R (exact_lane kind a b n s) (exact_lane kind a' b' n s)
   like-exact (AddSub op to) n s p q = like-joined op s s (n + 1) p q
   like-exact (Halving t) n s p q = bv _ (like-plus t _ _ (like-joined Add s s (n + 1) p q)) (const _ _)
   like-exact (Narrow to) n s p q = p
@@ -95,39 +95,39 @@ module _ {R : Expr → Expr → Type 0} {c c' : Cutter} (k : Alike R c c') where
   like-exact (Unary t) n s p q = like-negated t (n + 1) (sext _ p)
 
   like-saturating : {a a' b b' : Expr} (kind : SaturatingKind) (n : ℕ) (s : Bool) → R a a' → R b b'
-      → R (Arith.saturatingLane c kind a b n s) (Arith.saturatingLane c' kind a' b' n s)
-  unfolding Arith.saturatingLane
-  like-saturating kind n s p q = like-narrowed (exactBits kind n) n (kindTo kind) (like-exact kind n s p q)
+      → R (Arith.saturating_lane c kind a b n s) (Arith.saturating_lane c' kind a' b' n s)
+  unfolding Arith.saturating_lane
+  like-saturating kind n s p q = like-narrowed (exact_bits kind n) n (kind_to kind) (like-exact kind n s p q)
 
   -- ---- shifts
   like-right : {a a' b b' : Expr} (n : ℕ) (s t : Bool) (most : ℕ) → R a a' → R b b'
-      → R (Arith.shiftRight c a b n s t most) (Arith.shiftRight c' a' b' n s t most)
-  unfolding Arith.shiftRight
+      → R (Arith.shift_right c a b n s t most) (Arith.shift_right c' a' b' n s t most)
+  unfolding Arith.shift_right
   like-right n s false most p q = bv _ p q
   like-right n s true most p q =
-      let by = zext (roundingBits n most) q in
-      let one = const 1 (roundingBits n most) in
+      let by = zext (rounding_bits n most) q in
+      let one = const 1 (rounding_bits n most) in
       bits (n - 1) 0 (omega arith) (bv _ (bv Add (like-extend _ s p) (bv Shl one (bv Sub by one))) by)
 
-  like-bound : {a a' : Expr} (n : ℕ) (s : Bool) → R a a' → R (shiftBound a n s) (shiftBound a' n s)
+  like-bound : {a a' : Expr} (n : ℕ) (s : Bool) → R a a' → R (shift_bound a n s) (shift_bound a' n s)
   like-bound n true p = ite (compare Slt p (const 0 n)) (const _ _) (const _ _)
   like-bound n false p = const _ _
 
-  like-saturating-left : {a a' b b' : Expr} (n : ℕ) (s : Bool) → R a a' → R b b' → R (saturatingShiftLeft a b n s) (saturatingShiftLeft a' b' n s)
-  unfolding saturatingShiftLeft
+  like-saturating-left : {a a' b b' : Expr} (n : ℕ) (s : Bool) → R a a' → R b b' → R (saturating_shift_left a b n s) (saturating_shift_left a' b' n s)
+  unfolding saturating_shift_left
   like-saturating-left n s p q = ite (compare Eq (bv _ (bv Shl p q) q) p) (bv Shl p q) (like-bound n s p)
 
-  like-left-immediate : {a a' : Expr} (to : Saturate) (i n : ℕ) (s : Bool) → R a a' → R (Arith.leftImmediate c to a i n s) (Arith.leftImmediate c' to a' i n s)
+  like-left-immediate : {a a' : Expr} (to : Saturate) (i n : ℕ) (s : Bool) → R a a' → R (Arith.left_immediate c to a i n s) (Arith.left_immediate c' to a' i n s)
   like-left-immediate Never i n s p = bv Shl p (const i n)
   like-left-immediate (Into Signed) i n s p = like-saturating-left n s p (const i n)
   like-left-immediate (Into Unsigned) i n s p = like-saturating-left n s p (const i n)
   like-left-immediate (Into SignedToUnsigned) i n s p = like-clamp _ n SignedToUnsigned (bv Shl (sext _ p) (const _ _))
 
-  like_left : {a a' b b' : Expr} (t : Bool) (n : ℕ) (s : Bool) → R a a' → R b b' → R (leftBy t a b n s) (leftBy t a' b' n s)
+  like_left : {a a' b b' : Expr} (t : Bool) (n : ℕ) (s : Bool) → R a a' → R b b' → R (left_by t a b n s) (left_by t a' b' n s)
   like_left true n s p q = like-saturating-left n s p q
   like_left false n s p q = bv Shl p q
 
-  like-amount : {b b' : Expr} (n : ℕ) → R b b' → R (Arith.signedAmount c b n) (Arith.signedAmount c' b' n)
+  like-amount : {b b' : Expr} (n : ℕ) → R b b' → R (Arith.signed_amount c b n) (Arith.signed_amount c' b' n)
   like-amount {b} {b'} n p = go (ltb 8 n)
     where
       go : (t : Bool) → R (cond t (SignExtend (c.bits b 7 0) n) b) (cond t (SignExtend (c'.bits b' 7 0) n) b')
@@ -139,11 +139,11 @@ module _ {R : Expr → Expr → Type 0} {c c' : Cutter} (k : Alike R c c') where
   like-shifted (LeftImmediate i to) s n p q = like-left-immediate to i n s p
   like-shifted (RightImmediate i t) s n p q = like-right n s t i p (const i n)
   like-shifted (Register t to) s n p q =
-      ite (compare Slt q (const 0 n)) (like-right n s t registerShiftMax p (bv Sub (const 0 n) q)) (like_left to n s p q)
+      ite (compare Slt q (const 0 n)) (like-right n s t register_shift_max p (bv Sub (const 0 n) q)) (like_left to n s p q)
 
   like-shift : {a a' b b' : Expr} (kind : ShiftKind) (s : Bool) (n : ℕ) → R a a' → R b b'
-      → R (Arith.shiftLane c kind s a b n) (Arith.shiftLane c' kind s a' b' n)
-  unfolding Arith.shiftLane
+      → R (Arith.shift_lane c kind s a b n) (Arith.shift_lane c' kind s a' b' n)
+  unfolding Arith.shift_lane
   like-shift kind s n p q = like-shifted kind s n p (like-amount n q)
 
   -- ---- bits
@@ -152,34 +152,34 @@ module _ {R : Expr → Expr → Type 0} {c c' : Cutter} (k : Alike R c c') where
   like-leading n zero p = const n n
   like-leading n (suc j) p = ite (compare Eq (bits j j (omega arith) p) (const 1 1)) (const _ _) (like-leading n j p)
 
-  like-count : {a a' : Expr} (n j : ℕ) → R a a' → R (Arith.populationCount c a n j) (Arith.populationCount c' a' n j)
-  unfolding Arith.populationCount
+  like-count : {a a' : Expr} (n j : ℕ) → R a a' → R (Arith.population_count c a n j) (Arith.population_count c' a' n j)
+  unfolding Arith.population_count
   like-count n zero p = const 0 n
   like-count n (suc j) p = bv Add (like-count n j p) (zext n (bits j j (omega arith) p))
 
   like-bitwise : {a a' : Expr} (kind : Arith.BitwiseUnary) (n : ℕ) → 2 ≤ n → R a a'
-      → R (Arith.bitwiseUnaryLane c kind a n) (Arith.bitwiseUnaryLane c' kind a' n)
-  unfolding Arith.bitwiseUnaryLane
+      → R (Arith.bitwise_unary_lane c kind a n) (Arith.bitwise_unary_lane c' kind a' n)
+  unfolding Arith.bitwise_unary_lane
   like-bitwise PopulationCount n h p = like-count n n p
   like-bitwise LeadingZeros n h p = like-leading n n p
   like-bitwise LeadingSignBits n h p = zext n (like-leading (n - 1) (n - 1) (bv Xor (bits (n - 1) 1 (omega arith) p) (bits (n - 1 - 1) 0 (omega arith) p)))
   like-bitwise ReverseBits n h p = like-lanes (n - 1) (λ j. bits (n - 1 - j) (n - 1 - j) (omega arith) p)
 
   -- ---- the other lanes
-  like-difference : {a a' b b' : Expr} (s : Bool) → R a a' → R b b' → R (absoluteDifferenceLane s a b) (absoluteDifferenceLane s a' b')
-  unfolding absoluteDifferenceLane
+  like-difference : {a a' b b' : Expr} (s : Bool) → R a a' → R b b' → R (absolute_difference_lane s a b) (absolute_difference_lane s a' b')
+  unfolding absolute_difference_lane
   like-difference s p q = ite (compare _ p q) (bv Sub q p) (bv Sub p q)
 
   like-accumulated : {d d' a a' : Expr} (t : Bool) → R d d' → R a a' → R (accumulated t d a) (accumulated t d' a')
   like-accumulated true p q = bv Add p q
   like-accumulated false p q = q
 
-  like-mixed : {d d' a a' : Expr} (s : Bool) (n : ℕ) → R d d' → R a a' → R (Arith.mixedSignAddLane c s d a n) (Arith.mixedSignAddLane c' s d' a' n)
-  unfolding Arith.mixedSignAddLane
+  like-mixed : {d d' a a' : Expr} (s : Bool) (n : ℕ) → R d d' → R a a' → R (Arith.mixed_sign_add_lane c s d a n) (Arith.mixed_sign_add_lane c' s d' a' n)
+  unfolding Arith.mixed_sign_add_lane
   like-mixed s n p q = like-clamp _ n _ (like-joined Add s (not s) _ p q)
 
-  like-product : {a a' b b' : Expr} (n : ℕ) → R a a' → R b b' → R (Arith.doublingProduct c a b n) (Arith.doublingProduct c' a' b' n)
-  unfolding Arith.doublingProduct
+  like-product : {a a' b b' : Expr} (n : ℕ) → R a a' → R b b' → R (Arith.doubling_product c a b n) (Arith.doubling_product c' a' b' n)
+  unfolding Arith.doubling_product
   like-product n p q = like-clamp _ n Signed (like-twice _ p q)
 
   like-combined : {d d' a a' : Expr} (t : Combine) (n : ℕ) → R d d' → R a a' → R (Arith.combined c t d a n) (Arith.combined c' t d' a' n)
@@ -187,20 +187,20 @@ module _ {R : Expr → Expr → Type 0} {c c' : Cutter} (k : Alike R c c') where
   like-combined (With op) n p q = like-clamp _ n Signed (like-joined op true true _ p q)
 
   like-long : {d d' a a' b b' : Expr} (t : Combine) (n : ℕ) → R d d' → R a a' → R b b'
-      → R (Arith.doublingLongLane c t d a b n) (Arith.doublingLongLane c' t d' a' b' n)
-  unfolding Arith.doublingLongLane
+      → R (Arith.doubling_long_lane c t d a b n) (Arith.doubling_long_lane c' t d' a' b' n)
+  unfolding Arith.doubling_long_lane
   like-long t n o p q = like-combined t n o (like-product n p q)
 
-  like-high : {a a' b b' : Expr} (s t : Bool) (n : ℕ) → 0 < n → R a a' → R b b' → R (Width.highNarrowLane c s t a b n) (Width.highNarrowLane c' s t a' b' n)
-  unfolding Width.highNarrowLane
+  like-high : {a a' b b' : Expr} (s t : Bool) (n : ℕ) → 0 < n → R a a' → R b b' → R (Width.high_narrow_lane c s t a b n) (Width.high_narrow_lane c' s t a' b' n)
+  unfolding Width.high_narrow_lane
   like-high s t n h p q = bits (n * 2 - 1) n (omega arith) (like-plus t _ _ (bv _ p q))
 
   -- ---- the families: whole vectors
-  like-kept : {new new' d d' : Expr} (t : Bool) (n m : ℕ) → R new new' → R d d' → R (Arith.keepLower c t new d n m) (Arith.keepLower c' t new' d' n m)
+  like-kept : {new new' d d' : Expr} (t : Bool) (n m : ℕ) → R new new' → R d d' → R (Arith.keep_lower c t new d n m) (Arith.keep_lower c' t new' d' n m)
   like-kept true n m p q = concat p (bits (n * m - 1) 0 (omega arith) q)
   like-kept false n m p q = p
 
-  some-source : (kind : SaturatingKind) (n : ℕ) → 0 < n → 0 < kindBits kind n
+  some-source : (kind : SaturatingKind) (n : ℕ) → 0 < n → 0 < kind_bits kind n
   some-source kind n h = go (narrowing kind)
     where
       go : (t : Bool) → 0 < cond t (n * 2) n
@@ -213,8 +213,8 @@ module _ {R : Expr → Expr → Type 0} {c c' : Cutter} (k : Alike R c c') where
 
     -- the term of every family
     pub like-value : (op : NeonOp) → R (Neon.value_of c op n m i d a b) (Neon.value_of c' op n m i d' a' b')
-    unfolding Arith.shift_lanes Arith.shiftInsertLanes Arith.mixedSignAddLanes Arith.doublingLongLanes Arith.saturatingLanes Arith.bitwiseUnaryLanes
-        Arith.absoluteDifferenceLanes Width.highNarrowLanes
+    unfolding Arith.shift_lanes Arith.shift_insert_lanes Arith.mixed_sign_add_lanes Arith.doubling_long_lanes Arith.saturating_lanes Arith.bitwise_unary_lanes
+        Arith.absolute_difference_lanes Width.high_narrow_lanes
     like-value (Shift kind s) = like-lanes (m - 1) (λ j. like-shift kind s n (like-lane n j some p) (like-lane n j some q))
     like-value (ShiftInsert left shift) = like-lanes (m - 1) (λ j. bv Or (bv _ (like-lane n j some p) (const _ _)) (bv And (like-lane n j some o) (const _ _)))
     like-value (MixedSignAdd s) = like-lanes (m - 1) (λ j. like-mixed s n (like-lane n j some o) (like-lane n j some p))
@@ -231,35 +231,35 @@ module _ {R : Expr → Expr → Type 0} {c c' : Cutter} (k : Alike R c c') where
 
   -- the term of an instruction
   pub like-result : (v : Op) (w : Arrangement) (i : ℕ) {d d' a a' b b' : Expr} → R d d' → R a a' → R b b'
-      → R (Neon.resultTree c v w i d a b) (Neon.resultTree c' v w i d' a' b')
-  unfolding Neon.resultTree
-  like-result v w i o p q = like-value (laneBits w) (laneCount v w) i (omega (arith, (sized w).eight)) o p q (neonOp v i (full w))
+      → R (Neon.result_tree c v w i d a b) (Neon.result_tree c' v w i d' a' b')
+  unfolding Neon.result_tree
+  like-result v w i o p q = like-value (bits_of_lane w) (lane_count v w) i (omega (arith, (sized w).eight)) o p q (neon_op v i (full w))
 
   -- ---- blocks
-  like-read : {a a' : Expr} (whole : Bool) → R a a' → R (Block.readTree c whole a) (Block.readTree c' whole a')
+  like-read : {a a' : Expr} (whole : Bool) → R a a' → R (Block.read_tree c whole a) (Block.read_tree c' whole a')
   like-read true p = p
   like-read false p = bits 63 0 (omega arith) p
 
-  like-widen : {a a' : Expr} (whole : Bool) → R a a' → R (widenTree whole a) (widenTree whole a')
+  like-widen : {a a' : Expr} (whole : Bool) → R a a' → R (widen_tree whole a) (widen_tree whole a')
   like-widen true p = p
   like-widen false p = zext 128 p
 
-  like-record : (e : Instruction) {t t' : ℕ → Expr} → ((r : ℕ) → R (t r) (t' r)) → R (Block.recordTree c e t) (Block.recordTree c' e t')
-  unfolding Block.recordTree
+  like-record : (e : Instruction) {t t' : ℕ → Expr} → ((r : ℕ) → R (t r) (t' r)) → R (Block.record_tree c e t) (Block.record_tree c' e t')
+  unfolding Block.record_tree
   like-record e p =
-      let o = opAt e.operation in
-      let v = arrangementAt e.arrangement in
+      let o = op_at e.operation in
+      let v = arrangement_at e.arrangement in
       let l = (form o).lanes in
       like-widen (full v)
-      (like-result o v e.i (like-read (full v) (p e.d)) (like-read (firstFull l (full v)) (p e.n))
-      (like-read (secondFull l (byElement o) (full v)) (p e.m)))
+      (like-result o v e.i (like-read (full v) (p e.d)) (like-read (first_full l (full v)) (p e.n))
+      (like-read (second_full l (by_element o) (full v)) (p e.m)))
 
   -- the terms of the registers after a list of records
-  pub like-run : (es : List Instruction) {t t' : ℕ → Expr} → ((r : ℕ) → R (t r) (t' r)) → (r : ℕ) → R (Block.treeRun c es t r) (Block.treeRun c' es t' r)
-  unfolding Block.treeRun Block.treeStep
+  pub like-run : (es : List Instruction) {t t' : ℕ → Expr} → ((r : ℕ) → R (t r) (t' r)) → (r : ℕ) → R (Block.tree_run c es t r) (Block.tree_run c' es t' r)
+  unfolding Block.tree_run Block.tree_step
   like-run [] p r = p r
   like-run (e ∷ es) {t} {t'} p r = like-run es (λ x. go x (eqb x e.d)) r
     where
-      go : (x : ℕ) (b : Bool) → R (cond b (Block.recordTree c e t) (t x)) (cond b (Block.recordTree c' e t') (t' x))
+      go : (x : ℕ) (b : Bool) → R (cond b (Block.record_tree c e t) (t x)) (cond b (Block.record_tree c' e t') (t' x))
       go x true = like-record e p
       go x false = p x

@@ -4,8 +4,8 @@ use mathlib.Core.Bool.{Bool, true, false, false≢true}
 use Prim.Native.Nat.{ℕ}
 use Rattle.terms.specs.Expr.{Expr}
 use Rattle.neon.specs.Op.{Op, Arrangement, full}
-use Rattle.neon.specs.Form.{hasSecond, readsD}
-use Rattle.trees.specs.Trees.{keepLower, resultTree}
+use Rattle.neon.specs.Form.{has_second, reads_d}
+use Rattle.trees.specs.Trees.{keep_lower, result_tree}
 use Rattle.trees.specs.Arith as Arith
 use Rattle.trees.specs.Width as Width
 use Rattle.trees.specs.Neon as Neon
@@ -13,9 +13,9 @@ use Rattle.trees.specs.Neon as Neon
 true≢false : true ≡ false → ⊥
 true≢false e = false≢true (sym e)
 
-pub unread-second : (o : Op) (v : Arrangement) (i : ℕ) (d a b b' : Expr) → hasSecond o ≡ false → resultTree o v i d a b ≡ resultTree o v i d a b'
-unfolding Neon.resultTree Arith.shift_lanes Arith.shiftLane Arith.shiftInsertLanes Arith.mixedSignAddLanes Arith.saturatingLanes
-    Arith.saturatingLane Arith.bitwiseUnaryLanes
+pub unread-second : (o : Op) (v : Arrangement) (i : ℕ) (d a b b' : Expr) → has_second o ≡ false → result_tree o v i d a b ≡ result_tree o v i d a b'
+unfolding Neon.result_tree Arith.shift_lanes Arith.shift_lane Arith.shift_insert_lanes Arith.mixed_sign_add_lanes Arith.saturating_lanes
+    Arith.saturating_lane Arith.bitwise_unary_lanes
 unread-second Op.SHL v i d a b b' h = refl
 unread-second Op.SQSHLI v i d a b b' h = refl
 unread-second Op.UQSHLI v i d a b b' h = refl
@@ -84,13 +84,13 @@ unread-second Op.RADDHN v i d a b b' h = absurd (true≢false h)
 unread-second Op.SUBHN v i d a b b' h = absurd (true≢false h)
 unread-second Op.RSUBHN v i d a b b' h = absurd (true≢false h)
 
-keep-unread : (f : Bool) → f ≡ false → (new d d' : Expr) (n k : ℕ) → keepLower f new d n k ≡ keepLower f new d' n k
+keep-unread : (f : Bool) → f ≡ false → (new d d' : Expr) (n k : ℕ) → keep_lower f new d n k ≡ keep_lower f new d' n k
 keep-unread true h new d d' n k = absurd (true≢false h)
 keep-unread false h new d d' n k = refl
 
-pub unread-old : (o : Op) (v : Arrangement) (i : ℕ) (d d' a b : Expr) → readsD o v ≡ false → resultTree o v i d a b ≡ resultTree o v i d' a b
-unfolding Neon.resultTree Arith.shift_lanes Arith.shiftInsertLanes Arith.mixedSignAddLanes Arith.doublingLongLanes Arith.doublingLongLane Arith.saturatingLanes
-    Arith.bitwiseUnaryLanes Arith.absoluteDifferenceLanes Width.highNarrowLanes
+pub unread-old : (o : Op) (v : Arrangement) (i : ℕ) (d d' a b : Expr) → reads_d o v ≡ false → result_tree o v i d a b ≡ result_tree o v i d' a b
+unfolding Neon.result_tree Arith.shift_lanes Arith.shift_insert_lanes Arith.mixed_sign_add_lanes Arith.doubling_long_lanes Arith.doubling_long_lane Arith.saturating_lanes
+    Arith.bitwise_unary_lanes Arith.absolute_difference_lanes Width.high_narrow_lanes
 unread-old Op.SHL v i d d' a b h = refl
 unread-old Op.SQSHLI v i d d' a b h = refl
 unread-old Op.UQSHLI v i d d' a b h = refl

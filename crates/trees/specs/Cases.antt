@@ -3,17 +3,17 @@ use Rattle.std.specs.Prelude.{Bool, true, false, ◌&&◌, List, [], ◌∷◌, 
 use Rattle.terms.specs.Expr.{Const}
 use Rattle.terms.specs.Value.{value}
 use Rattle.neon.specs.Op.{Op}
-use Rattle.neon.specs.Form.{form, sourceBits}
-use Rattle.neon.specs.Arm.{armLane}
-use Rattle.trees.specs.Neon.{neonOp}
+use Rattle.neon.specs.Form.{form, source_bits}
+use Rattle.neon.specs.Arm.{arm_lane}
+use Rattle.trees.specs.Neon.{neon_op}
 use Rattle.trees.specs.Trees.{value_of}
 
 -- an operation, the bits n of a lane, the immediate i, the old lane d, the source lanes a and b, and the lane of the result
 pub data Case : Type 0 where
   case : Op → (n i d a b result : ℕ) → Case
 
-abbrev pub setP : List Case
-setP =
+abbrev pub set_p : List Case
+set_p =
     case Op.SQADD 8 0 0 0x7f 0x01 0x7f
     ∷ case Op.SQSUB 8 0 0 0x80 0x01 0x80
     ∷ case Op.UQSUB 8 0 0 3 5 0
@@ -54,15 +54,15 @@ faults =
 -- the result is the Arm value, and the value of the term of one lane
 unfoldable pub gives : Case → Bool
 gives (case o n i d a b result) =
-    let m = sourceBits (form o).lanes n in
-    eqb (armLane o n i d a b) result && eqb (value (λ x. 0) (value_of (neonOp o i false) n 1 i (Const d n) (Const a m) (Const b m))) result
+    let m = source_bits (form o).lanes n in
+    eqb (arm_lane o n i d a b) result && eqb (value (λ x. 0) (value_of (neon_op o i false) n 1 i (Const d n) (Const a m) (Const b m))) result
 
 abbrev pub every : (Case → Bool) → List Case → Bool
 every f [] = true
 every f (c ∷ cs) = f c && every f cs
 
 abbrev pub SetP : Type 0
-SetP = every gives setP ≡ true
+SetP = every gives set_p ≡ true
 
 abbrev pub NoFault : Type 0
 NoFault = every gives faults ≡ true

@@ -7,5 +7,5 @@ abbrev pub extend : Expr → ℕ → Bool → Expr
 extend v to signed = cond signed (SignExtend v to) (ZeroExtend v to)
 
 -- `unsigned_max`
-abbrev pub unsignedMax : ℕ → ℕ
-unsignedMax bits = 2 ^ bits - 1
+abbrev pub unsigned_max : ℕ → ℕ
+unsigned_max bits = 2 ^ bits - 1

@@ -12,21 +12,21 @@ pub record Cutter : Type 0 where
 -- ---- the Rust's cutter
 
 -- the Rust's `extract_collapsing`: a cut inside a cut from bit 0 is a cut of what that one is cut from; this is done once, and other cuts stay
-abbrev pub extractOnce : Expr → (hi lo : ℕ) → Expr
-extractOnce (Extract x innerHi innerLo) hi lo =
+abbrev pub extract_once : Expr → (hi lo : ℕ) → Expr
+extract_once (Extract x innerHi innerLo) hi lo =
     cond (eqb innerLo 0 && leb hi innerHi) (Extract x hi lo) (Extract (Extract x innerHi innerLo) hi lo)
-extractOnce (Var r) hi lo = Extract (Var r) hi lo
-extractOnce (Const v w) hi lo = Extract (Const v w) hi lo
-extractOnce (Bv o a b) hi lo = Extract (Bv o a b) hi lo
-extractOnce (Compare o a b) hi lo = Extract (Compare o a b) hi lo
-extractOnce (Ite c a b) hi lo = Extract (Ite c a b) hi lo
-extractOnce (Concat a b) hi lo = Extract (Concat a b) hi lo
-extractOnce (ZeroExtend a w) hi lo = Extract (ZeroExtend a w) hi lo
-extractOnce (SignExtend a w) hi lo = Extract (SignExtend a w) hi lo
+extract_once (Var r) hi lo = Extract (Var r) hi lo
+extract_once (Const v w) hi lo = Extract (Const v w) hi lo
+extract_once (Bv o a b) hi lo = Extract (Bv o a b) hi lo
+extract_once (Compare o a b) hi lo = Extract (Compare o a b) hi lo
+extract_once (Ite c a b) hi lo = Extract (Ite c a b) hi lo
+extract_once (Concat a b) hi lo = Extract (Concat a b) hi lo
+extract_once (ZeroExtend a w) hi lo = Extract (ZeroExtend a w) hi lo
+extract_once (SignExtend a w) hi lo = Extract (SignExtend a w) hi lo
 
 -- lanes by `extract_collapsing`, all else by `Expr::extract`
 abbrev pub rust : Cutter
-rust = record { lane = extractOnce; bits = λ x hi lo. Extract x hi lo }
+rust = record { lane = extract_once; bits = λ x hi lo. Extract x hi lo }
 
 -- ---- the cutter of this port
 
@@ -35,29 +35,29 @@ abbrev pub inside : (hi innerHi innerLo : ℕ) → Bool
 inside hi innerHi innerLo = leb (hi + innerLo) innerHi
 
 -- a cut of a cut rises by the inner lo, until its operand is no Extract. What joining leaves is said in Joined.antt.
-abbrev pub extractCollapsing : Expr → ℕ → ℕ → Expr
-extractCollapsing (Extract x innerHi innerLo) hi lo =
-    cond (inside hi innerHi innerLo) (extractCollapsing x (hi + innerLo) (lo + innerLo)) (Extract (Extract x innerHi innerLo) hi lo)
-extractCollapsing (Var r) hi lo = Extract (Var r) hi lo
-extractCollapsing (Const v w) hi lo = Extract (Const v w) hi lo
-extractCollapsing (Bv o a b) hi lo = Extract (Bv o a b) hi lo
-extractCollapsing (Compare o a b) hi lo = Extract (Compare o a b) hi lo
-extractCollapsing (Ite c a b) hi lo = Extract (Ite c a b) hi lo
-extractCollapsing (Concat a b) hi lo = Extract (Concat a b) hi lo
-extractCollapsing (ZeroExtend a w) hi lo = Extract (ZeroExtend a w) hi lo
-extractCollapsing (SignExtend a w) hi lo = Extract (SignExtend a w) hi lo
+abbrev pub extract_collapsing : Expr → ℕ → ℕ → Expr
+extract_collapsing (Extract x innerHi innerLo) hi lo =
+    cond (inside hi innerHi innerLo) (extract_collapsing x (hi + innerLo) (lo + innerLo)) (Extract (Extract x innerHi innerLo) hi lo)
+extract_collapsing (Var r) hi lo = Extract (Var r) hi lo
+extract_collapsing (Const v w) hi lo = Extract (Const v w) hi lo
+extract_collapsing (Bv o a b) hi lo = Extract (Bv o a b) hi lo
+extract_collapsing (Compare o a b) hi lo = Extract (Compare o a b) hi lo
+extract_collapsing (Ite c a b) hi lo = Extract (Ite c a b) hi lo
+extract_collapsing (Concat a b) hi lo = Extract (Concat a b) hi lo
+extract_collapsing (ZeroExtend a w) hi lo = Extract (ZeroExtend a w) hi lo
+extract_collapsing (SignExtend a w) hi lo = Extract (SignExtend a w) hi lo
 
 -- every cut joins
 abbrev pub joining : Cutter
-joining = record { lane = extractCollapsing; bits = extractCollapsing }
+joining = record { lane = extract_collapsing; bits = extract_collapsing }
 
 -- ---- lanes
 
 -- `extract_lane`: lane j, of n bits
-unfoldable pub extractLane : Cutter → Expr → ℕ → ℕ → Expr
-extractLane cut v n j = cut.lane v (n * j + n - 1) (n * j)
+unfoldable pub extract_lane : Cutter → Expr → ℕ → ℕ → Expr
+extract_lane cut v n j = cut.lane v (n * j + n - 1) (n * j)
 
 -- `concat_lanes`: the lanes 0 to last, the first lowest
-unfoldable pub concatLanes : ℕ → (ℕ → Expr) → Expr
-concatLanes zero f = f zero
-concatLanes (suc last) f = Concat (f (suc last)) (concatLanes last f)
+unfoldable pub concat_lanes : ℕ → (ℕ → Expr) → Expr
+concat_lanes zero f = f zero
+concat_lanes (suc last) f = Concat (f (suc last)) (concat_lanes last f)

@@ -16,8 +16,8 @@ use Rattle.trees.specs.Block as Block
 
 -- ---- simd.rs
 
-abbrev pub extractLane : Expr → ℕ → ℕ → Expr
-extractLane = Simd.extractLane joining
+abbrev pub extract_lane : Expr → ℕ → ℕ → Expr
+extract_lane = Simd.extract_lane joining
 
 -- ---- arith.rs
 
@@ -27,128 +27,128 @@ clamp = Arith.clamp joining
 abbrev pub narrowed : (value : Expr) (wide n : ℕ) → Saturate → Expr
 narrowed = Arith.narrowed joining
 
-abbrev pub saturatingLane : SaturatingKind → (a b : Expr) (n : ℕ) (signed : Bool) → Expr
-saturatingLane = Arith.saturatingLane joining
+abbrev pub saturating_lane : SaturatingKind → (a b : Expr) (n : ℕ) (signed : Bool) → Expr
+saturating_lane = Arith.saturating_lane joining
 
-abbrev pub shiftRight : (value amount : Expr) (n : ℕ) (signed rounding : Bool) (most : ℕ) → Expr
-shiftRight = Arith.shiftRight joining
+abbrev pub shift_right : (value amount : Expr) (n : ℕ) (signed rounding : Bool) (most : ℕ) → Expr
+shift_right = Arith.shift_right joining
 
-abbrev pub leftImmediate : (saturate : Saturate) (value : Expr) (shift n : ℕ) (signed : Bool) → Expr
-leftImmediate = Arith.leftImmediate joining
+abbrev pub left_immediate : (saturate : Saturate) (value : Expr) (shift n : ℕ) (signed : Bool) → Expr
+left_immediate = Arith.left_immediate joining
 
-abbrev pub signedAmount : Expr → ℕ → Expr
-signedAmount = Arith.signedAmount joining
+abbrev pub signed_amount : Expr → ℕ → Expr
+signed_amount = Arith.signed_amount joining
 
 abbrev pub shifted_by : ShiftKind → (signed : Bool) (value by : Expr) (n : ℕ) → Expr
 shifted_by = Arith.shifted_by joining
 
-abbrev pub shiftLane : ShiftKind → (signed : Bool) (value amount : Expr) (n : ℕ) → Expr
-shiftLane = Arith.shiftLane joining
+abbrev pub shift_lane : ShiftKind → (signed : Bool) (value amount : Expr) (n : ℕ) → Expr
+shift_lane = Arith.shift_lane joining
 
-abbrev pub zerosAt : (n : ℕ) (v : Expr) → ℕ → Expr → Expr
-zerosAt = Arith.zerosAt joining
+abbrev pub zeros_at : (n : ℕ) (v : Expr) → ℕ → Expr → Expr
+zeros_at = Arith.zeros_at joining
 
-abbrev pub countAt : (n : ℕ) (v : Expr) → ℕ → Expr → Expr
-countAt = Arith.countAt joining
+abbrev pub count_bit_at : (n : ℕ) (v : Expr) → ℕ → Expr → Expr
+count_bit_at = Arith.count_bit_at joining
 
 abbrev pub leading_zeros : Expr → ℕ → ℕ → Expr
 leading_zeros = Arith.leading_zeros joining
 
-abbrev pub populationCount : Expr → ℕ → ℕ → Expr
-populationCount = Arith.populationCount joining
+abbrev pub population_count : Expr → ℕ → ℕ → Expr
+population_count = Arith.population_count joining
 
-abbrev pub bitwiseUnaryLane : BitwiseUnary → Expr → ℕ → Expr
-bitwiseUnaryLane = Arith.bitwiseUnaryLane joining
+abbrev pub bitwise_unary_lane : BitwiseUnary → Expr → ℕ → Expr
+bitwise_unary_lane = Arith.bitwise_unary_lane joining
 
-abbrev pub mixedSignAddLane : (signed : Bool) (d a : Expr) (n : ℕ) → Expr
-mixedSignAddLane = Arith.mixedSignAddLane joining
+abbrev pub mixed_sign_add_lane : (signed : Bool) (d a : Expr) (n : ℕ) → Expr
+mixed_sign_add_lane = Arith.mixed_sign_add_lane joining
 
-abbrev pub doublingProduct : (a b : Expr) (n : ℕ) → Expr
-doublingProduct = Arith.doublingProduct joining
+abbrev pub doubling_product : (a b : Expr) (n : ℕ) → Expr
+doubling_product = Arith.doubling_product joining
 
 abbrev pub combined : Combine → (d product : Expr) (n : ℕ) → Expr
 combined = Arith.combined joining
 
-abbrev pub doublingLongLane : Combine → (d a b : Expr) (n : ℕ) → Expr
-doublingLongLane = Arith.doublingLongLane joining
+abbrev pub doubling_long_lane : Combine → (d a b : Expr) (n : ℕ) → Expr
+doubling_long_lane = Arith.doubling_long_lane joining
 
-abbrev pub shiftAt : ShiftKind → (signed : Bool) (n : ℕ) (a b : Expr) → ℕ → Expr
-shiftAt = Arith.shiftAt joining
+abbrev pub shift_at : ShiftKind → (signed : Bool) (n : ℕ) (a b : Expr) → ℕ → Expr
+shift_at = Arith.shift_at joining
 
 abbrev pub shift_lanes : ShiftKind → (signed : Bool) (first second : Expr) (n k : ℕ) → Expr
 shift_lanes = Arith.shift_lanes joining
 
-abbrev pub insertAt : (left : Bool) (kept n : ℕ) (d a amount : Expr) → ℕ → Expr
-insertAt = Arith.insertAt joining
+abbrev pub insert_at : (left : Bool) (kept n : ℕ) (d a amount : Expr) → ℕ → Expr
+insert_at = Arith.insert_at joining
 
-abbrev pub shiftInsertLanes : (left : Bool) (shift : ℕ) (first d : Expr) (n k : ℕ) → Expr
-shiftInsertLanes = Arith.shiftInsertLanes joining
+abbrev pub shift_insert_lanes : (left : Bool) (shift : ℕ) (first d : Expr) (n k : ℕ) → Expr
+shift_insert_lanes = Arith.shift_insert_lanes joining
 
-abbrev pub mixedAt : (signed : Bool) (n : ℕ) (d a : Expr) → ℕ → Expr
-mixedAt = Arith.mixedAt joining
+abbrev pub mixed_at : (signed : Bool) (n : ℕ) (d a : Expr) → ℕ → Expr
+mixed_at = Arith.mixed_at joining
 
-abbrev pub mixedSignAddLanes : (signed : Bool) (first d : Expr) (n k : ℕ) → Expr
-mixedSignAddLanes = Arith.mixedSignAddLanes joining
+abbrev pub mixed_sign_add_lanes : (signed : Bool) (first d : Expr) (n k : ℕ) → Expr
+mixed_sign_add_lanes = Arith.mixed_sign_add_lanes joining
 
-abbrev pub doublingAt : Combine → (upper : Bool) (n k : ℕ) (d a b : Expr) → ℕ → Expr
-doublingAt = Arith.doublingAt joining
+abbrev pub doubling_at : Combine → (upper : Bool) (n k : ℕ) (d a b : Expr) → ℕ → Expr
+doubling_at = Arith.doubling_at joining
 
-abbrev pub doublingLongLanes : Combine → (upper byElement : Bool) (i : ℕ) (first second d : Expr) (n k : ℕ) → Expr
-doublingLongLanes = Arith.doublingLongLanes joining
+abbrev pub doubling_long_lanes : Combine → (upper by_element : Bool) (i : ℕ) (first second d : Expr) (n k : ℕ) → Expr
+doubling_long_lanes = Arith.doubling_long_lanes joining
 
-abbrev pub saturatingAt : SaturatingKind → (signed : Bool) (n : ℕ) (a b : Expr) → ℕ → Expr
-saturatingAt = Arith.saturatingAt joining
+abbrev pub saturating_at : SaturatingKind → (signed : Bool) (n : ℕ) (a b : Expr) → ℕ → Expr
+saturating_at = Arith.saturating_at joining
 
-abbrev pub keepLower : (upper : Bool) (new d : Expr) (n k : ℕ) → Expr
-keepLower = Arith.keepLower joining
+abbrev pub keep_lower : (upper : Bool) (new d : Expr) (n k : ℕ) → Expr
+keep_lower = Arith.keep_lower joining
 
-abbrev pub saturatingLanes : SaturatingKind → (signed upper : Bool) (first second d : Expr) (n k : ℕ) → Expr
-saturatingLanes = Arith.saturatingLanes joining
+abbrev pub saturating_lanes : SaturatingKind → (signed upper : Bool) (first second d : Expr) (n k : ℕ) → Expr
+saturating_lanes = Arith.saturating_lanes joining
 
-abbrev pub bitwiseAt : BitwiseUnary → (n : ℕ) (a : Expr) → ℕ → Expr
-bitwiseAt = Arith.bitwiseAt joining
+abbrev pub bitwise_at : BitwiseUnary → (n : ℕ) (a : Expr) → ℕ → Expr
+bitwise_at = Arith.bitwise_at joining
 
-abbrev pub bitwiseUnaryLanes : BitwiseUnary → (first : Expr) (n k : ℕ) → Expr
-bitwiseUnaryLanes = Arith.bitwiseUnaryLanes joining
+abbrev pub bitwise_unary_lanes : BitwiseUnary → (first : Expr) (n k : ℕ) → Expr
+bitwise_unary_lanes = Arith.bitwise_unary_lanes joining
 
-abbrev pub differenceAt : (signed accumulate : Bool) (n : ℕ) (d a b : Expr) → ℕ → Expr
-differenceAt = Arith.differenceAt joining
+abbrev pub difference_at : (signed accumulate : Bool) (n : ℕ) (d a b : Expr) → ℕ → Expr
+difference_at = Arith.difference_at joining
 
-abbrev pub absoluteDifferenceLanes : (signed accumulate : Bool) (first second d : Expr) (n k : ℕ) → Expr
-absoluteDifferenceLanes = Arith.absoluteDifferenceLanes joining
+abbrev pub absolute_difference_lanes : (signed accumulate : Bool) (first second d : Expr) (n k : ℕ) → Expr
+absolute_difference_lanes = Arith.absolute_difference_lanes joining
 
 -- ---- width.rs
 
-abbrev pub highNarrowLane : (subtract rounding : Bool) (a b : Expr) (n : ℕ) → Expr
-highNarrowLane = Width.highNarrowLane joining
+abbrev pub high_narrow_lane : (subtract rounding : Bool) (a b : Expr) (n : ℕ) → Expr
+high_narrow_lane = Width.high_narrow_lane joining
 
-abbrev pub highAt : (subtract rounding : Bool) (n : ℕ) (a b : Expr) → ℕ → Expr
-highAt = Width.highAt joining
+abbrev pub high_at : (subtract rounding : Bool) (n : ℕ) (a b : Expr) → ℕ → Expr
+high_at = Width.high_at joining
 
-abbrev pub highNarrowLanes : (subtract rounding upper : Bool) (first second d : Expr) (n k : ℕ) → Expr
-highNarrowLanes = Width.highNarrowLanes joining
+abbrev pub high_narrow_lanes : (subtract rounding upper : Bool) (first second d : Expr) (n k : ℕ) → Expr
+high_narrow_lanes = Width.high_narrow_lanes joining
 
 -- ---- lower.rs
 
 abbrev pub value_of : NeonOp → (n k i : ℕ) (d first second : Expr) → Expr
 value_of = Neon.value_of joining
 
-abbrev pub neonValue : NeonShape → (d first second : Expr) → Expr
-neonValue = Neon.neonValue joining
+abbrev pub neon_value : NeonShape → (d first second : Expr) → Expr
+neon_value = Neon.neon_value joining
 
-abbrev pub resultTree : Op → Arrangement → (i : ℕ) (d first second : Expr) → Expr
-resultTree = Neon.resultTree joining
+abbrev pub result_tree : Op → Arrangement → (i : ℕ) (d first second : Expr) → Expr
+result_tree = Neon.result_tree joining
 
 -- ---- a block
 
-abbrev pub readTree : Bool → Expr → Expr
-readTree = Block.readTree joining
+abbrev pub read_tree : Bool → Expr → Expr
+read_tree = Block.read_tree joining
 
-abbrev pub recordTree : Instruction → (ℕ → Expr) → Expr
-recordTree = Block.recordTree joining
+abbrev pub record_tree : Instruction → (ℕ → Expr) → Expr
+record_tree = Block.record_tree joining
 
-abbrev pub treeStep : Instruction → (ℕ → Expr) → ℕ → Expr
-treeStep = Block.treeStep joining
+abbrev pub tree_step : Instruction → (ℕ → Expr) → ℕ → Expr
+tree_step = Block.tree_step joining
 
-abbrev pub treeRun : List Instruction → (ℕ → Expr) → ℕ → Expr
-treeRun = Block.treeRun joining
+abbrev pub tree_run : List Instruction → (ℕ → Expr) → ℕ → Expr
+tree_run = Block.tree_run joining

@@ -4,7 +4,7 @@ use neon::Lane;
 use terms::BinOp;
 
 // The range that a value is clamped into.
-#[derive(Drop)]
+#[derive(Clone, Copy)]
 pub enum SaturateTo {
     Signed,
     Unsigned,
@@ -12,14 +12,14 @@ pub enum SaturateTo {
 }
 
 // The Rust's Option<SaturateTo>: bits that do not fit are dropped, or the value is clamped.
-#[derive(Drop)]
+#[derive(Clone, Copy)]
 pub enum Saturate {
     Never,
     Into(SaturateTo),
 }
 
 // The shifts whose source and destination lanes have one width.
-#[derive(Drop)]
+#[derive(Clone, Copy)]
 pub enum ShiftKind {
     LeftImmediate { shift: u64, saturate: Saturate },
     RightImmediate { shift: u64, rounding: bool },
@@ -27,7 +27,7 @@ pub enum ShiftKind {
 }
 
 // The saturating, halving and narrowing lane operations.
-#[derive(Drop)]
+#[derive(Clone, Copy)]
 pub enum SaturatingKind {
     AddSub {
         op: BinOp,
@@ -53,7 +53,7 @@ pub enum SaturatingKind {
 }
 
 // The functions of a lane's own bits.
-#[derive(Drop)]
+#[derive(Clone, Copy)]
 pub enum BitwiseUnary {
     PopulationCount,
     LeadingZeros,
@@ -62,7 +62,7 @@ pub enum BitwiseUnary {
 }
 
 // The Rust's Option<BinOp>: what joins a doubled product to the old destination.
-#[derive(Drop)]
+#[derive(Clone, Copy)]
 pub enum Combine {
     Nothing,
     With(BinOp),
@@ -70,7 +70,7 @@ pub enum Combine {
 
 // The families, each with its arguments. The Rust's AbsDiffKind has a float kind too, which is left aside, so its integer
 // kind is given here by its two flags.
-#[derive(Drop)]
+#[derive(Clone, Copy)]
 pub enum NeonOp {
     Shift {
         kind: ShiftKind,
@@ -106,7 +106,7 @@ pub enum NeonOp {
 }
 
 // A family at its lanes. `source_index` is the number of an element.
-#[derive(Drop)]
+#[derive(Clone, Copy)]
 pub struct NeonShape {
     pub op: NeonOp,
     pub lane_bits: u64,

@@ -9,23 +9,23 @@ use lib.Dec.{eqb}
 use Rattle.terms.specs.Expr.{Expr, Var}
 use Rattle.terms.specs.Value.{value}
 use Rattle.neon.specs.declared.Instruction.{Instruction}
-use Rattle.neon.specs.Op.{opAt, arrangementAt, full}
-use Rattle.neon.specs.Form.{form, firstFull, secondFull, byElement}
-use Rattle.neon.specs.Run.{update, readBits, armStep, armRun}
+use Rattle.neon.specs.Op.{op_at, arrangement_at, full}
+use Rattle.neon.specs.Form.{form, first_full, second_full, by_element}
+use Rattle.neon.specs.Run.{update, read_bits, arm_step, arm_run}
 use Rattle.neon.specs.Refusal.{Legal, AllLegal}
 use Rattle.neon.proofs.Legal.{accepted}
-use Rattle.trees.specs.Block.{widenTree}
-use Rattle.trees.specs.Trees.{readTree, treeStep, treeRun}
+use Rattle.trees.specs.Block.{widen_tree}
+use Rattle.trees.specs.Trees.{read_tree, tree_step, tree_run}
 use Rattle.trees.specs.Block as Block
 use Rattle.trees_value.proofs.Lanes.{cut-value}
 use Rattle.trees_value.proofs.Whole.{result-is}
 
 module _ (start : ℕ → ℕ) where
-  pub read_is : (t : Bool) (e : Expr) → value start (readTree t e) ≡ readBits t (value start e)
+  pub read_is : (t : Bool) (e : Expr) → value start (read_tree t e) ≡ read_bits t (value start e)
   read_is true e = refl
   read_is false e = cut-value start e 63 0 (omega arith) ∙ ap (λ (x : ℕ). x % 2 ^ 64) (div-one (value start e))
 
-  widen-is : (t : Bool) (e : Expr) → value start (widenTree t e) ≡ value start e
+  widen-is : (t : Bool) (e : Expr) → value start (widen_tree t e) ≡ value start e
   unfolding value
   widen-is true e = refl
   widen-is false e = refl
@@ -37,23 +37,23 @@ module _ (start : ℕ → ℕ) where
       go true = refl
       go false = refl
 
-  pub step_is : (c : Instruction) → Legal c → (t : ℕ → Expr) (x : ℕ) → value start (treeStep c t x) ≡ armStep c (λ y. value start (t y)) x
-  unfolding Block.treeStep Block.recordTree armStep
+  pub step_is : (c : Instruction) → Legal c → (t : ℕ → Expr) (x : ℕ) → value start (tree_step c t x) ≡ arm_step c (λ y. value start (t y)) x
+  unfolding Block.tree_step Block.record_tree arm_step
   step_is c k t x =
-      let o = opAt c.operation in
-      let v = arrangementAt c.arrangement in
+      let o = op_at c.operation in
+      let v = arrangement_at c.arrangement in
       let l = (form o).lanes in
       let f = (accepted c k).form_of in
       update-is c.d _ t x
       ∙ ap (λ (k : ℕ). update c.d k (λ y. value start (t y)) x)
       (widen-is (full v) _ ∙ (result-is start o v c.i _ _ _ f.low f.high).val
-      ∙ rw (read_is (full v) (t c.d), read_is (firstFull l (full v)) (t c.n), read_is (secondFull l (byElement o) (full v)) (t c.m)))
+      ∙ rw (read_is (full v) (t c.d), read_is (first_full l (full v)) (t c.n), read_is (second_full l (by_element o) (full v)) (t c.m)))
 
-  pub run_is : (cs : List Instruction) → AllLegal cs → (t : ℕ → Expr) (x : ℕ) → value start (treeRun cs t x) ≡ armRun cs (λ y. value start (t y)) x
-  unfolding Block.treeRun armRun
+  pub run_is : (cs : List Instruction) → AllLegal cs → (t : ℕ → Expr) (x : ℕ) → value start (tree_run cs t x) ≡ arm_run cs (λ y. value start (t y)) x
+  unfolding Block.tree_run arm_run
   run_is [] l t x = refl
-  run_is (c ∷ cs) l t x = run_is cs l.1 (treeStep c t) x ∙ ap (λ (r : ℕ → ℕ). armRun cs r x) (fun_ext (step_is c l.0 t))
+  run_is (c ∷ cs) l t x = run_is cs l.1 (tree_step c t) x ∙ ap (λ (r : ℕ → ℕ). arm_run cs r x) (fun_ext (step_is c l.0 t))
 
-  pub block-is : (cs : List Instruction) → AllLegal cs → (x : ℕ) → value start (treeRun cs Var x) ≡ armRun cs start x
+  pub block-is : (cs : List Instruction) → AllLegal cs → (x : ℕ) → value start (tree_run cs Var x) ≡ arm_run cs start x
   unfolding value
   block-is cs l x = run_is cs l Var x

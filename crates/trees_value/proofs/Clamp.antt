@@ -10,7 +10,7 @@ use lib.Pow.{pow_pos, pow_mono}
 use lib.IntN.{ℤ, pos, negsuc, neg_ℤ, ◌-ℤ◌}
 use lib.Signed.{lt_z, shr_z}
 use Rattle.terms.specs.Expr.{Expr}
-use Rattle.neon.specs.Arm.{wrap, U, S, clampZ, cS, cU}
+use Rattle.neon.specs.Arm.{wrap, U, S, clamp_z, c_s, c_u}
 use Rattle.trees.specs.Trees.{clamp}
 use Rattle.trees.specs.Arith as Arith
 use Rattle.trees.specs.declared.SaturateTo.TheVariants.{Signed, Unsigned, SignedToUnsigned}
@@ -79,46 +79,46 @@ reading-is s n z hn f =
     same s n (reading s n (wrap n z)) z hn (reading-fits s n (wrap n z) hn (wrap-lt n z)) f (reading-wrap s n (wrap n z) (wrap-lt n z))
 
 -- ---- the clamp by a flag
-abbrev pub clampTo : Bool → ℕ → ℤ → ℤ
-clampTo true n z = cS n z
-clampTo false n z = cU n z
+abbrev pub clamp_to : Bool → ℕ → ℤ → ℤ
+clamp_to true n z = c_s n z
+clamp_to false n z = c_u n z
 
-clampZ-in : (lo hi z : ℤ) → up lo + dn z ≤ up z + dn lo → up z + dn hi ≤ up hi + dn z → clampZ lo hi z ≡ z
-unfolding clampZ
-clampZ-in lo hi z l h = rw (ge-is z lo l, ge-is hi z h)
+clamp_z-in : (lo hi z : ℤ) → up lo + dn z ≤ up z + dn lo → up z + dn hi ≤ up hi + dn z → clamp_z lo hi z ≡ z
+unfolding clamp_z
+clamp_z-in lo hi z l h = rw (ge-is z lo l, ge-is hi z h)
 
-pub clamp-in : (s : Bool) (n : ℕ) (z : ℤ) → Fits s n z → clampTo s n z ≡ z
-unfolding cS cU
+pub clamp-in : (s : Bool) (n : ℕ) (z : ℤ) → Fits s n z → clamp_to s n z ≡ z
+unfolding c_s c_u
 clamp-in true n z f =
-    clampZ-in (neg_ℤ (pos (2 ^ (n - 1)))) (pos (2 ^ (n - 1) - 1)) z
+    clamp_z-in (neg_ℤ (pos (2 ^ (n - 1)))) (pos (2 ^ (n - 1) - 1)) z
     (omega (arith, neg-up (pos (2 ^ (n - 1))), neg-dn (pos (2 ^ (n - 1))))) (omega arith)
-clamp-in false n z f = clampZ-in (pos 0) (pos (2 ^ n - 1)) z (omega arith) (omega arith)
+clamp-in false n z f = clamp_z-in (pos 0) (pos (2 ^ n - 1)) z (omega arith) (omega arith)
 
-clampZ-low : (lo hi z : ℤ) → up z + dn lo < up lo + dn z → clampZ lo hi z ≡ lo
-unfolding clampZ
-clampZ-low lo hi z h = rw (lt-is z lo h)
+clamp_z-low : (lo hi z : ℤ) → up z + dn lo < up lo + dn z → clamp_z lo hi z ≡ lo
+unfolding clamp_z
+clamp_z-low lo hi z h = rw (lt-is z lo h)
 
-clampZ-high : (lo hi z : ℤ) → up lo + dn z ≤ up z + dn lo → up hi + dn z < up z + dn hi → clampZ lo hi z ≡ hi
-unfolding clampZ
-clampZ-high lo hi z l h = rw (ge-is z lo l, lt-is hi z h)
+clamp_z-high : (lo hi z : ℤ) → up lo + dn z ≤ up z + dn lo → up hi + dn z < up z + dn hi → clamp_z lo hi z ≡ hi
+unfolding clamp_z
+clamp_z-high lo hi z l h = rw (ge-is z lo l, lt-is hi z h)
 
-pub low-S : (n : ℕ) (z : ℤ) → up z + 2 ^ (n - 1) < dn z → cS n z ≡ neg_ℤ (pos (2 ^ (n - 1)))
-unfolding cS
-low-S n z h = clampZ-low (neg_ℤ (pos (2 ^ (n - 1)))) (pos (2 ^ (n - 1) - 1)) z (omega (arith, neg-up (pos (2 ^ (n - 1))), neg-dn (pos (2 ^ (n - 1)))))
+pub low-S : (n : ℕ) (z : ℤ) → up z + 2 ^ (n - 1) < dn z → c_s n z ≡ neg_ℤ (pos (2 ^ (n - 1)))
+unfolding c_s
+low-S n z h = clamp_z-low (neg_ℤ (pos (2 ^ (n - 1)))) (pos (2 ^ (n - 1) - 1)) z (omega (arith, neg-up (pos (2 ^ (n - 1))), neg-dn (pos (2 ^ (n - 1)))))
 
-pub high-S : (n : ℕ) (z : ℤ) → dn z + 2 ^ (n - 1) ≤ up z → cS n z ≡ pos (2 ^ (n - 1) - 1)
-unfolding cS
+pub high-S : (n : ℕ) (z : ℤ) → dn z + 2 ^ (n - 1) ≤ up z → c_s n z ≡ pos (2 ^ (n - 1) - 1)
+unfolding c_s
 high-S n z h =
-    clampZ-high (neg_ℤ (pos (2 ^ (n - 1)))) (pos (2 ^ (n - 1) - 1)) z
+    clamp_z-high (neg_ℤ (pos (2 ^ (n - 1)))) (pos (2 ^ (n - 1) - 1)) z
     (omega (arith, neg-up (pos (2 ^ (n - 1))), neg-dn (pos (2 ^ (n - 1))))) (omega (arith, pow_pos (n - 1)))
 
-pub high-U : (n : ℕ) (z : ℤ) → dn z + 2 ^ n ≤ up z → cU n z ≡ pos (2 ^ n - 1)
-unfolding cU
-high-U n z h = clampZ-high (pos 0) (pos (2 ^ n - 1)) z (omega arith) (omega (arith, pow_pos n))
+pub high-U : (n : ℕ) (z : ℤ) → dn z + 2 ^ n ≤ up z → c_u n z ≡ pos (2 ^ n - 1)
+unfolding c_u
+high-U n z h = clamp_z-high (pos 0) (pos (2 ^ n - 1)) z (omega arith) (omega (arith, pow_pos n))
 
 -- a clamped integer fits: for a second sum
-pub clamp-fits : (n : ℕ) (z : ℤ) → FitsS n (cS n z)
-unfolding cS clampZ
+pub clamp-fits : (n : ℕ) (z : ℤ) → FitsS n (c_s n z)
+unfolding c_s clamp_z
 clamp-fits n z = go (lt_z z (neg_ℤ (pos (2 ^ (n - 1))))) (lt_z (pos (2 ^ (n - 1) - 1)) z) refl refl
   where
     low : ℤ
@@ -149,9 +149,9 @@ module _ (r : ℕ → ℕ) where
   is-reading false h p = p
 
   -- ---- the clamps: in each the tests of the tree are those of the definition
-  pub is-clampS : {v : Expr} {w n : ℕ} {z : ℤ} → 0 < n → n ≤ w → FitsS w z → Is r v w z → Is r (clamp v w n Signed) n (cS n z)
-  unfolding Arith.clamp cS clampZ
-  is-clampS {w = w} {n = n} hn h f p =
+  pub is-clamp_s : {v : Expr} {w n : ℕ} {z : ℤ} → 0 < n → n ≤ w → FitsS w z → Is r v w z → Is r (clamp v w n Signed) n (c_s n z)
+  unfolding Arith.clamp c_s clamp_z
+  is-clamp_s {w = w} {n = n} hn h f p =
       let hw : 0 < w = omega arith in
       let m : 2 ^ (n - 1) ≤ 2 ^ (w - 1) = pow_mono (omega arith) in
       let d : 2 ^ w ≡ 2 * 2 ^ (w - 1) = half w hw in
@@ -165,9 +165,9 @@ module _ (r : ℕ → ℕ) where
       let fh : FitsS w (pos (2 ^ (n - 1) - 1)) = record { low = omega arith; high = omega arith } in
       is_cut r hn h (is-ite r (says-slt r hw f fl p low) low (is-ite r (says-slt r hw fh f high p) high p))
 
-  pub is-clampSU : {v : Expr} {w n : ℕ} {z : ℤ} → 0 < n → n < w → FitsS w z → Is r v w z → Is r (clamp v w n SignedToUnsigned) n (cU n z)
-  unfolding Arith.clamp cU clampZ
-  is-clampSU {w = w} {n = n} hn h f p =
+  pub is-clamp_su : {v : Expr} {w n : ℕ} {z : ℤ} → 0 < n → n < w → FitsS w z → Is r v w z → Is r (clamp v w n SignedToUnsigned) n (c_u n z)
+  unfolding Arith.clamp c_u clamp_z
+  is-clamp_su {w = w} {n = n} hn h f p =
       let hw : 0 < w = omega arith in
       let m : 2 ^ n ≤ 2 ^ (w - 1) = pow_mono (omega arith) in
       let d : 2 ^ w ≡ 2 * 2 ^ (w - 1) = half w hw in
@@ -178,9 +178,9 @@ module _ (r : ℕ → ℕ) where
       let fh : FitsS w (pos (2 ^ n - 1)) = record { low = omega arith; high = omega arith } in
       is_cut r hn (omega arith) (is-ite r (says-slt r hw f fl p low) low (is-ite r (says-slt r hw fh f high p) high p))
 
-  pub is-clampU : {v : Expr} {w n : ℕ} {z : ℤ} → 0 < n → n ≤ w → FitsU w z → Is r v w z → Is r (clamp v w n Unsigned) n (cU n z)
-  unfolding Arith.clamp cU clampZ
-  is-clampU {w = w} {n = n} {z = z} hn h f p =
+  pub is-clamp_u : {v : Expr} {w n : ℕ} {z : ℤ} → 0 < n → n ≤ w → FitsU w z → Is r v w z → Is r (clamp v w n Unsigned) n (c_u n z)
+  unfolding Arith.clamp c_u clamp_z
+  is-clamp_u {w = w} {n = n} {z = z} hn h f p =
       let m : 2 ^ n ≤ 2 ^ w = pow_mono h in
       let one : 0 < 2 ^ n = pow_pos n in
       let high = is-const r (2 ^ n - 1) w (omega arith) in

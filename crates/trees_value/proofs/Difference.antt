@@ -6,7 +6,7 @@ use native.Mathlib.Omega.{arith}
 use lib.IntN.{ℤ, pos, negsuc, neg_ℤ, nat_abs, ◌-ℤ◌}
 use lib.Signed.{lt_z}
 use Rattle.terms.specs.Expr.{Expr}
-use Rattle.trees.specs.Arith.{absoluteDifferenceLane}
+use Rattle.trees.specs.Arith.{absolute_difference_lane}
 use Rattle.trees_value.specs.Fits.{up, dn, Fits}
 use Rattle.trees_value.proofs.Z.{less, neg-up, neg-dn, ext, lt_yes, lt_no}
 use Rattle.trees_value.proofs.Is.{Is, is_eq, is-sub, is-ite, says-slt, says-ult}
@@ -29,7 +29,7 @@ difference x y = go (lt_z x y) refl
     go false e = sym (abs-pos (x -ℤ y) (omega (arith, less x y, lt_no x y e)))
 
 pub is-abd : (r : ℕ → ℕ) (s : Bool) (a b : Expr) (n : ℕ) (x y : ℤ) → 0 < n → Fits s n x → Fits s n y → Is r a n x → Is r b n y
-    → Is r (absoluteDifferenceLane s a b) n (pos (nat_abs (x -ℤ y)))
-unfolding absoluteDifferenceLane
+    → Is r (absolute_difference_lane s a b) n (pos (nat_abs (x -ℤ y)))
+unfolding absolute_difference_lane
 is-abd r true a b n x y hn f g p q = is_eq r (difference x y) (is-ite r (says-slt r hn f g p q) (is-sub r q p) (is-sub r p q))
 is-abd r false a b n x y hn f g p q = is_eq r (difference x y) (is-ite r (says-ult r f g p q) (is-sub r q p) (is-sub r p q))

@@ -12,10 +12,10 @@ use Rattle.terms.specs.declared.CmpOp.TheVariants.{Ult, Slt}
 use Rattle.terms.specs.declared.BinOp.{BinOp}
 use Rattle.terms.specs.declared.CmpOp.{CmpOp}
 use Rattle.terms.specs.Rules.{Good}
-use Rattle.trees.specs.Simd.{extractCollapsing, concatLanes}
+use Rattle.trees.specs.Simd.{extract_collapsing, concat_lanes}
 use Rattle.trees.specs.Lower.{extend}
 use Rattle.trees.specs.Arith.{shift_by, plus_if}
-use Rattle.trees.specs.Trees.{extractLane, clamp}
+use Rattle.trees.specs.Trees.{extract_lane, clamp}
 use Rattle.trees.specs.Simd as Simd
 use Rattle.trees.specs.Arith as Arith
 use Rattle.trees.specs.declared.SaturateTo.TheVariants.{Signed, Unsigned, SignedToUnsigned}
@@ -67,7 +67,7 @@ pub inner : {x : Expr} {w top low : ℕ} → Fit (Extract x top low) w → Fit x
 unfolding width Good
 inner p = (record { wide = refl; some = omega (arith, p.ok.2); ok = p.ok.0 }, p.ok.2, sym p.wide, p.ok.1)
 
-pub fit-joined : (e : Expr) {w : ℕ} (hi lo : ℕ) → lo ≤ hi → hi < w → Fit e w → Fit (extractCollapsing e hi lo) (suc (hi - lo))
+pub fit-joined : (e : Expr) {w : ℕ} (hi lo : ℕ) → lo ≤ hi → hi < w → Fit e w → Fit (extract_collapsing e hi lo) (suc (hi - lo))
 fit-joined (Extract x top low) {w} hi lo l h p =
     let q = inner p in
     let fits : hi + low ≤ top = omega (arith, q.2, q.3) in
@@ -81,10 +81,10 @@ fit-joined (Concat a b) hi lo l h p = fit-plain hi lo l h p
 fit-joined (ZeroExtend a v) hi lo l h p = fit-plain hi lo l h p
 fit-joined (SignExtend a v) hi lo l h p = fit-plain hi lo l h p
 
-pub fit-extract : {a : Expr} {w : ℕ} (hi lo : ℕ) → lo ≤ hi → hi < w → Fit a w → Fit (extractCollapsing a hi lo) (suc (hi - lo))
+pub fit-extract : {a : Expr} {w : ℕ} (hi lo : ℕ) → lo ≤ hi → hi < w → Fit a w → Fit (extract_collapsing a hi lo) (suc (hi - lo))
 fit-extract {a = a} hi lo l h p = fit-joined a hi lo l h p
 
-pub fit_cut : {a : Expr} {w : ℕ} (n : ℕ) → 0 < n → n ≤ w → Fit a w → Fit (extractCollapsing a (n - 1) 0) n
+pub fit_cut : {a : Expr} {w : ℕ} (n : ℕ) → 0 < n → n ≤ w → Fit a w → Fit (extract_collapsing a (n - 1) 0) n
 fit_cut n h l p = fit-as (omega arith) (fit-extract (n - 1) 0 (omega arith) (omega arith) p)
 
 pub fit-concat : {a b : Expr} {m n : ℕ} → m + n ≤ 129 → Fit a m → Fit b n → Fit (Concat a b) (m + n)
@@ -134,13 +134,13 @@ fit-clamp SignedToUnsigned {w = w} n hn h l p =
     fit_cut n hn h (fit-ite (test Slt p none) none (fit-ite (test Slt high p) high p))
 
 -- ---- lanes
-pub fit-concat-lanes : (n k : ℕ) (f : ℕ → Expr) → n * suc k ≤ 129 → ((j : ℕ) → j ≤ k → Fit (f j) n) → Fit (concatLanes k f) (n * suc k)
-unfolding concatLanes
+pub fit-concat-lanes : (n k : ℕ) (f : ℕ → Expr) → n * suc k ≤ 129 → ((j : ℕ) → j ≤ k → Fit (f j) n) → Fit (concat_lanes k f) (n * suc k)
+unfolding concat_lanes
 fit-concat-lanes n zero f h g = fit-as (omega arith) (g 0 (omega arith))
 fit-concat-lanes n (suc k) f h g =
     fit-as (omega (arith, mul-suc n (suc k)))
     (fit-concat (omega (arith, mul-suc n (suc k))) (g (suc k) (omega arith)) (fit-concat-lanes n k f (omega (arith, mul-suc n (suc k))) (λ j l. g j (omega arith))))
 
-pub fit-lane-of : (e : Expr) (w n j : ℕ) → 0 < n → n * j + n ≤ w → Fit e w → Fit (extractLane e n j) n
-unfolding Simd.extractLane
+pub fit-lane-of : (e : Expr) (w n j : ℕ) → 0 < n → n * j + n ≤ w → Fit e w → Fit (extract_lane e n j) n
+unfolding Simd.extract_lane
 fit-lane-of e w n j hn h p = fit-as (omega arith) (fit-joined e (n * j + n - 1) (n * j) (omega arith) (omega arith) p)

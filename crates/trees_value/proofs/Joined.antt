@@ -6,8 +6,8 @@ use native.Mathlib.Omega.{arith}
 use borrow.Author.Tests.{le-leb}
 use Rattle.terms.specs.Expr.{Expr, Var, Const, Bv, Compare, Ite, Extract, Concat, ZeroExtend, SignExtend, width}
 use Rattle.terms.specs.Value.{value}
-use Rattle.trees.specs.Simd.{extractCollapsing}
-use Rattle.trees.specs.Joined.{JoinedValue, isCut, JoinedOnce}
+use Rattle.trees.specs.Simd.{extract_collapsing}
+use Rattle.trees.specs.Joined.{JoinedValue, is_cut, JoinedOnce}
 use Rattle.trees_value.proofs.Lanes.{cut-width, cut-value}
 use Rattle.trees_value.proofs.Fit.{Fit, inner}
 
@@ -19,10 +19,10 @@ joined-value start t hi lo h = (cut-width t hi lo, cut-value start t hi lo h)
 record Joined (e : Expr) (w : ℕ) : Type 0 where
   source : Expr
   by : ℕ
-  plain : isCut source ≡ false
-  cut : (hi lo : ℕ) → hi < w → extractCollapsing e hi lo ≡ Extract source (hi + by) (lo + by)
+  plain : is_cut source ≡ false
+  cut : (hi lo : ℕ) → hi < w → extract_collapsing e hi lo ≡ Extract source (hi + by) (lo + by)
 
-still : (e : Expr) (w : ℕ) → isCut e ≡ false → ((hi lo : ℕ) → extractCollapsing e hi lo ≡ Extract e hi lo) → Joined e w
+still : (e : Expr) (w : ℕ) → is_cut e ≡ false → ((hi lo : ℕ) → extract_collapsing e hi lo ≡ Extract e hi lo) → Joined e w
 still e w p q = record { source = e; by = 0; plain = p; cut = λ hi lo h. q hi lo ∙ ap₂ (λ (x y : ℕ). Extract e x y) (omega arith) (omega arith) }
 
 joined : (e : Expr) {w : ℕ} → Fit e w → Joined e w

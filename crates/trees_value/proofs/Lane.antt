@@ -7,35 +7,35 @@ use lib.IntN.{pos, ◌*ℤ◌}
 use Rattle.facts.proofs.Numbers.{below}
 use Rattle.terms.specs.Expr.{Expr}
 use Rattle.neon.specs.Op.{Op}
-use Rattle.neon.specs.Arm.{S, cS, bit_at, doubled, armLane}
-use Rattle.neon.specs.Form.{form, least, most, sourceBits}
+use Rattle.neon.specs.Arm.{S, c_s, bit_at, doubled, arm_lane}
+use Rattle.neon.specs.Form.{form, least, most, source_bits}
 use Rattle.trees.specs.declared.NeonOp.{NeonOp}
 use Rattle.trees.specs.declared.NeonOp.TheVariants.{Shift, ShiftInsert, MixedSignAdd, DoublingLong, Saturating, BitwiseUnary, AbsoluteDifference, HighNarrow}
 use Rattle.trees.specs.declared.Combine.TheVariants.{With}
-use Rattle.trees.specs.Arith.{shiftInsertLane, accumulated, absoluteDifferenceLane}
-use Rattle.trees.specs.Neon.{neonOp}
-use Rattle.trees.specs.Trees.{shiftLane, mixedSignAddLane, doublingProduct, doublingLongLane, saturatingLane, bitwiseUnaryLane, highNarrowLane}
+use Rattle.trees.specs.Arith.{shift_insert_lane, accumulated, absolute_difference_lane}
+use Rattle.trees.specs.Neon.{neon_op}
+use Rattle.trees.specs.Trees.{shift_lane, mixed_sign_add_lane, doubling_product, doubling_long_lane, saturating_lane, bitwise_unary_lane, high_narrow_lane}
 use Rattle.trees.specs.Arith as Arith
 use Rattle.trees_value.specs.Fits.{FitsS, FitsU}
 use Rattle.trees_value.proofs.Is.{Is, Has, has-is, has-number, is_number, is_eq, is-add}
 use Rattle.trees_value.proofs.Clamp.{S-fits, is-reading}
 use Rattle.trees_value.proofs.Register.{is-register, is-shl-immediate, is-sqshl-immediate, is-shr-immediate, is-rshr-immediate, is-sqshlu}
-use Rattle.trees_value.proofs.Sat.{applyZ, is-halving, is-sqaddsub, is-dmulh, is-uqadd, is-uqsub, is-sqneg, is-sqabs, is-sqxtn, is-uqxtn, is-sqxtun, is-shrn, is-sqshrn, is-uqshrn, is-sqshrun}
+use Rattle.trees_value.proofs.Sat.{apply_z, is-halving, is-sqaddsub, is-dmulh, is-uqadd, is-uqsub, is-sqneg, is-sqabs, is-sqxtn, is-uqxtn, is-sqxtun, is-shrn, is-sqshrn, is-uqshrn, is-sqshrun}
 use Rattle.trees_value.proofs.Sat.{is-dmull, is-dmlal, is-suqadd, is-usqadd}
 use Rattle.trees_value.proofs.Difference.{is-abd}
 use Rattle.trees_value.proofs.Bits.{ones-le, run-le, is-count, is_leading, is-signs, reverse-width, reverse-value, sli-value, sri-value, insert-width, high-width, high_value}
 use Rattle.terms.specs.declared.BinOp.TheVariants.{Add, Sub}
 
 -- the term of one lane of a family: d is the old lane, a and b are the source lanes
-abbrev pub laneTree : NeonOp → (n : ℕ) (d a b : Expr) → Expr
-laneTree (Shift kind signed) n d a b = shiftLane kind signed a b n
-laneTree (ShiftInsert left shift) n d a b = shiftInsertLane left d a shift n
-laneTree (MixedSignAdd signed) n d a b = mixedSignAddLane signed d a n
-laneTree (DoublingLong combine upper element) n d a b = doublingLongLane combine d a b n
-laneTree (Saturating kind signed upper) n d a b = saturatingLane kind a b n signed
-laneTree (BitwiseUnary kind) n d a b = bitwiseUnaryLane kind a n
-laneTree (AbsoluteDifference signed accumulate) n d a b = accumulated accumulate d (absoluteDifferenceLane signed a b)
-laneTree (HighNarrow subtract rounding upper) n d a b = highNarrowLane subtract rounding a b n
+abbrev pub lane_tree : NeonOp → (n : ℕ) (d a b : Expr) → Expr
+lane_tree (Shift kind signed) n d a b = shift_lane kind signed a b n
+lane_tree (ShiftInsert left shift) n d a b = shift_insert_lane left d a shift n
+lane_tree (MixedSignAdd signed) n d a b = mixed_sign_add_lane signed d a n
+lane_tree (DoublingLong combine upper element) n d a b = doubling_long_lane combine d a b n
+lane_tree (Saturating kind signed upper) n d a b = saturating_lane kind a b n signed
+lane_tree (BitwiseUnary kind) n d a b = bitwise_unary_lane kind a n
+lane_tree (AbsoluteDifference signed accumulate) n d a b = accumulated accumulate d (absolute_difference_lane signed a b)
+lane_tree (HighNarrow subtract rounding upper) n d a b = high_narrow_lane subtract rounding a b n
 
 -- a lane of m bits, read unsigned and signed
 module _ (r : ℕ → ℕ) {t : Expr} {m k : ℕ} (hm : 0 < m) (h : k < 2 ^ m) (p : Has r t m k) where
@@ -96,19 +96,19 @@ module _ (r : ℕ → ℕ) (n i : ℕ) (d a b : Expr) (w x y : ℕ) (h8 : 8 ≤ 
   qd = signed_lane r hn hw hd
 
   -- the doubled product of two lanes of half the bits
-  long-product : Sources r a b x y (n / 2) → Is r (doublingProduct a b n) n (doubled n x y)
+  long-product : Sources r a b x y (n / 2) → Is r (doubling_product a b n) n (doubled n x y)
   long-product g =
-      subst (λ (m : ℕ). Is r (doublingProduct a b m) m (cS m (S (n / 2) x *ℤ S (n / 2) y *ℤ pos 2))) even
+      subst (λ (m : ℕ). Is r (doubling_product a b m) m (c_s m (S (n / 2) x *ℤ S (n / 2) y *ℤ pos 2))) even
       (is-dmull r a b (n / 2) (S (n / 2) x) (S (n / 2) y) (omega arith) g.sx g.sy g.qa g.qb)
 
-  long-combined : (subtract : Bool) → Sources r a b x y (n / 2) → Is r (doublingLongLane (With (cond subtract Sub Add)) d a b n) n (cS n (applyZ subtract (S n w) (doubled n x y)))
+  long-combined : (subtract : Bool) → Sources r a b x y (n / 2) → Is r (doubling_long_lane (With (cond subtract Sub Add)) d a b n) n (c_s n (apply_z subtract (S n w) (doubled n x y)))
   long-combined subtract g =
       subst (λ (m : ℕ). FitsS m (S n w) → Is r d m (S n w)
-      → Is r (doublingLongLane (With (cond subtract Sub Add)) d a b m) m (cS m (applyZ subtract (S n w) (cS m (S (n / 2) x *ℤ S (n / 2) y *ℤ pos 2))))) even
+      → Is r (doubling_long_lane (With (cond subtract Sub Add)) d a b m) m (c_s m (apply_z subtract (S n w) (c_s m (S (n / 2) x *ℤ S (n / 2) y *ℤ pos 2))))) even
       (is-dmlal r a b (n / 2) (S (n / 2) x) (S (n / 2) y) (omega arith) g.sx g.sy g.qa g.qb subtract d (S n w)) sw qd
 
-  pub lane-is : (o : Op) → least o ≤ i → i ≤ most o n → Sources r a b x y (sourceBits (form o).lanes n) → (upper : Bool) → Has r (laneTree (neonOp o i upper) n d a b) n (armLane o n i w x y)
-  unfolding armLane Arith.shiftLane Arith.doublingLongLane Arith.bitwiseUnaryLane
+  pub lane-is : (o : Op) → least o ≤ i → i ≤ most o n → Sources r a b x y (source_bits (form o).lanes n) → (upper : Bool) → Has r (lane_tree (neon_op o i upper) n d a b) n (arm_lane o n i w x y)
+  unfolding arm_lane Arith.shift_lane Arith.doubling_long_lane Arith.bitwise_unary_lane
   lane-is Op.SHL l h g u = has-is r (is-shl-immediate r false a n i (pos x) hn g.ux g.pa)
   lane-is Op.SQSHLI l h g u = has-is r (is-sqshl-immediate r true a n i (S n x) hn g.sx g.qa)
   lane-is Op.UQSHLI l h g u = has-is r (is-sqshl-immediate r false a n i (pos x) hn g.ux g.pa)

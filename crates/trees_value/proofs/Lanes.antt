@@ -10,8 +10,8 @@ use lib.IntN.{ℤ, pos}
 use Rattle.terms.specs.Expr.{Expr, Var, Const, Bv, Compare, Ite, Extract, Concat, ZeroExtend, SignExtend, width}
 use Rattle.terms.specs.Value.{value}
 use Rattle.neon.specs.Arm.{wrap, lane, lanes}
-use Rattle.trees.specs.Simd.{inside, extractCollapsing, concatLanes}
-use Rattle.trees.specs.Trees.{extractLane}
+use Rattle.trees.specs.Simd.{inside, extract_collapsing, concat_lanes}
+use Rattle.trees.specs.Trees.{extract_lane}
 use Rattle.trees.specs.Simd as Simd
 use Rattle.trees_value.proofs.Bv.{wrap-pos, cut-is}
 use Rattle.trees_value.proofs.Is.{Is}
@@ -35,12 +35,12 @@ joined-cut v top low hi lo h l =
 
 module _ (r : ℕ → ℕ) where
   -- a joined cut has the value of the cut
-  pub cut-value : (e : Expr) (hi lo : ℕ) → lo ≤ hi → value r (extractCollapsing e hi lo) ≡ value r e / 2 ^ lo % 2 ^ suc (hi - lo)
+  pub cut-value : (e : Expr) (hi lo : ℕ) → lo ≤ hi → value r (extract_collapsing e hi lo) ≡ value r e / 2 ^ lo % 2 ^ suc (hi - lo)
   unfolding value
   cut-value (Extract x top low) hi lo h = go (inside hi top low) refl (cut-value x (hi + low) (lo + low) (omega arith))
     where
-      go : (t : Bool) → inside hi top low ≡ t → value r (extractCollapsing x (hi + low) (lo + low)) ≡ value r x / 2 ^ (lo + low) % 2 ^ suc (hi + low - (lo + low))
-          → unfold value in (value r (cond t (extractCollapsing x (hi + low) (lo + low)) (Extract (Extract x top low) hi lo)) ≡ value r (Extract x top low) / 2 ^ lo % 2 ^ suc (hi - lo))
+      go : (t : Bool) → inside hi top low ≡ t → value r (extract_collapsing x (hi + low) (lo + low)) ≡ value r x / 2 ^ (lo + low) % 2 ^ suc (hi + low - (lo + low))
+          → unfold value in (value r (cond t (extract_collapsing x (hi + low) (lo + low)) (Extract (Extract x top low) hi lo)) ≡ value r (Extract x top low) / 2 ^ lo % 2 ^ suc (hi - lo))
       go true e ih = ih ∙ joined-cut (value r x) top low hi lo h (leb-true (hi + low) top e)
       go false e ih = refl
   cut-value (Var a) hi lo h = refl
@@ -52,12 +52,12 @@ module _ (r : ℕ → ℕ) where
   cut-value (ZeroExtend a w) hi lo h = refl
   cut-value (SignExtend a w) hi lo h = refl
 
-pub cut-width : (e : Expr) (hi lo : ℕ) → width (extractCollapsing e hi lo) ≡ suc (hi - lo)
+pub cut-width : (e : Expr) (hi lo : ℕ) → width (extract_collapsing e hi lo) ≡ suc (hi - lo)
 unfolding width
 cut-width (Extract x top low) hi lo = go (inside hi top low) (cut-width x (hi + low) (lo + low))
   where
-    go : (t : Bool) → width (extractCollapsing x (hi + low) (lo + low)) ≡ suc (hi + low - (lo + low))
-        → unfold width in (width (cond t (extractCollapsing x (hi + low) (lo + low)) (Extract (Extract x top low) hi lo)) ≡ suc (hi - lo))
+    go : (t : Bool) → width (extract_collapsing x (hi + low) (lo + low)) ≡ suc (hi + low - (lo + low))
+        → unfold width in (width (cond t (extract_collapsing x (hi + low) (lo + low)) (Extract (Extract x top low) hi lo)) ≡ suc (hi - lo))
     go true ih = ih ∙ omega arith
     go false ih = refl
 cut-width (Var a) hi lo = refl
@@ -75,13 +75,13 @@ lane-lt n j x = mod-lt (x / 2 ^ (n * j)) (pow_pos n)
 
 module _ (r : ℕ → ℕ) where
   -- the n low bits stand for the same integer
-  pub is-low : {a : Expr} {w n : ℕ} {x : ℤ} → 0 < n → n ≤ w → Is r a w x → Is r (extractCollapsing a (n - 1) 0) n x
+  pub is-low : {a : Expr} {w n : ℕ} {x : ℤ} → 0 < n → n ≤ w → Is r a w x → Is r (extract_collapsing a (n - 1) 0) n x
   is-low {a = a} {w = w} {n = n} {x = x} hn h p =
       let size : suc (n - 1 - 0) ≡ n = omega arith in
       record { wide = cut-width a (n - 1) 0 ∙ size; val = cut-value r a (n - 1) 0 (omega arith) ∙ rw (size, p.val, div-one (wrap w x)) (cut-is w n x h) }
 
-  pub is-lane : (e : Expr) (n j : ℕ) → 0 < n → Is r (extractLane e n j) n (pos (lane n j (value r e)))
-  unfolding Simd.extractLane
+  pub is-lane : (e : Expr) (n j : ℕ) → 0 < n → Is r (extract_lane e n j) n (pos (lane n j (value r e)))
+  unfolding Simd.extract_lane
   is-lane e n j hn =
       let size : suc (n * j + n - 1 - n * j) ≡ n = omega arith in
       record {
@@ -89,12 +89,12 @@ module _ (r : ℕ → ℕ) where
         val = cut-value r e (n * j + n - 1) (n * j) (omega arith) ∙ rw (size, wrap-pos n (lane n j (value r e)) (lane-lt n j (value r e))) (unfold lane in refl);
       }
 
-  pub concat-width : (n k : ℕ) (f : ℕ → Expr) → ((j : ℕ) → width (f j) ≡ n) → width (concatLanes k f) ≡ n * suc k
-  unfolding concatLanes width
+  pub concat-width : (n k : ℕ) (f : ℕ → Expr) → ((j : ℕ) → width (f j) ≡ n) → width (concat_lanes k f) ≡ n * suc k
+  unfolding concat_lanes width
   concat-width n zero f h = h 0 ∙ sym (mul-one n)
   concat-width n (suc k) f h = rw (h (suc k), concat-width n k f h) (omega (arith, mul-suc n (suc k)))
 
-  pub concat-value : (n k : ℕ) (f : ℕ → Expr) → ((j : ℕ) → width (f j) ≡ n) → value r (concatLanes k f) ≡ lanes n (suc k) (λ j. value r (f j))
-  unfolding concatLanes value lanes
+  pub concat-value : (n k : ℕ) (f : ℕ → Expr) → ((j : ℕ) → width (f j) ≡ n) → value r (concat_lanes k f) ≡ lanes n (suc k) (λ j. value r (f j))
+  unfolding concat_lanes value lanes
   concat-value n zero f h = rw (mul-zero n) (omega arith)
   concat-value n (suc k) f h = rw (concat-width n k f h, concat-value n k f h)

@@ -16,7 +16,7 @@ use Rattle.terms.specs.Value.{value, apply, ite, msb, bvneg, bvnot, bvadd, bvsub
 use Rattle.terms.specs.Rules.{Good}
 use Rattle.neon.specs.declared.Instruction.{Instruction}
 use Rattle.neon.specs.Refusal.{AllLegal}
-use Rattle.trees.specs.Trees.{treeRun}
+use Rattle.trees.specs.Trees.{tree_run}
 use Rattle.trees_value.proofs.FitForm.{fit-block}
 
 -- each operator gives a number of m bits
@@ -73,8 +73,8 @@ module _ (start : ℕ → ℕ) (bits : (x : ℕ) → x < 32 → start x < 2 ^ 12
   value-lt (SignExtend a w) g h = sext-lt (width a) w (value start a) g.2 (value-lt a g.0 g.1)
 
   -- so a register's term has 128 bits after any block
-  pub block-lt : (cs : List Instruction) → AllLegal cs → (x : ℕ) → x < 32 → value start (treeRun cs Var x) < 2 ^ 128
+  pub block-lt : (cs : List Instruction) → AllLegal cs → (x : ℕ) → x < 32 → value start (tree_run cs Var x) < 2 ^ 128
   block-lt cs k x h =
       let f = fit-block cs k x h in
-      let w : width (treeRun cs Var x) ≡ 128 = f.wide in
-      rw w at (value-lt (treeRun cs Var x) f.ok (rw w (omega arith)))
+      let w : width (tree_run cs Var x) ≡ 128 = f.wide in
+      rw w at (value-lt (tree_run cs Var x) f.ok (rw w (omega arith)))

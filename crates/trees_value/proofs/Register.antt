@@ -12,10 +12,10 @@ use Rattle.facts.proofs.Numbers.{below}
 use Rattle.terms.specs.Expr.{Expr, Const, Bv, Compare, Ite, SignExtend, width}
 use Rattle.terms.specs.declared.BinOp.TheVariants.{Sub}
 use Rattle.terms.specs.declared.CmpOp.TheVariants.{Slt}
-use Rattle.neon.specs.Arm.{wrap, S, cU, floor, round, scale, byte, shiftZ, roundZ}
-use Rattle.trees.specs.Simd.{extractCollapsing}
-use Rattle.trees.specs.Arith.{shift_by, scaled, saturatingShiftLeft, registerShiftMax, leftBy}
-use Rattle.trees.specs.Trees.{shiftRight, leftImmediate, signedAmount, shiftLane}
+use Rattle.neon.specs.Arm.{wrap, S, c_u, floor, round, scale, byte, shift_z, round_z}
+use Rattle.trees.specs.Simd.{extract_collapsing}
+use Rattle.trees.specs.Arith.{shift_by, scaled, saturating_shift_left, register_shift_max, left_by}
+use Rattle.trees.specs.Trees.{shift_right, left_immediate, signed_amount, shift_lane}
 use Rattle.trees.specs.Arith as Arith
 use Rattle.trees.specs.declared.SaturateTo.TheVariants.{SignedToUnsigned}
 use Rattle.trees.specs.declared.Saturate.TheVariants.{Never, Into}
@@ -25,7 +25,7 @@ use Rattle.trees_value.proofs.Z.{sum, Floor, floored, ge-is}
 use Rattle.trees_value.proofs.Wrap.{half}
 use Rattle.trees_value.proofs.Is.{Is, Says, By, by-const, by-is, is_eq, is-const, is-sub, is-shl, is-shift, is-sext, is-then, is-else, says-slt}
 use Rattle.trees_value.proofs.Lanes.{is-low}
-use Rattle.trees_value.proofs.Clamp.{S-fits, is-reading, clampTo, clamp-in, floor-fits, is-clampSU}
+use Rattle.trees_value.proofs.Clamp.{S-fits, is-reading, clamp_to, clamp-in, floor-fits, is-clamp_su}
 use Rattle.trees_value.proofs.Shift.{is-round, is-saturating, product}
 
 -- a term of n bits that is y, cut to a shorter width: y's low bits
@@ -53,10 +53,10 @@ scaled_fits n k x hn f = record {
     whole : 2 ^ (n + k - 1) ≡ 2 ^ (n - 1) * 2 ^ k
     whole = ap (λ (t : ℕ). 2 ^ t) {x = n + k - 1} {y = n - 1 + k} (omega arith) ∙ pow-add 2 (n - 1) k
 
-pub is-amount : (r : ℕ → ℕ) (raw : Expr) (n y : ℕ) → 8 ≤ n → y < 2 ^ n → Is r raw n (pos y) → Is r (signedAmount raw n) n (byte y)
+pub is-amount : (r : ℕ → ℕ) (raw : Expr) (n y : ℕ) → 8 ≤ n → y < 2 ^ n → Is r raw n (pos y) → Is r (signed_amount raw n) n (byte y)
 is-amount r raw n y h l p = go (ltb 8 n) refl
   where
-    go : (t : Bool) → ltb 8 n ≡ t → Is r (cond t (SignExtend (extractCollapsing raw 7 0) n) raw) n (byte y)
+    go : (t : Bool) → ltb 8 n ≡ t → Is r (cond t (SignExtend (extract_collapsing raw 7 0) n) raw) n (byte y)
     go true e =
         is-sext r (omega arith) h (byte_fits y)
         (is-reading r true (mod-lt y (pow_pos 8)) (is-mod r (is-low r {n = 8} (omega arith) h p)))
@@ -115,11 +115,11 @@ rounded-fits s n k x f = go s f
 -- ---- the register forms
 -- the Arm value, by flags: rounding or not, clamped or not
 abbrev pub turned : Bool → ℤ → ℤ → ℤ
-turned true z k = roundZ z k
-turned false z k = shiftZ z k
+turned true z k = round_z z k
+turned false z k = shift_z z k
 
 abbrev pub limited : Bool → Bool → ℕ → ℤ → ℤ
-limited true s n z = clampTo s n z
+limited true s n z = clamp_to s n z
 limited false s n z = z
 
 limited-in : (saturate s : Bool) (n : ℕ) (z : ℤ) → Fits s n z → z ≡ limited saturate s n z
@@ -135,8 +135,8 @@ module _ (r : ℕ → ℕ) (rounding saturate s : Bool) (v raw : Expr) (n : ℕ)
 
   -- to the right by suc k
   right : (rounding : Bool) (amount : Expr) (k : ℕ) → k < 128 → Is r amount n (pos (suc k))
-      → Is r (shiftRight v amount n s rounding registerShiftMax) n (limited saturate s n (turned rounding x (negsuc k)))
-  unfolding Arith.shiftRight
+      → Is r (shift_right v amount n s rounding register_shift_max) n (limited saturate s n (turned rounding x (negsuc k)))
+  unfolding Arith.shift_right
   right false amount k l q =
       is_eq r (limited-in saturate s n (floor x (suc k)) (floor-fits s n x (2 ^ suc k) (pow_pos (suc k)) f))
       (is-shift r s positive-n f p (by-is r (omega (arith, large)) q))
@@ -144,12 +144,12 @@ module _ (r : ℕ → ℕ) (rounding saturate s : Bool) (v raw : Expr) (n : ℕ)
       is_eq r (limited-in saturate s n (round x (suc k)) (rounded-fits s n k x f))
       (is-round n (suc k) 128 positive-n (omega arith) (omega arith) r s v amount x f (omega (arith, large)) p q)
 
-  left : (saturate : Bool) (amount : Expr) (k : ℕ) → By r amount k → Is r (leftBy saturate v amount n s) n (limited saturate s n (scale x k))
+  left : (saturate : Bool) (amount : Expr) (k : ℕ) → By r amount k → Is r (left_by saturate v amount n s) n (limited saturate s n (scale x k))
   left true amount k q = is-saturating r v n k positive-n s amount x f p q
   left false amount k q = is-shl r p q
 
-  right-width : (rounding : Bool) (amount : Expr) → width (shiftRight v amount n s rounding registerShiftMax) ≡ n
-  unfolding Arith.shiftRight width
+  right-width : (rounding : Bool) (amount : Expr) → width (shift_right v amount n s rounding register_shift_max) ≡ n
+  unfolding Arith.shift_right width
   right-width false amount = go s
     where
       go : (s : Bool) → unfold width in (width (shift_by s v amount) ≡ n)
@@ -158,7 +158,7 @@ module _ (r : ℕ → ℕ) (rounding saturate s : Bool) (v raw : Expr) (n : ℕ)
   right-width true amount = omega (arith, positive-n)
 
   turn : (amount : Expr) (k : ℤ) → FitsS 8 k → Is r amount n k
-      → Is r (Ite (Compare Slt amount (Const 0 n)) (shiftRight v (Bv Sub (Const 0 n) amount) n s rounding registerShiftMax) (leftBy saturate v amount n s)) n
+      → Is r (Ite (Compare Slt amount (Const 0 n)) (shift_right v (Bv Sub (Const 0 n) amount) n s rounding register_shift_max) (left_by saturate v amount n s)) n
       (limited saturate s n (turned rounding x k))
   turn amount (pos k) g q =
       let zf : FitsS n (pos 0) = record { low = omega arith; high = omega (arith, pow_pos (n - 1)) } in
@@ -175,23 +175,23 @@ module _ (r : ℕ → ℕ) (rounding saturate s : Bool) (v raw : Expr) (n : ℕ)
       is-then r c (right rounding (Bv Sub (Const 0 n) amount) k (omega arith)
       (is_eq r (ap pos (zero-add (suc k))) (is-sub r (is-const r 0 n (pow_pos n)) q)))
 
-  pub is-register : (y : ℕ) → y < 2 ^ n → Is r raw n (pos y) → Is r (shiftLane (Register rounding saturate) s v raw n) n (limited saturate s n (turned rounding x (byte y)))
-  unfolding Arith.shiftLane
-  is-register y l q = turn (signedAmount raw n) (byte y) (byte_fits y) (is-amount r raw n y hn l q)
+  pub is-register : (y : ℕ) → y < 2 ^ n → Is r raw n (pos y) → Is r (shift_lane (Register rounding saturate) s v raw n) n (limited saturate s n (turned rounding x (byte y)))
+  unfolding Arith.shift_lane
+  is-register y l q = turn (signed_amount raw n) (byte y) (byte_fits y) (is-amount r raw n y hn l q)
 
 -- ---- the immediate forms
 module _ (r : ℕ → ℕ) (s : Bool) (v : Expr) (n i : ℕ) (x : ℤ) (hn : 0 < n) (f : Fits s n x) (p : Is r v n x) where
-  pub is-shl-immediate : Is r (leftImmediate Never v i n s) n (scale x i)
+  pub is-shl-immediate : Is r (left_immediate Never v i n s) n (scale x i)
   is-shl-immediate = is-shl r p (by-const r i n)
 
-  pub is-sqshl-immediate : Is r (saturatingShiftLeft v (Const i n) n s) n (clampTo s n (scale x i))
+  pub is-sqshl-immediate : Is r (saturating_shift_left v (Const i n) n s) n (clamp_to s n (scale x i))
   is-sqshl-immediate = is-saturating r v n i hn s (Const i n) x f p (by-const r i n)
 
-  pub is-shr-immediate : Is r (shiftRight v (Const i n) n s false i) n (floor x i)
-  unfolding Arith.shiftRight
+  pub is-shr-immediate : Is r (shift_right v (Const i n) n s false i) n (floor x i)
+  unfolding Arith.shift_right
   is-shr-immediate = is-shift r s hn f p (by-const r i n)
 
-  pub is-rshr-immediate : 0 < i → i ≤ n → Is r (shiftRight v (Const i n) n s true i) n (round x i)
+  pub is-rshr-immediate : 0 < i → i ≤ n → Is r (shift_right v (Const i n) n s true i) n (round x i)
   is-rshr-immediate hi l =
       let small : i < 2 ^ n = omega (arith, below n) in
       is-round n i i hn hi (omega arith) r s v (Const i n) x f small p (is-const r i n small)
@@ -203,5 +203,5 @@ module _ (r : ℕ → ℕ) (v : Expr) (n i : ℕ) (x : ℤ) (hn : 0 < n) (f : Fi
   pub is-scaled : Is r (scaled v i (n + i + 1)) (n + i + 1) (scale x i)
   is-scaled = is-shl r (is-sext r hn (omega arith) f p) (by-const r i (n + i + 1))
 
-  pub is-sqshlu : Is r (leftImmediate (Into SignedToUnsigned) v i n true) n (cU n (scale x i))
-  is-sqshlu = is-clampSU r hn (omega arith) exact-fits is-scaled
+  pub is-sqshlu : Is r (left_immediate (Into SignedToUnsigned) v i n true) n (c_u n (scale x i))
+  is-sqshlu = is-clamp_su r hn (omega arith) exact-fits is-scaled

@@ -9,7 +9,7 @@ use borrow.Author.Tests.{eqb-true, leb-true}
 use Rattle.facts.proofs.Tests.{and_both}
 use Rattle.terms.specs.Expr.{Expr, Var, Const, Bv, Compare, Ite, Extract, Concat, ZeroExtend, SignExtend, width}
 use Rattle.terms.specs.Value.{value}
-use Rattle.trees.specs.Simd.{Cutter, extractOnce, rust, extractCollapsing, joining}
+use Rattle.trees.specs.Simd.{Cutter, extract_once, rust, extract_collapsing, joining}
 use Rattle.trees.specs.Rust.{RustIsArm, RustRunIsArm}
 use Rattle.trees.proofs.Alike.{Alike, like-result, like-run}
 use Rattle.trees_value.proofs.Lanes.{joined-cut, cut-value, cut-width}
@@ -42,7 +42,7 @@ module _ (start : ℕ → ℕ) where
   unfolding value width
   plain-cut e hi lo = record { wide = refl; val = refl }
 
-  once-cut : (e : Expr) (hi lo : ℕ) → lo ≤ hi → CutOf e hi lo (extractOnce e hi lo)
+  once-cut : (e : Expr) (hi lo : ℕ) → lo ≤ hi → CutOf e hi lo (extract_once e hi lo)
   once-cut (Extract x top low) hi lo h = go (eqb low 0 && leb hi top) refl
     where
       go : (t : Bool) → (eqb low 0 && leb hi top) ≡ t → CutOf (Extract x top low) hi lo (cond t (Extract x hi lo) (Extract (Extract x top low) hi lo))
@@ -65,7 +65,7 @@ module _ (start : ℕ → ℕ) where
   rust-sound : Sound rust
   rust-sound = record { lane = once-cut; bits = λ e hi lo h. plain-cut e hi lo }
 
-  joined-cut-of : (e : Expr) (hi lo : ℕ) → lo ≤ hi → CutOf e hi lo (extractCollapsing e hi lo)
+  joined-cut-of : (e : Expr) (hi lo : ℕ) → lo ≤ hi → CutOf e hi lo (extract_collapsing e hi lo)
   joined-cut-of e hi lo h = record { wide = cut-width e hi lo; val = cut-value start e hi lo h }
 
   joining-sound : Sound joining

@@ -9,10 +9,10 @@ use lib.IntN.{ℤ, pos, negsuc, neg_ℤ, nat_abs, ◌+ℤ◌, ◌-ℤ◌, ◌*�
 use lib.Signed.{lt_z}
 use Rattle.terms.specs.Expr.{Expr, Const, Bv}
 use Rattle.terms.specs.declared.BinOp.TheVariants.{Add, Sub}
-use Rattle.neon.specs.Arm.{cS, cU, floor}
+use Rattle.neon.specs.Arm.{c_s, c_u, floor}
 use Rattle.trees.specs.Lower.{extend}
-use Rattle.trees.specs.Arith.{plus_if, joined, twice, shifted, exactLane}
-use Rattle.trees.specs.Trees.{saturatingLane, mixedSignAddLane, doublingProduct, doublingLongLane}
+use Rattle.trees.specs.Arith.{plus_if, joined, twice, shifted, exact_lane}
+use Rattle.trees.specs.Trees.{saturating_lane, mixed_sign_add_lane, doubling_product, doubling_long_lane}
 use Rattle.trees.specs.Arith as Arith
 use Rattle.trees.specs.declared.SaturateTo.TheVariants.{Signed, Unsigned, SignedToUnsigned}
 use Rattle.trees.specs.declared.Saturate.TheVariants.{Never, Into}
@@ -22,7 +22,7 @@ use Rattle.trees_value.specs.Fits.{up, dn, FitsS, FitsU, Fits}
 use Rattle.trees_value.proofs.Z.{sum, less, times, neg-up, neg-dn, ge-is}
 use Rattle.trees_value.proofs.Wrap.{half}
 use Rattle.trees_value.proofs.Is.{Is, by-const, is_eq, is-const, is-add, is-sub, is_mul, is-shl, is-ashr, is-extend, is-shift, is_cut, is-ite, says-slt}
-use Rattle.trees_value.proofs.Clamp.{is-clampS, is-clampU, is-clampSU, clamp-fits, floor-fits}
+use Rattle.trees_value.proofs.Clamp.{is-clamp_s, is-clamp_u, is-clamp_su, clamp-fits, floor-fits}
 
 -- ---- the powers of two at n + 1 bits
 pub record Next (n : ℕ) : Type 0 where
@@ -46,37 +46,37 @@ plus true z c = z +ℤ pos c
 plus false z c = z
 
 -- a sum, or a difference if the flag is true
-abbrev pub applyZ : Bool → ℤ → ℤ → ℤ
-applyZ false x y = x +ℤ y
-applyZ true x y = x -ℤ y
+abbrev pub apply_z : Bool → ℤ → ℤ → ℤ
+apply_z false x y = x +ℤ y
+apply_z true x y = x -ℤ y
 
 -- ---- what one bit more holds
 module _ {n : ℕ} {x y : ℤ} (hn : 0 < n) where
-  pub sumS : FitsS n x → FitsS n y → FitsS (n + 1) (x +ℤ y)
-  sumS f g = record { low = omega (arith, sum x y, next n hn); high = omega (arith, sum x y, next n hn) }
+  pub sum_s : FitsS n x → FitsS n y → FitsS (n + 1) (x +ℤ y)
+  sum_s f g = record { low = omega (arith, sum x y, next n hn); high = omega (arith, sum x y, next n hn) }
 
-  pub lessS : FitsS n x → FitsS n y → FitsS (n + 1) (x -ℤ y)
-  lessS f g = record { low = omega (arith, less x y, next n hn); high = omega (arith, less x y, next n hn) }
+  pub less_s : FitsS n x → FitsS n y → FitsS (n + 1) (x -ℤ y)
+  less_s f g = record { low = omega (arith, less x y, next n hn); high = omega (arith, less x y, next n hn) }
 
-  pub sumU : FitsU n x → FitsU n y → FitsU (n + 1) (x +ℤ y)
-  sumU f g = record { low = omega (arith, sum x y, next n hn); high = omega (arith, sum x y, next n hn) }
+  pub sum_u : FitsU n x → FitsU n y → FitsU (n + 1) (x +ℤ y)
+  sum_u f g = record { low = omega (arith, sum x y, next n hn); high = omega (arith, sum x y, next n hn) }
 
-  pub lessU : FitsU n x → FitsU n y → FitsS (n + 1) (x -ℤ y)
-  lessU f g = record { low = omega (arith, less x y, next n hn); high = omega (arith, less x y, next n hn) }
+  pub less_u : FitsU n x → FitsU n y → FitsS (n + 1) (x -ℤ y)
+  less_u f g = record { low = omega (arith, less x y, next n hn); high = omega (arith, less x y, next n hn) }
 
   -- and two bits more, of a sum of mixed sign
-  pub sumSU : FitsS n x → FitsU n y → FitsS (n + 2) (x +ℤ y)
-  sumSU f g = record { low = omega (arith, two-power n hn, sum x y, half n hn); high = omega (arith, two-power n hn, sum x y, half n hn) }
+  pub sum_su : FitsS n x → FitsU n y → FitsS (n + 2) (x +ℤ y)
+  sum_su f g = record { low = omega (arith, two-power n hn, sum x y, half n hn); high = omega (arith, two-power n hn, sum x y, half n hn) }
 
-  pub sumUS : FitsU n x → FitsS n y → FitsS (n + 2) (x +ℤ y)
-  sumUS f g = record { low = omega (arith, two-power n hn, sum x y, half n hn); high = omega (arith, two-power n hn, sum x y, half n hn) }
+  pub sum_us : FitsU n x → FitsS n y → FitsS (n + 2) (x +ℤ y)
+  sum_us f g = record { low = omega (arith, two-power n hn, sum x y, half n hn); high = omega (arith, two-power n hn, sum x y, half n hn) }
 
 -- and one added to the sum of two
 sum1 : (s rounding : Bool) (n : ℕ) (x y : ℤ) → 0 < n → Fits s n x → Fits s n y → Fits s (n + 1) (plus rounding (x +ℤ y) 1)
 sum1 true true n x y hn f g = record { low = omega (arith, sum x y, sum (x +ℤ y) (pos 1), next n hn); high = omega (arith, sum x y, sum (x +ℤ y) (pos 1), next n hn) }
 sum1 false true n x y hn f g = record { low = omega (arith, sum x y, sum (x +ℤ y) (pos 1), next n hn); high = omega (arith, sum x y, sum (x +ℤ y) (pos 1), next n hn) }
-sum1 true false n x y hn f g = sumS hn f g
-sum1 false false n x y hn f g = sumU hn f g
+sum1 true false n x y hn f g = sum_s hn f g
+sum1 false false n x y hn f g = sum_u hn f g
 
 plus-fits : (s rounding : Bool) (n c : ℕ) (x : ℤ) → 0 < n → c < 2 ^ (n - 1) → Fits s n x → Fits s (n + 1) (plus rounding x c)
 plus-fits true true n c x hn h f = record { low = omega (arith, sum x (pos c), next n hn); high = omega (arith, sum x (pos c), next n hn) }
@@ -130,13 +130,13 @@ module _ (r : ℕ → ℕ) where
   is-plus true {w = w} c h p = is-add r p (is-const r c w h)
   is-plus false c h p = p
 
-  pub is-apply : (subtract : Bool) {a b : Expr} {w : ℕ} {x y : ℤ} → Is r a w x → Is r b w y → Is r (Bv (cond subtract Sub Add) a b) w (applyZ subtract x y)
+  pub is-apply : (subtract : Bool) {a b : Expr} {w : ℕ} {x y : ℤ} → Is r a w x → Is r b w y → Is r (Bv (cond subtract Sub Add) a b) w (apply_z subtract x y)
   is-apply false p q = is-add r p q
   is-apply true p q = is-sub r p q
 
   -- two lanes of n bits, each read by its own sign
   pub is-joined : (subtract s t : Bool) {a b : Expr} {n w : ℕ} {x y : ℤ} → 0 < n → n ≤ w → Fits s n x → Fits t n y → Is r a n x → Is r b n y
-      → Is r (joined (cond subtract Sub Add) a s b t w) w (applyZ subtract x y)
+      → Is r (joined (cond subtract Sub Add) a s b t w) w (apply_z subtract x y)
   is-joined subtract s t hn h f g p q = is-apply subtract (is-extend r s hn h f p) (is-extend r t hn h g q)
 
   -- two lanes of n bits, read signed or unsigned
@@ -144,28 +144,28 @@ module _ (r : ℕ → ℕ) where
     one_more : n ≤ n + 1
     one_more = omega arith
 
-    pub is-halving : (rounding : Bool) → Is r (saturatingLane (Halving rounding) a b n s) n (floor (plus rounding (x +ℤ y) 1) 1)
-    unfolding Arith.saturatingLane
+    pub is-halving : (rounding : Bool) → Is r (saturating_lane (Halving rounding) a b n s) n (floor (plus rounding (x +ℤ y) 1) 1)
+    unfolding Arith.saturating_lane
     is-halving rounding =
         is_cut r hn one_more
         (is-shift r s (omega arith) (sum1 s rounding n x y hn f g)
         (is-plus rounding 1 (omega (arith, next n hn)) (is-joined false s s hn one_more f g p q))
         (by-const r 1 (n + 1)))
 
-  pub apply-fits : (subtract : Bool) {n : ℕ} {x y : ℤ} → 0 < n → FitsS n x → FitsS n y → FitsS (n + 1) (applyZ subtract x y)
-  apply-fits false hn f g = sumS hn f g
-  apply-fits true hn f g = lessS hn f g
+  pub apply-fits : (subtract : Bool) {n : ℕ} {x y : ℤ} → 0 < n → FitsS n x → FitsS n y → FitsS (n + 1) (apply_z subtract x y)
+  apply-fits false hn f g = sum_s hn f g
+  apply-fits true hn f g = less_s hn f g
 
   -- two signed lanes
   module _ (a b : Expr) (n : ℕ) (x y : ℤ) (hn : 0 < n) (f : FitsS n x) (g : FitsS n y) (p : Is r a n x) (q : Is r b n y) where
-    pub is-sqaddsub : (subtract : Bool) → Is r (saturatingLane (AddSub (cond subtract Sub Add) Signed) a b n true) n (cS n (applyZ subtract x y))
-    unfolding Arith.saturatingLane
-    is-sqaddsub subtract = is-clampS r hn (omega arith) (apply-fits subtract hn f g) (is-joined subtract true true hn (omega arith) f g p q)
+    pub is-sqaddsub : (subtract : Bool) → Is r (saturating_lane (AddSub (cond subtract Sub Add) Signed) a b n true) n (c_s n (apply_z subtract x y))
+    unfolding Arith.saturating_lane
+    is-sqaddsub subtract = is-clamp_s r hn (omega arith) (apply-fits subtract hn f g) (is-joined subtract true true hn (omega arith) f g p q)
 
     pub is-doubled : (w : ℕ) → n ≤ w → Is r (twice a b w) w (x *ℤ y *ℤ pos 2)
     is-doubled w h = is-shl r (is_mul r (is-extend r true hn h f p) (is-extend r true hn h g q)) (by-const r 1 w)
 
-    pub is-high : (rounding : Bool) → Is r (exactLane (DoublingMultiplyHigh rounding) a b n true) (n * 2 + 1) (floor (plus rounding (x *ℤ y *ℤ pos 2) (2 ^ (n - 1))) n)
+    pub is-high : (rounding : Bool) → Is r (exact_lane (DoublingMultiplyHigh rounding) a b n true) (n * 2 + 1) (floor (plus rounding (x *ℤ y *ℤ pos 2) (2 ^ (n - 1))) n)
     is-high rounding =
         is-ashr r (omega arith) (high_fits n x y hn f g rounding)
         (is-plus rounding (2 ^ (n - 1)) small (is-doubled (n * 2 + 1) (omega arith))) (by-const r n (n * 2 + 1))
@@ -173,26 +173,26 @@ module _ (r : ℕ → ℕ) where
         small : 2 ^ (n - 1) < 2 ^ (n * 2 + 1)
         small = omega (arith, half n hn, pow_mono {i = n} {j = n * 2 + 1} (omega arith), pow_pos (n - 1))
 
-    pub is-dmulh : (rounding : Bool) → Is r (saturatingLane (DoublingMultiplyHigh rounding) a b n true) n (cS n (floor (plus rounding (x *ℤ y *ℤ pos 2) (2 ^ (n - 1))) n))
-    unfolding Arith.saturatingLane
-    is-dmulh rounding = is-clampS r hn (omega arith) (floor-high n x y hn f g rounding) (is-high rounding)
+    pub is-dmulh : (rounding : Bool) → Is r (saturating_lane (DoublingMultiplyHigh rounding) a b n true) n (c_s n (floor (plus rounding (x *ℤ y *ℤ pos 2) (2 ^ (n - 1))) n))
+    unfolding Arith.saturating_lane
+    is-dmulh rounding = is-clamp_s r hn (omega arith) (floor-high n x y hn f g rounding) (is-high rounding)
 
   -- two unsigned lanes
   module _ (a b : Expr) (n : ℕ) (x y : ℤ) (hn : 0 < n) (f : FitsU n x) (g : FitsU n y) (p : Is r a n x) (q : Is r b n y) where
-    pub is-uqadd : Is r (saturatingLane (AddSub Add Unsigned) a b n false) n (cU n (x +ℤ y))
-    unfolding Arith.saturatingLane
-    is-uqadd = is-clampU r hn (omega arith) (sumU hn f g) (is-joined false false false hn (omega arith) f g p q)
+    pub is-uqadd : Is r (saturating_lane (AddSub Add Unsigned) a b n false) n (c_u n (x +ℤ y))
+    unfolding Arith.saturating_lane
+    is-uqadd = is-clamp_u r hn (omega arith) (sum_u hn f g) (is-joined false false false hn (omega arith) f g p q)
 
-    pub is-uqsub : Is r (saturatingLane (AddSub Sub SignedToUnsigned) a b n false) n (cU n (x -ℤ y))
-    unfolding Arith.saturatingLane
-    is-uqsub = is-clampSU r hn (omega arith) (lessU hn f g) (is-joined true false false hn (omega arith) f g p q)
+    pub is-uqsub : Is r (saturating_lane (AddSub Sub SignedToUnsigned) a b n false) n (c_u n (x -ℤ y))
+    unfolding Arith.saturating_lane
+    is-uqsub = is-clamp_su r hn (omega arith) (less_u hn f g) (is-joined true false false hn (omega arith) f g p q)
 
   -- ---- one signed lane: the negative and the absolute value
   module _ (a b : Expr) (n : ℕ) (x : ℤ) (hn : 0 < n) (f : FitsS n x) (p : Is r a n x) where
     wide-x : Is r (extend a (n + 1) true) (n + 1) x
     wide-x = is-extend r true hn (omega arith) f p
 
-    pub is-minus : Is r (exactLane (Unary true) a b n true) (n + 1) (neg_ℤ x)
+    pub is-minus : Is r (exact_lane (Unary true) a b n true) (n + 1) (neg_ℤ x)
     is-minus = is_eq r (+ℤ_idl (neg_ℤ x)) (is-sub r (is-const r 0 (n + 1) (pow_pos (n + 1))) wide-x)
 
     pub minus-fits : FitsS (n + 1) (neg_ℤ x)
@@ -212,32 +212,32 @@ module _ (r : ℕ → ℕ) where
     pub abs-fits : FitsS (n + 1) (pos (nat_abs x))
     abs-fits = abs-of x x_fits minus-fits
 
-    pub is-abs : Is r (exactLane (Unary false) a b n true) (n + 1) (pos (nat_abs x))
+    pub is-abs : Is r (exact_lane (Unary false) a b n true) (n + 1) (pos (nat_abs x))
     is-abs =
         is_eq r (abs_is x)
         (is-ite r (says-slt r (omega arith) x_fits (zero-fits (n + 1)) wide-x (is-const r 0 (n + 1) (pow_pos (n + 1)))) is-minus wide-x)
 
-    pub is-sqneg : Is r (saturatingLane (Unary true) a b n true) n (cS n (neg_ℤ x))
-    unfolding Arith.saturatingLane
-    is-sqneg = is-clampS r hn (omega arith) minus-fits is-minus
+    pub is-sqneg : Is r (saturating_lane (Unary true) a b n true) n (c_s n (neg_ℤ x))
+    unfolding Arith.saturating_lane
+    is-sqneg = is-clamp_s r hn (omega arith) minus-fits is-minus
 
-    pub is-sqabs : Is r (saturatingLane (Unary false) a b n true) n (cS n (pos (nat_abs x)))
-    unfolding Arith.saturatingLane
-    is-sqabs = is-clampS r hn (omega arith) abs-fits is-abs
+    pub is-sqabs : Is r (saturating_lane (Unary false) a b n true) n (c_s n (pos (nat_abs x)))
+    unfolding Arith.saturating_lane
+    is-sqabs = is-clamp_s r hn (omega arith) abs-fits is-abs
 
   -- ---- narrowing: the source has n * 2 bits
   module _ (a b : Expr) (n : ℕ) (x : ℤ) (hn : 0 < n) (p : Is r a (n * 2) x) where
-    pub is-sqxtn : FitsS (n * 2) x → Is r (saturatingLane (Narrow Signed) a b n true) n (cS n x)
-    unfolding Arith.saturatingLane
-    is-sqxtn f = is-clampS r hn (omega arith) f p
+    pub is-sqxtn : FitsS (n * 2) x → Is r (saturating_lane (Narrow Signed) a b n true) n (c_s n x)
+    unfolding Arith.saturating_lane
+    is-sqxtn f = is-clamp_s r hn (omega arith) f p
 
-    pub is-uqxtn : FitsU (n * 2) x → Is r (saturatingLane (Narrow Unsigned) a b n false) n (cU n x)
-    unfolding Arith.saturatingLane
-    is-uqxtn f = is-clampU r hn (omega arith) f p
+    pub is-uqxtn : FitsU (n * 2) x → Is r (saturating_lane (Narrow Unsigned) a b n false) n (c_u n x)
+    unfolding Arith.saturating_lane
+    is-uqxtn f = is-clamp_u r hn (omega arith) f p
 
-    pub is-sqxtun : FitsS (n * 2) x → Is r (saturatingLane (Narrow SignedToUnsigned) a b n true) n (cU n x)
-    unfolding Arith.saturatingLane
-    is-sqxtun f = is-clampSU r hn (omega arith) f p
+    pub is-sqxtun : FitsS (n * 2) x → Is r (saturating_lane (Narrow SignedToUnsigned) a b n true) n (c_u n x)
+    unfolding Arith.saturating_lane
+    is-sqxtun f = is-clamp_su r hn (omega arith) f p
 
     module _ (s rounding : Bool) (i : ℕ) (f : Fits s (n * 2) x) (hi : 0 < i) (h : i ≤ n) where
       unit-small : 2 ^ (i - 1) < 2 ^ (n * 2 - 1)
@@ -256,44 +256,44 @@ module _ (r : ℕ → ℕ) where
           (by-const r i (n * 2 + 1))
 
     pub is-shrn : (s rounding : Bool) (i : ℕ) → Fits s (n * 2) x → 0 < i → i ≤ n
-        → Is r (saturatingLane (ShiftNarrow i rounding Never) a b n s) n (floor (plus rounding x (2 ^ (i - 1))) i)
-    unfolding Arith.saturatingLane
+        → Is r (saturating_lane (ShiftNarrow i rounding Never) a b n s) n (floor (plus rounding x (2 ^ (i - 1))) i)
+    unfolding Arith.saturating_lane
     is-shrn s rounding i f hi h = is_cut r hn (omega arith) (is-shifted s rounding i f hi h)
 
     pub is-sqshrn : (rounding : Bool) (i : ℕ) → FitsS (n * 2) x → 0 < i → i ≤ n
-        → Is r (saturatingLane (ShiftNarrow i rounding (Into Signed)) a b n true) n (cS n (floor (plus rounding x (2 ^ (i - 1))) i))
-    unfolding Arith.saturatingLane
-    is-sqshrn rounding i f hi h = is-clampS r hn (omega arith) (narrow-fits true rounding i f hi h) (is-shifted true rounding i f hi h)
+        → Is r (saturating_lane (ShiftNarrow i rounding (Into Signed)) a b n true) n (c_s n (floor (plus rounding x (2 ^ (i - 1))) i))
+    unfolding Arith.saturating_lane
+    is-sqshrn rounding i f hi h = is-clamp_s r hn (omega arith) (narrow-fits true rounding i f hi h) (is-shifted true rounding i f hi h)
 
     pub is-uqshrn : (rounding : Bool) (i : ℕ) → FitsU (n * 2) x → 0 < i → i ≤ n
-        → Is r (saturatingLane (ShiftNarrow i rounding (Into Unsigned)) a b n false) n (cU n (floor (plus rounding x (2 ^ (i - 1))) i))
-    unfolding Arith.saturatingLane
-    is-uqshrn rounding i f hi h = is-clampU r hn (omega arith) (narrow-fits false rounding i f hi h) (is-shifted false rounding i f hi h)
+        → Is r (saturating_lane (ShiftNarrow i rounding (Into Unsigned)) a b n false) n (c_u n (floor (plus rounding x (2 ^ (i - 1))) i))
+    unfolding Arith.saturating_lane
+    is-uqshrn rounding i f hi h = is-clamp_u r hn (omega arith) (narrow-fits false rounding i f hi h) (is-shifted false rounding i f hi h)
 
     pub is-sqshrun : (rounding : Bool) (i : ℕ) → FitsS (n * 2) x → 0 < i → i ≤ n
-        → Is r (saturatingLane (ShiftNarrow i rounding (Into SignedToUnsigned)) a b n true) n (cU n (floor (plus rounding x (2 ^ (i - 1))) i))
-    unfolding Arith.saturatingLane
-    is-sqshrun rounding i f hi h = is-clampSU r hn (omega arith) (narrow-fits true rounding i f hi h) (is-shifted true rounding i f hi h)
+        → Is r (saturating_lane (ShiftNarrow i rounding (Into SignedToUnsigned)) a b n true) n (c_u n (floor (plus rounding x (2 ^ (i - 1))) i))
+    unfolding Arith.saturating_lane
+    is-sqshrun rounding i f hi h = is-clamp_su r hn (omega arith) (narrow-fits true rounding i f hi h) (is-shifted true rounding i f hi h)
 
   -- ---- doubling, long: the source lanes have h bits, the result h * 2
   module _ (a b : Expr) (h : ℕ) (x y : ℤ) (hh : 0 < h) (f : FitsS h x) (g : FitsS h y) (p : Is r a h x) (q : Is r b h y) where
-    pub is-dmull : Is r (doublingProduct a b (h * 2)) (h * 2) (cS (h * 2) (x *ℤ y *ℤ pos 2))
-    unfolding Arith.doublingProduct
-    is-dmull = is-clampS r (omega arith) (omega arith) (doubled_fits h x y hh f g) (is-doubled a b h x y hh f g p q (h * 2 + 1) (omega arith))
+    pub is-dmull : Is r (doubling_product a b (h * 2)) (h * 2) (c_s (h * 2) (x *ℤ y *ℤ pos 2))
+    unfolding Arith.doubling_product
+    is-dmull = is-clamp_s r (omega arith) (omega arith) (doubled_fits h x y hh f g) (is-doubled a b h x y hh f g p q (h * 2 + 1) (omega arith))
 
     pub is-dmlal : (subtract : Bool) (d : Expr) (z : ℤ) → FitsS (h * 2) z → Is r d (h * 2) z
-        → Is r (doublingLongLane (With (cond subtract Sub Add)) d a b (h * 2)) (h * 2) (cS (h * 2) (applyZ subtract z (cS (h * 2) (x *ℤ y *ℤ pos 2))))
-    unfolding Arith.doublingLongLane
+        → Is r (doubling_long_lane (With (cond subtract Sub Add)) d a b (h * 2)) (h * 2) (c_s (h * 2) (apply_z subtract z (c_s (h * 2) (x *ℤ y *ℤ pos 2))))
+    unfolding Arith.doubling_long_lane
     is-dmlal subtract d z k o =
-        is-clampS r (omega arith) (omega arith) (apply-fits subtract (omega arith) k (clamp-fits (h * 2) (x *ℤ y *ℤ pos 2)))
+        is-clamp_s r (omega arith) (omega arith) (apply-fits subtract (omega arith) k (clamp-fits (h * 2) (x *ℤ y *ℤ pos 2)))
         (is-joined subtract true true (omega arith) (omega arith) k (clamp-fits (h * 2) (x *ℤ y *ℤ pos 2)) o is-dmull)
 
   -- ---- the mixed signs, at n + 2 bits
   module _ (d a : Expr) (n : ℕ) (z x : ℤ) (hn : 0 < n) (o : Is r d n z) (p : Is r a n x) where
-    pub is-suqadd : FitsS n z → FitsU n x → Is r (mixedSignAddLane true d a n) n (cS n (z +ℤ x))
-    unfolding Arith.mixedSignAddLane
-    is-suqadd f g = is-clampS r hn (omega arith) (sumSU hn f g) (is-joined false true false hn (omega arith) f g o p)
+    pub is-suqadd : FitsS n z → FitsU n x → Is r (mixed_sign_add_lane true d a n) n (c_s n (z +ℤ x))
+    unfolding Arith.mixed_sign_add_lane
+    is-suqadd f g = is-clamp_s r hn (omega arith) (sum_su hn f g) (is-joined false true false hn (omega arith) f g o p)
 
-    pub is-usqadd : FitsU n z → FitsS n x → Is r (mixedSignAddLane false d a n) n (cU n (z +ℤ x))
-    unfolding Arith.mixedSignAddLane
-    is-usqadd f g = is-clampSU r hn (omega arith) (sumUS hn f g) (is-joined false false true hn (omega arith) f g o p)
+    pub is-usqadd : FitsU n z → FitsS n x → Is r (mixed_sign_add_lane false d a n) n (c_u n (z +ℤ x))
+    unfolding Arith.mixed_sign_add_lane
+    is-usqadd f g = is-clamp_su r hn (omega arith) (sum_us hn f g) (is-joined false false true hn (omega arith) f g o p)

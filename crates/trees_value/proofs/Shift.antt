@@ -1,4 +1,4 @@
--- The shifts. `shiftZ` and the immediate forms. Assumes nothing.
+-- The shifts. `shift_z` and the immediate forms. Assumes nothing.
 use mathlib.Core.Path.{◌≡◌, refl, sym, ap, ◌∙◌, subst}
 use mathlib.Core.Bool.{Bool, true, false, cond}
 use Prim.Native.Nat.{ℕ, ◌+◌, ◌-◌, ◌*◌, ◌^◌, ◌≤◌, ◌<◌, max}
@@ -14,16 +14,16 @@ use Rattle.terms.specs.Value.{value}
 use Rattle.terms.specs.declared.BinOp.TheVariants.{Shl}
 use Rattle.terms.specs.declared.CmpOp.TheVariants.{Eq}
 use Rattle.neon.specs.Form.{most}
-use Rattle.neon.specs.Arm.{wrap, cS, cU, lane}
-use Rattle.trees.specs.Arith.{shift_by, shiftBound, saturatingShiftLeft}
-use Rattle.trees.specs.Trees.{shiftRight}
+use Rattle.neon.specs.Arm.{wrap, c_s, c_u, lane}
+use Rattle.trees.specs.Arith.{shift_by, shift_bound, saturating_shift_left}
+use Rattle.trees.specs.Trees.{shift_right}
 use Rattle.trees.specs.Arith as Arith
 use Rattle.trees_value.specs.Fits.{up, dn, FitsS, FitsU, Fits}
 use Rattle.trees_value.proofs.Z.{sum, less, times, ext, Floor, floored, ge-is}
 use Rattle.trees_value.proofs.Wrap.{half, wrap-lt, over, under, wrap-is}
 use Rattle.trees_value.proofs.Bv.{wrap-pos}
 use Rattle.trees_value.proofs.Is.{Is, By, by-is, is_eq, is-const, is_negative, is-add, is-sub, is-shl, is-zext, is-extend, is-shift, is_cut, is-then, is-else, is-ite, says-slt, says_eq}
-use Rattle.trees_value.proofs.Clamp.{reading, reading-fits, reading-wrap, reading-is, same, near, clampTo, clamp-in, low-S, high-S, high-U, floor-fits, congruent, multiple-le}
+use Rattle.trees_value.proofs.Clamp.{reading, reading-fits, reading-wrap, reading-is, same, near, clamp_to, clamp-in, low-S, high-S, high-U, floor-fits, congruent, multiple-le}
 
 -- ---- to the right, with rounding: the sum is exact one bit above the lane and the amount
 module _ (n k most : ℕ) (hn : 0 < n) (hk : 0 < k) (hm : k ≤ most) where
@@ -51,8 +51,8 @@ module _ (n k most : ℕ) (hn : 0 < n) (hk : 0 < k) (hm : k ≤ most) where
   round-fits false x f = record { low = omega (arith, powers, sum x (pos (2 ^ (k - 1)))); high = omega (arith, powers, sum x (pos (2 ^ (k - 1)))) }
 
   pub is-round : (r : ℕ → ℕ) (s : Bool) (v amount : Expr) (x : ℤ) → Fits s n x → k < 2 ^ n → Is r v n x → Is r amount n (pos k)
-      → Is r (shiftRight v amount n s true most) n (shr_z (x +ℤ pos (2 ^ (k - 1))) (2 ^ k))
-  unfolding Arith.shiftRight
+      → Is r (shift_right v amount n s true most) n (shr_z (x +ℤ pos (2 ^ (k - 1))) (2 ^ k))
+  unfolding Arith.shift_right
   is-round r s v amount x f small p q =
       let w : ℕ = max n most + 1 in
       let nw : n ≤ max n most + 1 = omega (arith, le-max_left n most) in
@@ -128,29 +128,29 @@ module _ (s : Bool) (n k : ℕ) (x y : ℤ) (hn : 0 < n) (fy : Fits s n y) (e : 
       go false l = restored-long (omega (arith, leb-false k n l)) t
 
 -- an integer that does not fit is clamped to the end on its side
-above-S : (n : ℕ) (z : ℤ) → (FitsS n z → ⊥) → dn z ≤ up z → cS n z ≡ pos (2 ^ (n - 1) - 1)
+above-S : (n : ℕ) (z : ℤ) → (FitsS n z → ⊥) → dn z ≤ up z → c_s n z ≡ pos (2 ^ (n - 1) - 1)
 above-S n z nf h = go (ltb (up z) (dn z + 2 ^ (n - 1))) refl
   where
-    go : (t : Bool) → ltb (up z) (dn z + 2 ^ (n - 1)) ≡ t → cS n z ≡ pos (2 ^ (n - 1) - 1)
+    go : (t : Bool) → ltb (up z) (dn z + 2 ^ (n - 1)) ≡ t → c_s n z ≡ pos (2 ^ (n - 1) - 1)
     go true e = absurd (nf (record { low = omega arith; high = ltb-true (up z) (dn z + 2 ^ (n - 1)) e }))
     go false e = high-S n z (ltb-false (up z) (dn z + 2 ^ (n - 1)) e)
 
-below-S : (n : ℕ) (z : ℤ) → (FitsS n z → ⊥) → up z ≤ dn z → cS n z ≡ neg_ℤ (pos (2 ^ (n - 1)))
+below-S : (n : ℕ) (z : ℤ) → (FitsS n z → ⊥) → up z ≤ dn z → c_s n z ≡ neg_ℤ (pos (2 ^ (n - 1)))
 below-S n z nf h = go (ltb (up z + 2 ^ (n - 1)) (dn z)) refl
   where
-    go : (t : Bool) → ltb (up z + 2 ^ (n - 1)) (dn z) ≡ t → cS n z ≡ neg_ℤ (pos (2 ^ (n - 1)))
+    go : (t : Bool) → ltb (up z + 2 ^ (n - 1)) (dn z) ≡ t → c_s n z ≡ neg_ℤ (pos (2 ^ (n - 1)))
     go true e = low-S n z (ltb-true (up z + 2 ^ (n - 1)) (dn z) e)
     go false e = absurd (nf (record { low = ltb-false (up z + 2 ^ (n - 1)) (dn z) e; high = omega (arith, pow_pos (n - 1)) }))
 
-above-U : (n : ℕ) (z : ℤ) → (FitsU n z → ⊥) → dn z ≤ up z → cU n z ≡ pos (2 ^ n - 1)
+above-U : (n : ℕ) (z : ℤ) → (FitsU n z → ⊥) → dn z ≤ up z → c_u n z ≡ pos (2 ^ n - 1)
 above-U n z nf h = go (ltb (up z) (dn z + 2 ^ n)) refl
   where
-    go : (t : Bool) → ltb (up z) (dn z + 2 ^ n) ≡ t → cU n z ≡ pos (2 ^ n - 1)
+    go : (t : Bool) → ltb (up z) (dn z + 2 ^ n) ≡ t → c_u n z ≡ pos (2 ^ n - 1)
     go true e = absurd (nf (record { low = h; high = ltb-true (up z) (dn z + 2 ^ n) e }))
     go false e = high-U n z (ltb-false (up z) (dn z + 2 ^ n) e)
 
 module _ (r : ℕ → ℕ) (v : Expr) (n k : ℕ) (hn : 0 < n) where
-  is_bound : (s : Bool) (x : ℤ) → Fits s n x → Is r v n x → (Fits s n (x *ℤ pos (2 ^ k)) → ⊥) → Is r (shiftBound v n s) n (clampTo s n (x *ℤ pos (2 ^ k)))
+  is_bound : (s : Bool) (x : ℤ) → Fits s n x → Is r v n x → (Fits s n (x *ℤ pos (2 ^ k)) → ⊥) → Is r (shift_bound v n s) n (clamp_to s n (x *ℤ pos (2 ^ k)))
   is_bound false x f p nf =
       is_eq r (sym (above-U n (x *ℤ pos (2 ^ k)) nf (omega (arith, product x (2 ^ k), mul-le-mul_right (2 ^ k) f.low))))
       (is-const r (2 ^ n - 1) n (omega (arith, pow_pos n)))
@@ -163,13 +163,13 @@ module _ (r : ℕ → ℕ) (v : Expr) (n k : ℕ) (hn : 0 < n) where
       is_eq r (ends x nf) (is-ite r (says-slt r hn f zf p (is-const r 0 n (pow_pos n))) low high)
     where
       ends : (x : ℤ) → (FitsS n (x *ℤ pos (2 ^ k)) → ⊥)
-          → cond (lt_z x (pos 0)) (neg_ℤ (pos (2 ^ (n - 1)))) (pos (2 ^ (n - 1) - 1)) ≡ cS n (x *ℤ pos (2 ^ k))
+          → cond (lt_z x (pos 0)) (neg_ℤ (pos (2 ^ (n - 1)))) (pos (2 ^ (n - 1) - 1)) ≡ c_s n (x *ℤ pos (2 ^ k))
       ends (pos a) nf = rw (ge-is (pos a) (pos 0) (omega arith)) (sym (above-S n (pos (a * 2 ^ k)) nf (omega arith)))
       ends (negsuc a) nf = sym (below-S n (negsuc a *ℤ pos (2 ^ k)) nf (omega (arith, product (negsuc a) (2 ^ k))))
 
   pub is-saturating : (s : Bool) (amount : Expr) (x : ℤ) → Fits s n x → Is r v n x → By r amount k
-      → Is r (saturatingShiftLeft v amount n s) n (clampTo s n (x *ℤ pos (2 ^ k)))
-  unfolding saturatingShiftLeft value
+      → Is r (saturating_shift_left v amount n s) n (clamp_to s n (x *ℤ pos (2 ^ k)))
+  unfolding saturating_shift_left value
   is-saturating s amount x f p q = go (eqb (value r (shift_by s (Bv Shl v amount) amount)) (value r v)) refl
     where
       z : ℤ
@@ -205,6 +205,6 @@ module _ (r : ℕ → ℕ) (v : Expr) (n k : ℕ) (hn : 0 < n) where
           (restored.val ∙ ap (λ (c : ℤ). wrap n (shr_z c (2 ^ k))) (reading-is s n (x *ℤ pos (2 ^ k)) hn g) ∙ ap (wrap n) (floor-exact x k) ∙ sym p.val)
 
       go : (t : Bool) → eqb (value r (shift_by s (Bv Shl v amount) amount)) (value r v) ≡ t
-          → Is r (Ite (Compare Eq (shift_by s (Bv Shl v amount) amount) v) (Bv Shl v amount) (shiftBound v n s)) n (clampTo s n (x *ℤ pos (2 ^ k)))
+          → Is r (Ite (Compare Eq (shift_by s (Bv Shl v amount) amount) v) (Bv Shl v amount) (shift_bound v n s)) n (clamp_to s n (x *ℤ pos (2 ^ k)))
       go true e = is-then r (says_eq r e) (is_eq r (sym (clamp-in s n (x *ℤ pos (2 ^ k)) (fits e))) shifted)
       go false e = is-else r (says_eq r e) shifted.wide (is_bound s x f p (unfit e))

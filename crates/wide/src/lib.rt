@@ -9,7 +9,7 @@ use word::{add_carry, funnel, power, product, sub_borrow};
 pub mod word;
 
 // A number, the lowest word first.
-#[derive(Drop)]
+#[derive(Clone, Copy)]
 pub struct Wide {
     pub low: u64,
     pub high: u64,
@@ -17,7 +17,7 @@ pub struct Wide {
 }
 
 // A word of a sum or a difference, and what goes over to the next.
-#[derive(Drop)]
+#[derive(Clone, Copy)]
 pub struct Step {
     pub word: u64,
     pub over: u64,

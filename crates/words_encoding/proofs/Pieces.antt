@@ -6,74 +6,74 @@ use native.Mathlib.Omega.{arith}
 use lib.Dec.{ltb}
 use borrow.Author.Tests.{ltb-false}
 use Rattle.facts.proofs.Table.{tabulate, agree}
-use Rattle.neon.specs.Op.{Arrangement, B8, B16, H4, H8, S2, S4, D2, arrangements, arrangementAt, laneBits, full}
-use Rattle.neon.specs.Form.{Lanes, Same, Narrow, Long, Immediate, None, Left, Right, Element, most_of, immediateCode}
+use Rattle.neon.specs.Op.{Arrangement, B8, B16, H4, H8, S2, S4, D2, arrangements, arrangement_at, bits_of_lane, full}
+use Rattle.neon.specs.Form.{Lanes, Same, Narrow, Long, Immediate, None, Left, Right, Element, most_of, immediate_code}
 use Rattle.neon.proofs.Geometry.{sized}
 use Rattle.terms.specs.Value.{bit}
 use Rattle.words_encoding.specs.Word.{size_of}
-use Rattle.words_encoding.specs.Decode.{bits, arrangementOf, elementAt, immediateAt}
-use Rattle.words_encoding.specs.Parts.{isLong, viewPart, sizePart, elementPart, placePart}
+use Rattle.words_encoding.specs.Decode.{bits, arrangement_of, element_at, immediate_at}
+use Rattle.words_encoding.specs.Parts.{is_long, view_part, size_part, element_part, place_part}
 
-sizes : tabulate (λ a. size_of (arrangementAt a)) 0 7 ≡ tabulate (λ a. a / 2) 0 7
-unfolding tabulate arrangementAt arrangements
+sizes : tabulate (λ a. size_of (arrangement_at a)) 0 7 ≡ tabulate (λ a. a / 2) 0 7
+unfolding tabulate arrangement_at arrangements
 sizes = refl
 
-pub size_is : (a : ℕ) → a ≤ 6 → size_of (arrangementAt a) ≡ a / 2
-size_is a h = agree (λ a. size_of (arrangementAt a)) (λ a. a / 2) 7 sizes a (omega arith)
+pub size_is : (a : ℕ) → a ≤ 6 → size_of (arrangement_at a) ≡ a / 2
+size_is a h = agree (λ a. size_of (arrangement_at a)) (λ a. a / 2) 7 sizes a (omega arith)
 
-pub size-long : (l : Lanes) (a : ℕ) → a ≤ 6 → isLong l ≡ true → 4194304 * (a / 2 - 1) ≡ sizePart l (arrangementAt a)
+pub size-long : (l : Lanes) (a : ℕ) → a ≤ 6 → is_long l ≡ true → 4194304 * (a / 2 - 1) ≡ size_part l (arrangement_at a)
 size-long Same a h e = absurd (false≢true e)
 size-long Narrow a h e = absurd (false≢true e)
 size-long (Long u) a h e = omega (arith, size_is a h)
 
-pub size-other : (l : Lanes) (a : ℕ) → a ≤ 6 → (isLong l && ltb 0 (a / 2)) ≡ false → 4194304 * (a / 2) ≡ sizePart l (arrangementAt a)
+pub size-other : (l : Lanes) (a : ℕ) → a ≤ 6 → (is_long l && ltb 0 (a / 2)) ≡ false → 4194304 * (a / 2) ≡ size_part l (arrangement_at a)
 size-other Same a h e = omega (arith, size_is a h)
 size-other Narrow a h e = omega (arith, size_is a h)
 size-other (Long u) a h e = omega (arith, size_is a h, ltb-false 0 (a / 2) e)
 
-pub view-long : (l : Lanes) (v : Arrangement) → isLong l ≡ true → 0 ≡ viewPart l v
+pub view-long : (l : Lanes) (v : Arrangement) → is_long l ≡ true → 0 ≡ view_part l v
 view-long Same v e = absurd (false≢true e)
 view-long Narrow v e = absurd (false≢true e)
 view-long (Long u) v e = refl
 
-pub view-other : (l : Lanes) (v : Arrangement) (b : Bool) → isLong l ≡ false → full v ≡ b → 1073741824 * bit b ≡ viewPart l v
+pub view-other : (l : Lanes) (v : Arrangement) (b : Bool) → is_long l ≡ false → full v ≡ b → 1073741824 * bit b ≡ view_part l v
 view-other Same v b e f = rw f
 view-other Narrow v b e f = rw f
 view-other (Long u) v b e f = absurd (false≢true (sym e))
 
 module _ (K : Immediate) (n s i m : ℕ) where
-  pub row-none : immediateCode K ≡ 1 → s + 65536 * m ≡ placePart K n s i m
+  pub row-none : immediate_code K ≡ 1 → s + 65536 * m ≡ place_part K n s i m
   row-none e = go K e
     where
-      go : (K : Immediate) → immediateCode K ≡ 1 → s + 65536 * m ≡ placePart K n s i m
+      go : (K : Immediate) → immediate_code K ≡ 1 → s + 65536 * m ≡ place_part K n s i m
       go None e = refl
       go Left e = absurd (omega arith)
       go Right e = absurd (omega arith)
       go Element e = absurd (omega arith)
 
-  pub row-left : immediateCode K ≡ 2 → 65536 * (n + i) ≡ placePart K n s i m
+  pub row-left : immediate_code K ≡ 2 → 65536 * (n + i) ≡ place_part K n s i m
   row-left e = go K e
     where
-      go : (K : Immediate) → immediateCode K ≡ 2 → 65536 * (n + i) ≡ placePart K n s i m
+      go : (K : Immediate) → immediate_code K ≡ 2 → 65536 * (n + i) ≡ place_part K n s i m
       go None e = absurd (omega arith)
       go Left e = refl
       go Right e = absurd (omega arith)
       go Element e = absurd (omega arith)
 
-  pub row-right : (x : ℕ) → x ≡ 2 * n - i → immediateCode K ≡ 3 → 65536 * x ≡ placePart K n s i m
+  pub row-right : (x : ℕ) → x ≡ 2 * n - i → immediate_code K ≡ 3 → 65536 * x ≡ place_part K n s i m
   row-right x q e = go K e
     where
-      go : (K : Immediate) → immediateCode K ≡ 3 → 65536 * x ≡ placePart K n s i m
+      go : (K : Immediate) → immediate_code K ≡ 3 → 65536 * x ≡ place_part K n s i m
       go None e = absurd (omega arith)
       go Left e = absurd (omega arith)
       go Right e = ap (λ (y : ℕ). 65536 * y) q
       go Element e = absurd (omega arith)
 
-  pub row-element : (x : ℕ) → x ≡ elementPart n i → (immediateCode K ≡ 1 → ⊥) → (immediateCode K ≡ 2 → ⊥) → (immediateCode K ≡ 3 → ⊥)
-      → s + 65536 * m + x ≡ placePart K n s i m
+  pub row-element : (x : ℕ) → x ≡ element_part n i → (immediate_code K ≡ 1 → ⊥) → (immediate_code K ≡ 2 → ⊥) → (immediate_code K ≡ 3 → ⊥)
+      → s + 65536 * m + x ≡ place_part K n s i m
   row-element x q a b c = go K a b c
     where
-      go : (K : Immediate) → (immediateCode K ≡ 1 → ⊥) → (immediateCode K ≡ 2 → ⊥) → (immediateCode K ≡ 3 → ⊥) → s + 65536 * m + x ≡ placePart K n s i m
+      go : (K : Immediate) → (immediate_code K ≡ 1 → ⊥) → (immediate_code K ≡ 2 → ⊥) → (immediate_code K ≡ 3 → ⊥) → s + 65536 * m + x ≡ place_part K n s i m
       go None a b c = absurd (a refl)
       go Left a b c = absurd (b refl)
       go Right a b c = absurd (c refl)
@@ -81,7 +81,7 @@ module _ (K : Immediate) (n s i m : ℕ) where
 
 -- bounds
 
-pub most-small : (K : Immediate) (v : Arrangement) → most_of K (laneBits v) ≤ 256
+pub most-small : (K : Immediate) (v : Arrangement) → most_of K (bits_of_lane v) ≤ 256
 most-small None v = omega arith
 most-small Left v = omega (arith, (sized v).most)
 most-small Right v = omega (arith, (sized v).most)
@@ -95,35 +95,35 @@ most-small Element D2 = omega arith
 
 -- ---- a word's fields
 
-pub arrangement-long : (l : Lanes) (q s : ℕ) → isLong l ≡ true → min (2 * s + 3) 6 ≡ arrangementOf l q s
+pub arrangement-long : (l : Lanes) (q s : ℕ) → is_long l ≡ true → min (2 * s + 3) 6 ≡ arrangement_of l q s
 arrangement-long Same q s e = absurd (false≢true e)
 arrangement-long Narrow q s e = absurd (false≢true e)
 arrangement-long (Long u) q s e = refl
 
-pub arrangement-other : (l : Lanes) (q s : ℕ) → isLong l ≡ false → min (2 * s + q) 6 ≡ arrangementOf l q s
+pub arrangement-other : (l : Lanes) (q s : ℕ) → is_long l ≡ false → min (2 * s + q) 6 ≡ arrangement_of l q s
 arrangement-other Same q s e = refl
 arrangement-other Narrow q s e = refl
 arrangement-other (Long u) q s e = absurd (false≢true (sym e))
 
-pub at_none : (K : Immediate) (n w : ℕ) → immediateCode K ≡ 1 → 0 ≡ immediateAt K n w
+pub at_none : (K : Immediate) (n w : ℕ) → immediate_code K ≡ 1 → 0 ≡ immediate_at K n w
 at_none None n w e = refl
 at_none Left n w e = absurd (omega arith)
 at_none Right n w e = absurd (omega arith)
 at_none Element n w e = absurd (omega arith)
 
-pub at_left : (K : Immediate) (n w x : ℕ) → x ≡ bits 22 16 w - n → immediateCode K ≡ 2 → x ≡ immediateAt K n w
+pub at_left : (K : Immediate) (n w x : ℕ) → x ≡ bits 22 16 w - n → immediate_code K ≡ 2 → x ≡ immediate_at K n w
 at_left None n w x q e = absurd (omega (arith, e))
 at_left Left n w x q e = q
 at_left Right n w x q e = absurd (omega (arith, e))
 at_left Element n w x q e = absurd (omega (arith, e))
 
-pub at_right : (K : Immediate) (n w x : ℕ) → x ≡ 2 * n - bits 22 16 w → immediateCode K ≡ 3 → x ≡ immediateAt K n w
+pub at_right : (K : Immediate) (n w x : ℕ) → x ≡ 2 * n - bits 22 16 w → immediate_code K ≡ 3 → x ≡ immediate_at K n w
 at_right None n w x q e = absurd (omega (arith, e))
 at_right Left n w x q e = absurd (omega (arith, e))
 at_right Right n w x q e = q
 at_right Element n w x q e = absurd (omega (arith, e))
 
-pub at-element : (K : Immediate) (n w x : ℕ) → x ≡ elementAt n w → (immediateCode K ≡ 1 → ⊥) → (immediateCode K ≡ 2 → ⊥) → (immediateCode K ≡ 3 → ⊥) → x ≡ immediateAt K n w
+pub at-element : (K : Immediate) (n w x : ℕ) → x ≡ element_at n w → (immediate_code K ≡ 1 → ⊥) → (immediate_code K ≡ 2 → ⊥) → (immediate_code K ≡ 3 → ⊥) → x ≡ immediate_at K n w
 at-element None n w x q a b c = absurd (a refl)
 at-element Left n w x q a b c = absurd (b refl)
 at-element Right n w x q a b c = absurd (c refl)

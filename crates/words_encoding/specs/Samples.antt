@@ -204,23 +204,23 @@ others =
 
 -- ---- the theorem, which proofs/Samples.antt computes
 
-abbrev pub isRecord : Decoded → Instruction → Bool
-isRecord (Record c) e =
+abbrev pub is_record : Decoded → Instruction → Bool
+is_record (Record c) e =
     eqb c.operation e.operation && eqb c.arrangement e.arrangement && eqb c.i e.i && eqb c.d e.d && eqb c.n e.n && eqb c.m e.m
-isRecord Nothing e = false
+is_record Nothing e = false
 
-abbrev pub isNothing : Decoded → Bool
-isNothing (Record c) = false
-isNothing Nothing = true
+abbrev pub is_nothing : Decoded → Bool
+is_nothing (Record c) = false
+is_nothing Nothing = true
 
 -- each record has that word, and each word that record
-unfoldable pub bothWays : List Sample → Bool
-bothWays [] = true
-bothWays (s ∷ ss) = eqb (encode s.record_is) s.word && isRecord (decode s.word) s.record_is && bothWays ss
+unfoldable pub both_ways : List Sample → Bool
+both_ways [] = true
+both_ways (s ∷ ss) = eqb (encode s.record_is) s.word && is_record (decode s.word) s.record_is && both_ways ss
 
-unfoldable pub noneOfOurs : List ℕ → Bool
-noneOfOurs [] = true
-noneOfOurs (w ∷ ws) = isNothing (decode w) && noneOfOurs ws
+unfoldable pub none_of_ours : List ℕ → Bool
+none_of_ours [] = true
+none_of_ours (w ∷ ws) = is_nothing (decode w) && none_of_ours ws
 
 abbrev pub SamplesHold : Type 0
-SamplesHold = (bothWays samples ≡ true) × (noneOfOurs others ≡ true)
+SamplesHold = (both_ways samples ≡ true) × (none_of_ours others ≡ true)

@@ -2,7 +2,7 @@
 use Rattle.std.specs.Prelude.{cond, List, [], ◌∷◌, ℕ, ◌+◌, ◌-◌, ◌*◌, ◌/◌, ◌%◌, ◌^◌, eqb}
 use Rattle.terms.specs.Value.{bit}
 use Rattle.neon.specs.declared.Instruction.{Instruction}
-use Rattle.neon.specs.Op.{Op, opAt, Arrangement, arrangementAt, B8, B16, H4, H8, S2, S4, D2, laneBits, full}
+use Rattle.neon.specs.Op.{Op, op_at, Arrangement, arrangement_at, B8, B16, H4, H8, S2, S4, D2, bits_of_lane, full}
 use Rattle.neon.specs.Form.{Lanes, Same, Narrow, Long, Immediate, None, Left, Right, Element, form}
 use Rattle.words_encoding.specs.Encoding.{Class, ShiftByImmediate, ThreeSame, ThreeDifferent, TwoMiscellaneous, ByElement, TwoMiscellaneous01, encoding}
 
@@ -84,13 +84,13 @@ diagram ByElement Q U size imm opcode H L M Rm m Rn Rd =
 diagram TwoMiscellaneous01 Q U size imm opcode H L M Rm m Rn Rd =
     1 ∶ 0 ∷ 1 ∶ Q ∷ 1 ∶ U ∷ 5 ∶ 0b01110 ∷ 2 ∶ 0b01 ∷ 5 ∶ 0b10000 ∷ 5 ∶ opcode ∷ 2 ∶ 0b10 ∷ 5 ∶ Rn ∷ 5 ∶ Rd ∷ []
 
-unfoldable pub encodeOf : Op → Arrangement → (i d n m : ℕ) → ℕ
-encodeOf o v i d n m =
+unfoldable pub encode_of : Op → Arrangement → (i d n m : ℕ) → ℕ
+encode_of o v i d n m =
     let e = encoding o in
     let l = (form o).lanes in
-    let b = laneBits v in
+    let b = bits_of_lane v in
     word
     (diagram e.class (Qof l v) e.U (size l v) (immhb (form o).immediate b i) e.opcode (Hof b i) (Lof b i) (Mof b i m) (Rmof b m) m n d)
 
 abbrev pub encode : Instruction → ℕ
-encode c = encodeOf (opAt c.operation) (arrangementAt c.arrangement) c.i c.d c.n c.m
+encode c = encode_of (op_at c.operation) (arrangement_at c.arrangement) c.i c.d c.n c.m

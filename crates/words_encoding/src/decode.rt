@@ -1,11 +1,11 @@
 // The record of a word, by the word's fields.
 ghost use Rattle.std.specs.Prelude.{◌≡◌, ◌-◌, ◌≤◌, ◌<◌, min};
-ghost use Rattle.neon.specs.Op.{opAt};
+ghost use Rattle.neon.specs.Op.{op_at};
 ghost use Rattle.neon.specs.Form.{form};
 ghost use Rattle.neon_form.specs.Code.{OfCode};
 ghost use Rattle.words_encoding.specs.Encoding.{encoding};
-ghost use Rattle.words_encoding.specs.Parts.{keyOf};
-ghost use Rattle.words_encoding.specs.Decode.{classNumber, class_at, operationAt, sizeOfImmh, size_at, arrangementOf, elementAt, immediateAt, secondAt, decode};
+ghost use Rattle.words_encoding.specs.Parts.{key_of};
+ghost use Rattle.words_encoding.specs.Decode.{class_number, class_at, operation_at, size_of_immh, size_at, arrangement_of, element_at, immediate_at, second_at, decode};
 
 use crate::Decoded;
 use crate::encode::{encode_word, is_long};
@@ -78,7 +78,7 @@ fn class_at(w: u64) -> u64
 // The place of the fields of a word of a class among the 64 entries of that class.
 fn key(class: u64, w: u64) -> u64
     requires { class ≤ 4 }
-    ensures { (result ≡ keyOf class w) × (result < 64) }
+    ensures { (result ≡ key_of class w) × (result < 64) }
 {
     if (class == 0) | (class == 3) {
         return 32 * (w / 1073741824 % 2) + 16 * (w / 536870912 % 2) + w / 4096 % 16;
@@ -91,7 +91,7 @@ fn key(class: u64, w: u64) -> u64
 
 // The operation of a word, 0 if it has none.
 fn operation_at(w: u64) -> u64
-    ensures { (result ≡ operationAt w) × (result ≤ 67) }
+    ensures { (result ≡ operation_at w) × (result ≤ 67) }
 {
     let class = class_at(w);
     let at = key(class, w);
@@ -101,7 +101,7 @@ fn operation_at(w: u64) -> u64
 
 // The size that the highest bit of immh tells.
 fn size_of_immh(immh: u64) -> u64
-    ensures { (result ≡ sizeOfImmh immh) × (result ≤ 3) }
+    ensures { (result ≡ size_of_immh immh) × (result ≤ 3) }
 {
     if immh < 2 {
         return 0;
@@ -114,8 +114,8 @@ fn size_of_immh(immh: u64) -> u64
 
 // The size that a word of an operation tells.
 fn size_at(class: u64, operation: u64, w: u64) -> u64
-    requires { (1 ≤ operation) × (operation ≤ 67) × (class ≡ classNumber (encoding (opAt operation)).class) }
-    ensures { (result ≡ size_at (encoding (opAt operation)).class w) × (result ≤ 3) }
+    requires { (1 ≤ operation) × (operation ≤ 67) × (class ≡ class_number (encoding (op_at operation)).class) }
+    ensures { (result ≡ size_at (encoding (op_at operation)).class w) × (result ≤ 3) }
 {
     if class == 4 {
         return size_of_immh(w / 524288 % 16);
@@ -129,7 +129,7 @@ fn size_at(class: u64, operation: u64, w: u64) -> u64
 // The arrangement that Q and a size tell.
 fn arrangement_of(operation: u64, q: u64, size: u64) -> u64
     requires { (1 ≤ operation) × (operation ≤ 67) × (q ≤ 1) × (size ≤ 3) }
-    ensures { (result ≡ arrangementOf (form (opAt operation)).lanes q size) × (result ≤ 6) }
+    ensures { (result ≡ arrangement_of (form (op_at operation)).lanes q size) × (result ≤ 6) }
 {
     if is_long(operation) {
         return at_most_6(2 * size + 3);
@@ -152,7 +152,7 @@ fn minus_or_zero(x: u64, y: u64) -> u64
 
 // The number of an element.
 fn element_at(bits: u64, w: u64) -> u64
-    ensures { result ≡ elementAt bits w }
+    ensures { result ≡ element_at bits w }
 {
     if bits == 32 {
         return 4 * (w / 2048 % 2) + 2 * (w / 2097152 % 2) + w / 1048576 % 2;
@@ -163,7 +163,7 @@ fn element_at(bits: u64, w: u64) -> u64
 // The immediate of a word.
 fn immediate_at(code: u64, bits: u64, w: u64) -> u64
     requires { bits ≤ 64 }
-    ensures { OfCode code (λ o v. result ≡ immediateAt (form o).immediate bits w) }
+    ensures { OfCode code (λ o v. result ≡ immediate_at (form o).immediate bits w) }
 {
     let row = code % 8;
     match row {
@@ -176,7 +176,7 @@ fn immediate_at(code: u64, bits: u64, w: u64) -> u64
 
 // The second source of a word.
 fn second_at(code: u64, bits: u64, w: u64) -> u64
-    ensures { OfCode code (λ o v. result ≡ secondAt o bits w) }
+    ensures { OfCode code (λ o v. result ≡ second_at o bits w) }
 {
     if !has_second(code) {
         return 0;

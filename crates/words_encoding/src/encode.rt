@@ -1,12 +1,12 @@
 // The word of a record.
 ghost use Rattle.std.specs.Prelude.{◌≡◌, ◌*◌, ◌-◌, ◌≤◌, ◌<◌};
-ghost use Rattle.neon.specs.Op.{opAt, arrangementAt};
+ghost use Rattle.neon.specs.Op.{op_at, arrangement_at};
 ghost use Rattle.neon.specs.Form.{form};
 ghost use Rattle.neon.specs.Refusal.{Legal};
 ghost use Rattle.neon_form.specs.Code.{OfCode};
 ghost use Rattle.block_record_check.specs.Record.{instruction};
 ghost use Rattle.words_encoding.specs.Word.{encode};
-ghost use Rattle.words_encoding.specs.Parts.{fixed_of, viewPart, sizePart, elementPart, placePart, isLong};
+ghost use Rattle.words_encoding.specs.Parts.{fixed_of, view_part, size_part, element_part, place_part, is_long};
 
 use neon::form_code;
 use neon_form::{is_full, lane_bits};
@@ -85,7 +85,7 @@ const FIXED: [u64; 67] = [
 // The fixed bits of an operation's word.
 fn fixed(operation: u64) -> u64
     requires { (1 ≤ operation) × (operation ≤ 67) }
-    ensures { (result ≡ fixed_of (opAt operation)) × (result < 2147483648) }
+    ensures { (result ≡ fixed_of (op_at operation)) × (result < 2147483648) }
 {
     let k = (operation - 1) as usize;
     FIXED[k]
@@ -94,7 +94,7 @@ fn fixed(operation: u64) -> u64
 // Whether an operation's source lanes are half as wide as its result's.
 pub fn is_long(operation: u64) -> bool
     requires { (1 ≤ operation) × (operation ≤ 67) }
-    ensures { result ≡ isLong (form (opAt operation)).lanes }
+    ensures { result ≡ is_long (form (op_at operation)).lanes }
 {
     (42 <= operation) & (operation <= 53)
 }
@@ -102,7 +102,7 @@ pub fn is_long(operation: u64) -> bool
 // Q, if it tells the view.
 fn view_part(operation: u64, arrangement: u64) -> u64
     requires { (1 ≤ operation) × (operation ≤ 67) × (arrangement ≤ 6) }
-    ensures { (result ≡ viewPart (form (opAt operation)).lanes (arrangementAt arrangement)) × (result ≤ 1073741824) }
+    ensures { (result ≡ view_part (form (op_at operation)).lanes (arrangement_at arrangement)) × (result ≤ 1073741824) }
 {
     if is_long(operation) {
         return 0;
@@ -113,7 +113,7 @@ fn view_part(operation: u64, arrangement: u64) -> u64
 // The field size.
 fn size_part(operation: u64, arrangement: u64) -> u64
     requires { (1 ≤ operation) × (operation ≤ 67) × (arrangement ≤ 6) }
-    ensures { (result ≡ sizePart (form (opAt operation)).lanes (arrangementAt arrangement)) × (result ≤ 12582912) }
+    ensures { (result ≡ size_part (form (op_at operation)).lanes (arrangement_at arrangement)) × (result ≤ 12582912) }
 {
     let size = arrangement / 2;
     if is_long(operation) & (0 < size) {
@@ -125,7 +125,7 @@ fn size_part(operation: u64, arrangement: u64) -> u64
 // H, L and M of an element, if M belongs to its number.
 fn element_part(bits: u64, i: u64) -> u64
     requires { i ≤ 256 }
-    ensures { (result ≡ elementPart bits i) × (result ≤ 4194304) }
+    ensures { (result ≡ element_part bits i) × (result ≤ 4194304) }
 {
     if bits == 32 {
         return 2048 * (i / 4) + 2097152 * (i / 2 % 2) + 1048576 * (i % 2);
@@ -144,7 +144,7 @@ fn to_right(bits: u64, i: u64) -> u64
 // The fields that go by the immediate: size and Rm; immh:immb; or size, H, L, M and Rm.
 fn place(code: u64, bits: u64, size: u64, i: u64, m: u64) -> u64
     requires { (bits ≤ 64) × (size ≤ 12582912) × (i ≤ 256) × (m ≤ 31) }
-    ensures { OfCode code (λ o v. result ≡ placePart (form o).immediate bits size i m) × (result ≤ 4294967296) }
+    ensures { OfCode code (λ o v. result ≡ place_part (form o).immediate bits size i m) × (result ≤ 4294967296) }
 {
     let row = code % 8;
     match row {

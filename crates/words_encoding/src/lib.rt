@@ -5,7 +5,7 @@ pub mod decode;
 pub mod encode;
 
 // The record that a word encodes, if any.
-#[derive(Drop)]
+#[derive(Clone, Copy)]
 pub enum Decoded {
     Record(Instruction),
     Nothing,

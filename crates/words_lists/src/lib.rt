@@ -2,7 +2,7 @@
 ghost use Rattle.std.specs.Prelude.{◌≡◌, ◌+◌, ◌*◌, ◌≤◌, ◌<◌, length};
 ghost use Rattle.words_encoding.specs.Decode.{decode};
 ghost use Rattle.text_digits.specs.Writing.{Room, Wrote};
-ghost use Rattle.words_lists.specs.Words.{word_at, isRecord, numbers, flat, listed, recordsIn, Good, WordsRead, word_bytes, AllGood, words_in, WordsWritten};
+ghost use Rattle.words_lists.specs.Words.{word_at, is_record, numbers, flat, listed, records_in, Good, WordsRead, word_bytes, AllGood, words_in, WordsWritten};
 
 use block_check::{ListAnswer, records_refusal};
 use block_record_check::record_at;
@@ -32,7 +32,7 @@ pub fn word_at(bytes: &[u8], j: usize) -> u64
 
 // Whether a word encodes a legal form.
 pub fn is_record(w: u64) -> bool
-    ensures { result ≡ isRecord (decode w) }
+    ensures { result ≡ is_record (decode w) }
 {
     let r = decode_word(w);
     if let Decoded::Record(_) = r {
@@ -98,8 +98,8 @@ pub fn list_word(w: u64, out: &mut [u8], at: usize) -> usize
 
 // Writes the records of all words.
 fn put_records(bytes: &[u8], records: &mut [u64]) -> usize
-    requires { Room records.old 0 (recordsIn bytes.now) }
-    ensures { Wrote records.old 0 (recordsIn bytes.now) result records.new }
+    requires { Room records.old 0 (records_in bytes.now) }
+    ensures { Wrote records.old 0 (records_in bytes.now) result records.new }
 {
     let count = bytes.len() / 4;
     let mut j = 0;

@@ -12,9 +12,9 @@ use borrow.Author.Tests.{lt-ltb, le-ltb, ltb-true, ltb-false, leb-true, leb-fals
 use Rattle.terms.specs.Display.{bytes, decimal}
 use Rattle.neon.specs.Refusal.{Refusal, PassedTo}
 use Rattle.text_series.specs.Series.{up_to}
-use Rattle.words_lists.specs.Words.{word_at, wholeWords, isLegalWord, readRefusal, Good}
+use Rattle.words_lists.specs.Words.{word_at, whole_words, is_legal_word, read_refusal, Good}
 use Rattle.words_lists.proofs.Answers.{bad-word, broken-word, short-list, no-refusal}
-use Rattle.words_run.specs.Rows.{wordCount, nameText, foreignText, brokenText, row, report}
+use Rattle.words_run.specs.Rows.{word_count, name_text, foreign_text, broken_text, row, report}
 use Rattle.words_run.specs.Run.{ReportsRefused}
 
 -- ---- rows
@@ -47,58 +47,58 @@ first p (suc k) = next (first p k)
             (suc k, record { most = omega arith; before = more; first = λ h. absurd (omega arith) })
         go false e false d = (k, record { most = omega arith; before = λ j h. g.before j (omega (arith, ltb-false r k e, h)); first = λ h. d })
 
-named : (j : ℕ) (s : List ℕ) → 0 < length (nameText j ++ s)
-named j s = omega (arith, length-append (nameText j) s, length-append (bytes "words: word ") (decimal j ++ bytes ": 12, "))
+named : (j : ℕ) (s : List ℕ) → 0 < length (name_text j ++ s)
+named j s = omega (arith, length-append (name_text j) s, length-append (bytes "words: word ") (decimal j ++ bytes ": 12, "))
 
 module _ (bs : List ℕ) where
-  legal-row : (j : ℕ) → 4 * j + 4 ≤ length bs → isLegalWord bs j ≡ true → row true bs j ≡ []
+  legal-row : (j : ℕ) → 4 * j + 4 ≤ length bs → is_legal_word bs j ≡ true → row true bs j ≡ []
   unfolding row
   legal-row j h l = rw (le-ltb (length bs - 4 * j) 4 (omega arith), l) refl
 
-  foreign-row : (j : ℕ) → 4 * j + 4 ≤ length bs → isLegalWord bs j ≡ false → 0 < length (row true bs j)
+  foreign-row : (j : ℕ) → 4 * j + 4 ≤ length bs → is_legal_word bs j ≡ false → 0 < length (row true bs j)
   unfolding row
-  foreign-row j h l = rw (le-ltb (length bs - 4 * j) 4 (omega arith), l) (named j (foreignText (word_at bs j)))
+  foreign-row j h l = rw (le-ltb (length bs - 4 * j) 4 (omega arith), l) (named j (foreign_text (word_at bs j)))
 
   broken-row : (j : ℕ) → length bs - 4 * j < 4 → 0 < length (row true bs j)
   unfolding row
-  broken-row j h = rw (lt-ltb (length bs - 4 * j) 4 h) (named j (brokenText (length bs - 4 * j)))
+  broken-row j h = rw (lt-ltb (length bs - 4 * j) 4 h) (named j (broken_text (length bs - 4 * j)))
 
-  reported : (j : ℕ) → j < wordCount bs → 0 < length (row true bs j) → 0 < length (report bs)
-  reported j h p = omega (arith, p, longer (row true bs) (wordCount bs) j h)
+  reported : (j : ℕ) → j < word_count bs → 0 < length (row true bs j) → 0 < length (report bs)
+  reported j h p = omega (arith, p, longer (row true bs) (word_count bs) j h)
 
   module _ (room r : ℕ) (g : Good bs r) where
     abbrev goal : Type 0
-    goal = (0 < length (report bs)) ↔ ((readRefusal bs room).number ≡ 12)
+    goal = (0 < length (report bs)) ↔ ((read_refusal bs room).number ≡ 12)
 
-    both : {p : ℕ} → readRefusal bs room ≡ record { number = 12; position = p } → 0 < length (report bs) → goal
+    both : {p : ℕ} → read_refusal bs room ≡ record { number = 12; position = p } → 0 < length (report bs) → goal
     both e h = (λ x. ap (λ (y : Refusal). y.number) e, λ x. h)
 
-    neither : {n p : ℕ} → readRefusal bs room ≡ record { number = n; position = p } → n < 12 → report bs ≡ [] → goal
+    neither : {n p : ℕ} → read_refusal bs room ≡ record { number = n; position = p } → n < 12 → report bs ≡ [] → goal
     neither e l h = (λ x. absurd (omega (arith, x, ap length h)), λ x. absurd (omega (arith, l, x, ap (λ (y : Refusal). y.number) e)))
 
-    all-ours : wholeWords bs ≤ r → length bs % 4 ≡ 0 → report bs ≡ []
+    all-ours : whole_words bs ≤ r → length bs % 4 ≡ 0 → report bs ≡ []
     all-ours h z =
-        empties (row true bs) (wordCount bs)
-        (λ j l. let m : j < wholeWords bs = omega arith in legal-row j (omega arith) (g.before j (omega (arith, m, h))))
+        empties (row true bs) (word_count bs)
+        (λ j l. let m : j < whole_words bs = omega arith in legal-row j (omega arith) (g.before j (omega (arith, m, h))))
 
     decided : goal
-    decided = words (ltb r (wholeWords bs)) refl
+    decided = words (ltb r (whole_words bs)) refl
       where
-        fits : (b : Bool) → leb (6 * wholeWords bs) room ≡ b → wholeWords bs ≤ r → length bs % 4 ≡ 0 → goal
-        fits true q h z = neither (no-refusal bs room r g h z (leb-true (6 * wholeWords bs) room q)) (omega arith) (all-ours h z)
-        fits false q h z = neither (short-list bs room r g h z (leb-false (6 * wholeWords bs) room q)) (omega arith) (all-ours h z)
+        fits : (b : Bool) → leb (6 * whole_words bs) room ≡ b → whole_words bs ≤ r → length bs % 4 ≡ 0 → goal
+        fits true q h z = neither (no-refusal bs room r g h z (leb-true (6 * whole_words bs) room q)) (omega arith) (all-ours h z)
+        fits false q h z = neither (short-list bs room r g h z (leb-false (6 * whole_words bs) room q)) (omega arith) (all-ours h z)
 
-        whole : (b : Bool) → ltb 0 (length bs % 4) ≡ b → wholeWords bs ≤ r → goal
+        whole : (b : Bool) → ltb 0 (length bs % 4) ≡ b → whole_words bs ≤ r → goal
         whole true q h =
             let p = ltb-true 0 (length bs % 4) q in
-            both (broken-word bs room r g h p) (reported (wholeWords bs) (omega (arith, p)) (broken-row (wholeWords bs) (omega arith)))
-        whole false q h = fits (leb (6 * wholeWords bs) room) refl h (omega (arith, ltb-false 0 (length bs % 4) q))
+            both (broken-word bs room r g h p) (reported (whole_words bs) (omega (arith, p)) (broken-row (whole_words bs) (omega arith)))
+        whole false q h = fits (leb (6 * whole_words bs) room) refl h (omega (arith, ltb-false 0 (length bs % 4) q))
 
-        words : (b : Bool) → ltb r (wholeWords bs) ≡ b → goal
+        words : (b : Bool) → ltb r (whole_words bs) ≡ b → goal
         words true q =
-            let l = ltb-true r (wholeWords bs) q in
+            let l = ltb-true r (whole_words bs) q in
             both (bad-word bs room r g l) (reported r (omega (arith, l)) (foreign-row r (omega (arith, l)) (g.first l)))
-        words false q = whole (ltb 0 (length bs % 4)) refl (ltb-false r (wholeWords bs) q)
+        words false q = whole (ltb 0 (length bs % 4)) refl (ltb-false r (whole_words bs) q)
 
 pub reports-refused : ReportsRefused
-reports-refused bs room = let f = first (isLegalWord bs) (wholeWords bs) in decided bs room f.0 f.1
+reports-refused bs room = let f = first (is_legal_word bs) (whole_words bs) in decided bs room f.0 f.1

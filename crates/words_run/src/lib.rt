@@ -2,7 +2,7 @@
 // writes of the program `words`.
 ghost use Rattle.std.specs.Prelude.{◌≡◌, ◌+◌, ◌*◌, ◌≤◌, ◌<◌, length};
 ghost use Rattle.text_digits.specs.Writing.{Wrote};
-ghost use Rattle.words_run.specs.Rows.{wordCount, nameText, foreignText, brokenText, wordRow, row, Goes};
+ghost use Rattle.words_run.specs.Rows.{word_count, name_text, foreign_text, broken_text, word_row, row, Goes};
 
 use run_registers::put_digits;
 use text_digits::{put, put_decimal};
@@ -12,7 +12,7 @@ use words_lists::{is_record, list_word, word_at};
 pub const ROW_ROOM: usize = 80;
 
 // How far it came: the word that is next, and the bytes put into the output.
-#[derive(Drop)]
+#[derive(Clone, Copy)]
 pub struct Progress {
     pub next: usize,
     pub output: usize,
@@ -20,7 +20,7 @@ pub struct Progress {
 
 // The words, a broken last one among them.
 fn word_count(bytes: &[u8]) -> usize
-    ensures { result ≡ wordCount bytes.now }
+    ensures { result ≡ word_count bytes.now }
 {
     let whole = bytes.len() / 4;
     if 0 < bytes.len() % 4 {
@@ -32,7 +32,7 @@ fn word_count(bytes: &[u8]) -> usize
 // The position and the number of a word that is refused.
 fn put_name(j: u64, out: &mut [u8], at: usize) -> usize
     requires { at + 38 ≤ length out.old }
-    ensures wrote { Wrote out.old at (nameText j) result out.new }
+    ensures wrote { Wrote out.old at (name_text j) result out.new }
     ensures upper_bound { result ≤ at + 38 }
 {
     let a = put(b"words: word ", out, at);
@@ -43,7 +43,7 @@ fn put_name(j: u64, out: &mut [u8], at: usize) -> usize
 // A word that encodes no legal form, by its eight digits.
 fn put_foreign(w: u64, out: &mut [u8], at: usize) -> usize
     requires { at + 28 ≤ length out.old }
-    ensures wrote { Wrote out.old at (foreignText w) result out.new }
+    ensures wrote { Wrote out.old at (foreign_text w) result out.new }
     ensures upper_bound { result ≤ at + 28 }
 {
     let a = put(b"none of our forms: ", out, at);
@@ -54,7 +54,7 @@ fn put_foreign(w: u64, out: &mut [u8], at: usize) -> usize
 // A last word of n bytes, fewer than four.
 fn put_broken(n: u64, out: &mut [u8], at: usize) -> usize
     requires { (n < 4) × (at + 16 ≤ length out.old) }
-    ensures wrote { Wrote out.old at (brokenText n) result out.new }
+    ensures wrote { Wrote out.old at (broken_text n) result out.new }
     ensures upper_bound { result ≤ at + 16 }
 {
     let a = put(b"broken: bytes ", out, at);
@@ -65,7 +65,7 @@ fn put_broken(n: u64, out: &mut [u8], at: usize) -> usize
 // The row of a whole word at position j.
 fn put_word_row(refusals: bool, j: u64, w: u64, out: &mut [u8], at: usize) -> usize
     requires { at + 80 ≤ length out.old }
-    ensures wrote { Wrote out.old at (wordRow refusals j w) result out.new }
+    ensures wrote { Wrote out.old at (word_row refusals j w) result out.new }
     ensures upper_bound { result ≤ at + 80 }
 {
     if !is_record(w) {

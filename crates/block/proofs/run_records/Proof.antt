@@ -5,7 +5,7 @@ use Prim.Native.Nat.{◌-◌, ◌/◌, ◌≤◌, ◌<◌}
 use lib.ListN.{length}
 use Rattle.neon.specs.Refusal.{reserve}
 use Rattle.pool.specs.Growth.{Room}
-use Rattle.block_check.specs.Records.{recordsFrom}
+use Rattle.block_check.specs.Records.{records_from}
 use Rattle.block_check.proofs.Refusals.{from-length}
 use Rattle.block.specs.Block.{Runs}
 use Rattle.block.proofs.Running.{runs_none, runs-next, runs-all}
@@ -14,7 +14,7 @@ use Rattle.block.proofs.run_records.Statement.{statement}
 use Rattle.block.proofs.run_records.Tie as tie
 
 abbrev invariant-loop : tie.invariant-loop
-invariant-loop pool₀ records count map₀ j₀ pool map j = (count ≡ length records / 6) × (j ≤ count) × Runs pool₀ map₀ pool map (recordsFrom records 0 j)
+invariant-loop pool₀ records count map₀ j₀ pool map j = (count ≡ length records / 6) × (j ≤ count) × Runs pool₀ map₀ pool map (records_from records 0 j)
 
 abbrev decreases-loop : tie.decreases-loop
 decreases-loop pool₀ records count map₀ j₀ pool map j = count - j
@@ -33,7 +33,7 @@ room c =
     omega (arith, s.pre.0, l.invariant.2.long, l.invariant.2.most, from-length s.args.records.now 0 l.j, in-records c)
 
 loop-holds : tie.Need-loop-init invariant-loop decreases-loop
-unfolding recordsFrom
+unfolding records_from
 loop-holds c = (refl, omega arith, runs_none c.before.before.requires.1.0)
 
 record-at-requires : tie.Need-record-at-requires invariant-loop decreases-loop
@@ -44,7 +44,7 @@ lower-record-requires c κs =
     let r = c.before in
     let t = r.before in
     let s = entry t.before in
-    (room t, (t.before.loop.invariant.2.map-ok, rw r.record-at.ensures (legal-here s.args.records.now _ s.pre.1.1 (in-records t))))
+    (room t, (t.before.loop.invariant.2.map_ok, rw r.record-at.ensures (legal-here s.args.records.now _ s.pre.1.1 (in-records t))))
 
 abbrev turn : tie.After-slice-known2 invariant-loop decreases-loop → tie.In-loop invariant-loop decreases-loop
 turn c = c.before.before.before.before.before

@@ -2,9 +2,9 @@
 use mathlib.Core.Path.{◌≡◌, sym, ap, subst, ◌∙◌}
 use Prim.Native.Nat.{ℕ, ◌/◌}
 use lib.ListN.{length}
-use Rattle.neon.specs.Refusal.{sizeNumber, refusalBy, blockRefusal}
+use Rattle.neon.specs.Refusal.{size_number, refusal_by, block_refusal}
 use Rattle.pool.specs.Node.{places}
-use Rattle.block_check.specs.Records.{recordsOf, Refuses}
+use Rattle.block_check.specs.Records.{records_of, Refuses}
 use Rattle.block_check.proofs.Refusals.{from-length}
 use borrow.Author.Rules.{rules}
 use Rattle.block_check.proofs.block_refusal.Statement.{statement}
@@ -17,14 +17,14 @@ refusal-by-requires : tie.Need-refusal-by-requires
 refusal-by-requires c κs = search rules
 
 returns : tie.Need-returns
-unfolding blockRefusal
+unfolding block_refusal
 returns c =
     let sized = c.before in
     let a = sized.before.before.before.args in
     let flat = a.records.now in
-    let n : sized.size_number.result ≡ sizeNumber (places a.pool.now) (length (recordsOf flat)) =
-    sized.size_number.ensures ∙ ap (sizeNumber (places a.pool.now)) (sym (from-length flat 0 (length flat / 6))) in
-    subst (λ (k : ℕ). Refuses c.refusal-by.result (refusalBy k (recordsOf flat))) n c.refusal-by.ensures
+    let n : sized.size_number.result ≡ size_number (places a.pool.now) (length (records_of flat)) =
+    sized.size_number.ensures ∙ ap (size_number (places a.pool.now)) (sym (from-length flat 0 (length flat / 6))) in
+    subst (λ (k : ℕ). Refuses c.refusal-by.result (refusal_by k (records_of flat))) n c.refusal-by.ensures
 
 pub block-refusal-spec : {M : Type 1} → statement M
 block-refusal-spec = tie.close (tie.spec size-number-requires refusal-by-requires returns)

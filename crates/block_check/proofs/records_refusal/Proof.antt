@@ -1,18 +1,18 @@
--- records_refusal is `recordsRefusal`: what refuses the records from place j on refuses them all
+-- records_refusal is `records_refusal`: what refuses the records from place j on refuses them all
 use native.Mathlib.Omega.{arith}
 use mathlib.Core.Path.{◌≡◌, refl, sym, ap, ◌∙◌}
 use Prim.Native.Nat.{◌-◌, ◌/◌, ◌≤◌}
 use lib.ListN.{length}
 use borrow.Author.Rules.{rules}
-use Rattle.neon.specs.Refusal.{Refusal, recordNumber, recordsRefusal}
-use Rattle.block_record_check.specs.Record.{recordAt}
-use Rattle.block_check.specs.Records.{recordsFrom, recordsOf}
+use Rattle.neon.specs.Refusal.{Refusal, record_number, records_refusal}
+use Rattle.block_record_check.specs.Record.{record_at}
+use Rattle.block_check.specs.Records.{records_from, records_of}
 use Rattle.block_check.proofs.Refusals.{refused-here, passed_here, none_left, all_left}
 use Rattle.block_check.proofs.records_refusal.Statement.{statement}
 use Rattle.block_check.proofs.records_refusal.Tie as tie
 
 abbrev invariant-loop : tie.invariant-loop
-invariant-loop records count j₀ j = (count ≡ length records / 6) × (j ≤ count) × (recordsRefusal j (recordsFrom records j (count - j)) ≡ recordsRefusal 0 (recordsOf records))
+invariant-loop records count j₀ j = (count ≡ length records / 6) × (j ≤ count) × (records_refusal j (records_from records j (count - j)) ≡ records_refusal 0 (records_of records))
 
 abbrev decreases-loop : tie.decreases-loop
 decreases-loop records count j₀ j = count - j
@@ -29,7 +29,7 @@ abbrev passed : tie.Else1 invariant-loop decreases-loop → tie.In-loop invarian
 passed c = turn c.before
 
 number_is : (c : tie.After-record-number invariant-loop decreases-loop) → let l = (turn c).before in
-    c.record-number.result ≡ recordNumber (recordAt (entry l).args.records.now l.loop.j)
+    c.record-number.result ≡ record_number (record_at (entry l).args.records.now l.loop.j)
 number_is c = rw c.before.record-at.ensures at c.record-number.ensures
 
 -- ---- needs

@@ -1,4 +1,4 @@
--- size_number is `sizeNumber`: 8, then 6, and 0 if there is room
+-- size_number is `size_number`: 8, then 6, and 0 if there is room
 use native.Mathlib.Omega.{arith}
 use Rattle.block_check.proofs.Refusals.{too_long, no_room, has_room}
 use borrow.Author.Rules.{rules}

@@ -42,7 +42,7 @@ use denote.Triple.Table.{entered, cited}
 use denote.Triple.Walked.{AllGo, Goes-ref, Goes-none_slice, Goes-slice, Walks, walked, walk_Meets}
 use denote.Exit.{yes}
 use Rattle.block_map.specs.declared.RegisterMap.{RegisterMap}
-use Rattle.block_map.specs.Map.{noMap}
+use Rattle.block_map.specs.Map.{no_map}
 use Rattle.block_check.specs.declared.Checked.{Checked}
 use Rattle.block_map.specs.contracts.RegisterMap as T
 use Rattle.block_map.proofs.RegisterMap.TheLaws as T'
@@ -56,7 +56,7 @@ use Rattle.block.proofs.start_pool.Symbol.{name as #block·start-pool}
 use Rattle.block.proofs.start_pool.Met as start-pool-thm
 use Rattle.block_list.proofs.Listed.{all-refused}
 use Rattle.block_list_check.proofs.Locals.{bare, row}
-use Rattle.block_list.proofs.Called.{R, S, Called, calledOf, list-val, map-val, records, args}
+use Rattle.block_list.proofs.Called.{R, S, Called, called_of, list-val, map-val, records, args}
 use Rattle.block_list.proofs.Called.{Own, Owned}
 use Rattle.block_list_check.proofs.block_refusal.Symbol as block-refusal-def
 use Rattle.block_list_check.proofs.block_refusal.Symbol.{name as #block-list-check·block-refusal}
@@ -108,7 +108,7 @@ module _ {M : Type 1} {𝓤 : Ura M} (𝓛 : Logic 𝓤) (at_mem : Memory → SP
         use0 𝓛 (raw (Emptying.pre (to-no-map 𝓛 at_mem ran c bounds))) (goes-no-map 𝓛 at_mem ran c bounds) $
         calls_at ! fm Emptying no-map-known (to-no-map 𝓛 at_mem ran c bounds) (no_more !) (λ v₂.
         use1 𝓛 (later (some (λ (g : RegisterMap). (‵ ftrue ⊛ ‵ (S.own g (v₂ ∷ []))) ⊛ raw (Unmapped 𝓛 at_mem ran c bounds g)))) (id⊢ 𝓤 _) $ await ! tt $ pick ! (λ g. split ! $ move ! (1 ∷ []) $
-        use1 𝓛 (raw (fact 𝓤 (g ≡ noMap))) (no-map-told 𝓛 at_mem ran c bounds g) $ heard ! (g ≡ noMap) (λ z. split ! $ lose ! $
+        use1 𝓛 (raw (fact 𝓤 (g ≡ no_map))) (no-map-told 𝓛 at_mem ran c bounds g) $ heard ! (g ≡ no_map) (λ z. split ! $ lose ! $
         peeks ! S (Is S) (shows 𝓛 S) g (v₂ ∷ []) (λ is₂. land ! (from ! (stop !)) (init ! 21 refl ((LL.lawful T.the_type T'.the_laws 𝓛).typed g _ is₂).0) $
         move ! (5 ∷ []) $ fsplit3 ! $ lose ! $ move ! (0 ∷ 1 ∷ 7 ∷ []) $
         opens ! tt S {h = h₀} b₃ o₃ (λ vs. spelt ! S (Is S) (shows 𝓛 S) (λ d. T'.lowered d ∷ []) (T'.lowers).val_is full_share h₀ vs b₃ o₃ $
@@ -168,7 +168,7 @@ module _ {M : Type 1} {𝓤 : Ura M} (𝓛 : Logic 𝓤) (at_mem : Memory → SP
       walked 𝓛 lower-instructions.ended stayed (lower-instructions.clauses 𝓛 at_mem ran) Code (λ κs. (shr_slice_vals, (shr_slice_vals, (shr_vals, tt))))
       (λ κs. (mut_slice_Tells (named 0) κs.0 u64, (shr_slice_Tells (named 1) κs.1.0 R, (mut_Tells (named 2) κs.1.1.0 S, tt))))
       (λ κs qs bounds a g are. via 𝓤 _ (fst∗ 𝓤 _ (emp 𝓤))
-      (walk 𝓛 at_mem ran (calledOf κs qs a.0 a.1.0 a.1.1.0 are.0.0.1 are.1.0.0.1) bounds 𝓣 (fm_of 𝓤 H 𝓛.laws 𝓣) refusing-known no-map-known start-known run-known))
+      (walk 𝓛 at_mem ran (called_of κs qs a.0 a.1.0 a.1.1.0 are.0.0.1 are.1.0.0.1) bounds 𝓣 (fm_of 𝓤 H 𝓛.laws 𝓣) refusing-known no-map-known start-known run-known))
 
   goes : AllGo 𝓛 3 (lower-instructions.signature).params (lower-instructions.ended).kept stayed
   goes = (Goes-slice 𝓛 3 0 tt (plain (λ _. u64)), (Goes-none_slice 𝓛 3 (1 ∷ []) tt (plain (λ _. R)) yes, (Goes-ref 𝓛 3 2 tt (plain (λ _. S)), tt)))

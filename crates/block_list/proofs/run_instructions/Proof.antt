@@ -62,7 +62,7 @@ use Rattle.block_list_check.proofs.Listed.{none}
 use Rattle.block_list.proofs.Listed.{Ran, ran-none, ran-more, ran-all, ran-ok}
 use Rattle.block_list_check.proofs.Six.{Fits}
 use Rattle.block_list_check.proofs.Locals.{bare, holds, bares, row}
-use Rattle.block_list.proofs.Called.{R, S, word, slice, words, map-ref, lent-word, lent, lent_map, Called, calledOf, n, m, pool-val, list-val, map-val, map, records, args}
+use Rattle.block_list.proofs.Called.{R, S, word, slice, words, map-ref, lent-word, lent, lent_map, Called, called_of, n, m, pool-val, list-val, map-val, map, records, args}
 use Rattle.block_list.proofs.Called.{Own, Pool, Map, PoolLent, PoolKept, MapLent, MapKept, Owned}
 use Rattle.block_list.proofs.run_instructions.Proof.Callee.{stayed, Step, x, at, Post, exits, to_step, goes_step, Ensured, Stepped}
 use Rattle.block_list.proofs.Walking.{needs3}
@@ -266,7 +266,7 @@ module _ {M : Type 1} {𝓤 : Ura M} (𝓛 : Logic 𝓤) (at_mem : Memory → SP
       (λ κs. (mut_slice_Tells (named 0) κs.0 u64, (shr_slice_Tells (named 1) κs.1.0 R, (mut_Tells (named 2) κs.1.1.0 S, tt))))
       (λ κs qs bounds a g are.
       needs3 𝓤 (Places a.0.now a.1.1.0.now.count (reserve * length a.1.0.now)) (MapOk a.1.1.0.now) (AllLegal a.1.0.now) _ (λ places map legal.
-      walk 𝓛 at_mem ran (calledOf κs qs a.0 a.1.0 a.1.1.0 are.0.0.1 are.1.0.0.1) bounds 𝓣 (fm_of 𝓤 H 𝓛.laws 𝓣) known (places, map, legal)))
+      walk 𝓛 at_mem ran (called_of κs qs a.0 a.1.0 a.1.1.0 are.0.0.1 are.1.0.0.1) bounds 𝓣 (fm_of 𝓤 H 𝓛.laws 𝓣) known (places, map, legal)))
 
   goes : AllGo 𝓛 3 (run-instructions.signature).params (run-instructions.ended).kept stayed
   goes = (Goes-slice 𝓛 3 0 tt (plain (λ _. u64)), (Goes-none_slice 𝓛 3 (1 ∷ []) tt (plain (λ _. R)) yes, (Goes-ref 𝓛 3 2 tt (plain (λ _. S)), tt)))

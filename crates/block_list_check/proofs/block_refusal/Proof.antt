@@ -48,7 +48,7 @@ use denote.Triple.Table.{entered, cited}
 use denote.Triple.Walked.{AllGo, Goes-none, Goes-none_slice, Walks, walked, walk_Meets}
 use denote.Exit.{yes}
 use Rattle.neon.specs.declared.Instruction.{Instruction}
-use Rattle.neon.specs.Refusal.{recordNumber, sizeNumber, blockRefusal}
+use Rattle.neon.specs.Refusal.{record_number, size_number, block_refusal}
 use Rattle.block_check.specs.Records.{Refuses}
 use Rattle.neon.specs.contracts.Instruction as T₁
 use Rattle.neon.proofs.Instruction.TheLaws as T₁'
@@ -135,7 +135,7 @@ module _ {M : Type 1} {𝓤 : Ura M} (𝓛 : Logic 𝓤) (at_mem : Memory → SP
     At u = With (holds word l₄ (vint w64 u.0) (bare word l₃ Params))
 
     -- the locals are freed, at each of the three returns
-    leaves : (r k : ℕ) → Refuses (answer r k) (blockRefusal (p c) ys) → r < 2 ^ 64 → k < 2 ^ 64
+    leaves : (r k : ℕ) → Refuses (answer r k) (block_refusal (p c) ys) → r < 2 ^ 64 → k < 2 ^ 64
         → Sq 𝓛 (With (bares ((word, l₄) ∷ (word, l₃) ∷ (slice, l₂) ∷ (word, l₁) ∷ (refused, l₀) ∷ []) [])) (frees En (prop (Done (mach r k))))
     leaves r k e fr fk =
         move ! (26 ∷ 27 ∷ []) $ free1 ! $ move ! (24 ∷ 25 ∷ []) $ free1 ! $ move ! (22 ∷ 23 ∷ []) $ free1 ! $ move ! (20 ∷ 21 ∷ []) $ free1 ! $ move ! (18 ∷ 19 ∷ []) $ free1 ! $
@@ -172,7 +172,7 @@ module _ {M : Type 1} {𝓤 : Ura M} (𝓛 : Logic 𝓤) (at_mem : Memory → SP
         (and_then ! (load ! (from ! (fld ! refl (stop !))) (look_in ! 17 (sub ! 4 refl (whole !)))) (and_then ! (load ! (from ! (fld ! refl (stop !))) (look_in ! 17 (sub ! 5 refl (whole !))))
         (no_more !))))))) (λ v.
         use1 𝓛 (later (some (λ (r : ℕ). (‵ ftrue ⊛ ‵ (u64.own_val r (v ∷ []))) ⊛ raw (Numbered 𝓛 at_mem ran c elem r)))) (id⊢ 𝓤 _) $ await ! tt $ pick ! (λ r. split ! $ move ! (1 ∷ []) $
-        use1 𝓛 (raw (fact 𝓤 (r ≡ recordNumber elem))) (number-told 𝓛 at_mem ran c elem r) $ heard ! (r ≡ recordNumber elem) (λ e. split ! $ lose ! $
+        use1 𝓛 (raw (fact 𝓤 (r ≡ record_number elem))) (number-told 𝓛 at_mem ran c elem r) $ heard ! (r ≡ record_number elem) (λ e. split ! $ lose ! $
         peeks ! u64 (Is u64) (shows 𝓛 u64) r (v ∷ []) (λ is.
         land ! (from ! (stop !)) (init ! 15 refl ((uint_Lawful 𝓛 w64).typed r _ is).0) $ rewrite ! 15 (λ (z : Val). ‵ (fat full_share word l₆ 0 z)) (ap only is.0) refl $ lose ! $
         -- [the list's token; what the list owns; the locals]
@@ -205,7 +205,7 @@ module _ {M : Type 1} {𝓤 : Ura M} (𝓛 : Logic 𝓤) (at_mem : Memory → SP
         next_fits : u.0 + 1 < 2 ^ 64
         next_fits = omega (arith, room.0)
 
-        next : (r : ℕ) → r ≡ recordNumber elem → r ≤ 0 → Upto
+        next : (r : ℕ) → r ≡ record_number elem → r ≤ 0 → Upto
         next r e z = (u.0 + 1, omega arith, passed-more (p c) ys u.0 u.2 less e z)
 
         nearer : n c - (u.0 + 1) < n c - u.0
@@ -237,7 +237,7 @@ module _ {M : Type 1} {𝓤 : Ura M} (𝓛 : Logic 𝓤) (at_mem : Memory → SP
         use0 𝓛 (raw (Sizes.pre (to-size 𝓛 at_mem ran c))) (goes-size 𝓛 at_mem ran c) $
         calls_at ! fm Sizes known (to-size 𝓛 at_mem ran c) (and_then ! (load ! (from ! (stop !)) (look ! 25 refl)) (and_then ! (load ! (from ! (stop !)) (look ! 13 refl)) (no_more !))) (λ v.
         use1 𝓛 (later (some (λ (r : ℕ). (‵ ftrue ⊛ ‵ (u64.own_val r (v ∷ []))) ⊛ raw (Sized 𝓛 at_mem ran c r)))) (id⊢ 𝓤 _) $ await ! tt $ pick ! (λ r. split ! $ move ! (1 ∷ []) $
-        use1 𝓛 (raw (fact 𝓤 (r ≡ sizeNumber (p c) (n c)))) (size-told 𝓛 at_mem ran c r) $ heard ! (r ≡ sizeNumber (p c) (n c)) (λ e. split ! $ lose ! $
+        use1 𝓛 (raw (fact 𝓤 (r ≡ size_number (p c) (n c)))) (size-told 𝓛 at_mem ran c r) $ heard ! (r ≡ size_number (p c) (n c)) (λ e. split ! $ lose ! $
         peeks ! u64 (Is u64) (shows 𝓛 u64) r (v ∷ []) (λ is.
         land ! (from ! (stop !)) (init ! 21 refl ((uint_Lawful 𝓛 w64).typed r _ is).0) $ rewrite ! 21 (λ (z : Val). ‵ (fat full_share word l₃ 0 z)) (ap only is.0) refl $ lose ! $
         assigns ! (bin ! (lit ! tt) (load ! (from ! (stop !)) (look ! 20 refl)) tt) (from ! (stop !)) (init ! 10 refl (tt, tt)) $ first ! $

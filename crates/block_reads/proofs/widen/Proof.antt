@@ -1,4 +1,4 @@
--- widen builds `widenTree`: the result itself, or its zero extension
+-- widen builds `widen_tree`: the result itself, or its zero extension
 use native.Mathlib.Omega.{arith}
 use mathlib.Core.Path.{refl}
 use Rattle.block_reads.proofs.Reading.{widen_none, widen-some}

@@ -3,8 +3,8 @@ use native.Mathlib.Omega.{arith}
 use mathlib.Core.Path.{◌≡◌, refl, ◌∙◌}
 use Prim.Native.Nat.{◌+◌, ◌<◌}
 use Rattle.neon.specs.declared.Instruction.{Instruction}
-use Rattle.neon.specs.Op.{Op, opAt, Arrangement, arrangementAt}
-use Rattle.neon.specs.Refusal.{mostNodes, formNumber}
+use Rattle.neon.specs.Op.{Op, op_at, Arrangement, arrangement_at}
+use Rattle.neon.specs.Refusal.{most_nodes, form_number}
 use Rattle.neon.proofs.Legal.{accepted}
 use Rattle.pool.specs.Growth.{Room}
 use Rattle.neon_form.specs.Code.{OfCode}
@@ -55,25 +55,25 @@ widened c = c.before.before.before
 
 -- ---- what the form code says holds of the form
 
-legal : (c : tie.After-form-code) → let a = (entry c).args in formNumber a.operation a.arrangement a.i 0 ≡ 0
+legal : (c : tie.After-form-code) → let a = (entry c).args in form_number a.operation a.arrangement a.i 0 ≡ 0
 legal c = form-legal (the (entry c)) (entry c).requires.1.1
 
 says : {P : Op → Arrangement → Type 0} (c : tie.After-form-code) → OfCode c.form-code.result P
-    → let a = (entry c).args in P (opAt a.operation) (arrangementAt a.arrangement)
+    → let a = (entry c).args in P (op_at a.operation) (arrangement_at a.arrangement)
 says c h =
     let a = (entry c).args in
     let k = coded a.operation a.arrangement a.i 0 (legal c) in
-    h (opAt a.operation) (arrangementAt a.arrangement) k.0 (c.form-code.ensures ∙ k.1)
+    h (op_at a.operation) (arrangement_at a.arrangement) k.0 (c.form-code.ensures ∙ k.1)
 
 -- ---- the room that is left after each call
 
-after_first : (c : tie.After-read-if) → Room c.read-if.new.0 c.read-if.result.count (mostNodes + 3)
+after_first : (c : tie.After-read-if) → Room c.read-if.new.0 c.read-if.result.count (most_nodes + 3)
 after_first c = omega (arith, (entry (code c)).requires.0, read-most c.read-if.ensures, c.read-if.ensures.long)
 
-after-second : (c : tie.After-read-if2) → Room c.read-if2.new.0 c.read-if2.result.count (mostNodes + 2)
+after-second : (c : tie.After-read-if2) → Room c.read-if2.new.0 c.read-if2.result.count (most_nodes + 2)
 after-second c = omega (arith, after_first (first c), read-most c.read-if2.ensures, c.read-if2.ensures.long)
 
-after-old : (c : tie.After-read-if3) → Room c.read-if3.new.0 c.read-if3.result.count (mostNodes + 1)
+after-old : (c : tie.After-read-if3) → Room c.read-if3.new.0 c.read-if3.result.count (most_nodes + 1)
 after-old c = omega (arith, after-second (second c), read-most c.read-if3.ensures, c.read-if3.ensures.long)
 
 after-result : (c : tie.After-lower-form) → Room c.lower-form.new.0 c.lower-form.result.count 1
@@ -169,7 +169,7 @@ returns c =
     let in32 = registers (entry k) in
     let full = f.before.before.before.before.is-full.ensures in
     rw c.set.ensures
-    (recorded a.map (entry k).pre.1.0 (the (entry k)) in32.0 in32.1 in32.2 (opAt a.operation) (arrangementAt a.arrangement) refl refl
+    (recorded a.map (entry k).pre.1.0 (the (entry k)) in32.0 in32.1 in32.2 (op_at a.operation) (arrangement_at a.arrangement) refl refl
     f.before.get.ensures s.before.get2.ensures o.before.get3.ensures
     (read_flags refl (says k f.before.before.first-full.ensures) f.read-if.ensures)
     (read_flags (says k s.before.before.before.has-second.ensures) (says k s.before.before.second-full.ensures) s.read-if2.ensures)

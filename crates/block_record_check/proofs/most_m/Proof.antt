@@ -1,4 +1,4 @@
--- most_m is mostM: both of its choices are the definition's
+-- most_m is most_m: both of its choices are the definition's
 use borrow.Author.Rules.{rules}
 use mathlib.Core.Logic.{⊎_elim}
 use mathlib.Core.Path.{refl}

@@ -1,12 +1,12 @@
--- record_number is recordNumber: the tests on the form, then that of the registers
+-- record_number is record_number: the tests on the form, then that of the registers
 use native.Mathlib.Omega.{arith}
 use mathlib.Core.Path.{◌≡◌, refl, sym, ap, ◌∙◌}
 use mathlib.Core.Bool.{true, false, ◌&&◌}
 use Prim.Native.Nat.{ℕ}
 use lib.Dec.{leb}
 use Rattle.neon.specs.declared.Instruction.{Instruction}
-use Rattle.neon.specs.Op.{opAt, arrangementAt}
-use Rattle.neon.specs.Refusal.{formNumber, registersOk}
+use Rattle.neon.specs.Op.{op_at, arrangement_at}
+use Rattle.neon.specs.Refusal.{form_number, registers_ok}
 use Rattle.neon.proofs.Legal.{formed}
 use Rattle.neon_form.proofs.Parts.{coded}
 use Rattle.block_record_check.specs.Record.{instruction}
@@ -23,7 +23,7 @@ abbrev entry : tie.Else1 → tie.Start
 entry c = c.before.before
 
 -- past the first test its form is accepted
-form-ok : (c : tie.Else1) → let a = (entry c).args in 0 ≡ formNumber a.operation a.arrangement a.i 0
+form-ok : (c : tie.Else1) → let a = (entry c).args in 0 ≡ form_number a.operation a.arrangement a.i 0
 form-ok c = omega (arith, c.if1.false, c.before.form-number.ensures)
 
 -- the place past the first test, seen from most_m's answer
@@ -31,14 +31,14 @@ abbrev formed-at : tie.After-most-m → tie.Else1
 formed-at c = c.before.before.before
 
 -- the second test is that of the registers
-registers-are : (c : tie.After-most-m) → let r = asked (entry (formed-at c)) in
-    registersOk r ≡ (leb r.d 31 && leb r.n 31 && leb r.m c.most-m.result)
-registers-are c =
+registers_are : (c : tie.After-most-m) → let r = asked (entry (formed-at c)) in
+    registers_ok r ≡ (leb r.d 31 && leb r.n 31 && leb r.m c.most-m.result)
+registers_are c =
     let r = asked (entry (formed-at c)) in
     let bits = c.before in
     let k = coded r.operation r.arrangement r.i 0 (sym (form-ok (formed-at c))) in
     let code = bits.before.form-code.ensures ∙ k.1 in
-    let most = c.most-m.ensures (opAt r.operation) (arrangementAt r.arrangement) k.0 code bits.lane-bits.ensures in
+    let most = c.most-m.ensures (op_at r.operation) (arrangement_at r.arrangement) k.0 code bits.lane-bits.ensures in
     ap (λ (most : ℕ). leb r.d 31 && leb r.n 31 && leb r.m most) (sym most)
 
 form-number-requires : tie.Need-form-number-requires
@@ -59,10 +59,10 @@ most-m-requires : tie.Need-most-m-requires
 most-m-requires c κs = search rules
 
 returns-2 : tie.Need-returns-2
-returns-2 c = by-registers _ 0 true (form-ok (formed-at c.before)) (registers-are c.before ∙ c.if2.true) refl
+returns-2 c = by-registers _ 0 true (form-ok (formed-at c.before)) (registers_are c.before ∙ c.if2.true) refl
 
 returns-3 : tie.Need-returns-3
-returns-3 c = by-registers _ 7 false (form-ok (formed-at c.before)) (registers-are c.before ∙ c.if2.false) refl
+returns-3 c = by-registers _ 7 false (form-ok (formed-at c.before)) (registers_are c.before ∙ c.if2.false) refl
 
 pub record-number-spec : {M : Type 1} → statement M
 record-number-spec =

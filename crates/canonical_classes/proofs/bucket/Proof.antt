@@ -1,6 +1,6 @@
--- `bucket` gives `bucketOf`: no sum on the way overflows a word, and the number is below 65,536.
+-- `bucket` gives `bucket_of`: no sum on the way overflows a word, and the number is below 65,536.
 use native.Mathlib.Omega.{arith}
-use Rattle.canonical_classes.specs.Key.{bucketOf}
+use Rattle.canonical_classes.specs.Key.{bucket_of}
 use borrow.Author.Rules.{rules}
 use Rattle.canonical_classes.proofs.bucket.Statement.{statement}
 use Rattle.canonical_classes.proofs.bucket.Tie as tie
@@ -30,7 +30,7 @@ mix-requires-4 : tie.Need-mix-requires-4
 mix-requires-4 c κs = search rules
 
 returns : tie.Need-returns
-unfolding bucketOf
+unfolding bucket_of
 returns c = (cc, omega arith)
 
 pub bucket-spec : {M : Type 1} → statement M

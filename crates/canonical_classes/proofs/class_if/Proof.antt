@@ -1,4 +1,4 @@
--- `class_if` gives `classIf`: the class of a node, or node 0 if there is no such operand.
+-- `class_if` gives `class_if`: the class of a node, or node 0 if there is no such operand.
 use borrow.Author.Rules.{rules}
 use Rattle.canonical_classes.proofs.class_if.Statement.{statement}
 use Rattle.canonical_classes.proofs.class_if.Tie as tie

@@ -13,8 +13,8 @@ use Rattle.canonical_classes.proofs.class_one.Tie as tie
 abbrev entry : tie.After-find → tie.Start
 entry c = c.before.before.before.before.before.before
 
-abbrev slotsIn : tie.Start → List ℕ
-slotsIn s = slots_of s.args.first.now s.args.second.now s.args.ways.now
+abbrev slots_in : tie.Start → List ℕ
+slots_in s = slots_of s.args.first.now s.args.second.now s.args.ways.now
 
 -- each word of the pool is one of 64 bits
 words : (c : tie.After-find) (i : ℕ) → get_or (entry c).args.pool.now i 0 < 18446744073709551616
@@ -50,7 +50,7 @@ returns c =
     let s = entry known.before in
     let a = s.args in (
       s.pre.0.3,
-      kept-old a.pool.now (a.n.0 + 1) s.pre.0.0 (words known.before) (omega arith) a.n.0 (omega arith) a.class.now (slotsIn s) s.pre.1
+      kept-old a.pool.now (a.n.0 + 1) s.pre.0.0 (words known.before) (omega arith) a.n.0 (omega arith) a.class.now (slots_in s) s.pre.1
           (known.before.find.result.link - 1) (omega (arith, f.0, known.if1.true)) f.1,
     )
 
@@ -67,7 +67,7 @@ set-link-requires : tie.Need-set-link-requires
 set-link-requires c κs =
     let f = c.before.before.before.before in
     let s = entry f in
-    (s.pre.0.3, omega (arith, f.find.ensures.slot-less, s.pre.0), s.pre.0.2)
+    (s.pre.0.3, omega (arith, f.find.ensures.slot_less, s.pre.0), s.pre.0.2)
 
 returns-2 : tie.Need-returns-2
 returns-2 c =
@@ -76,7 +76,7 @@ returns-2 c =
     let a = s.args in (
       c.set_link.ensures.laid,
       subst (λ (l : List ℕ). Kept a.pool.now (a.n.0 + 1) (set a.class.now a.n.0 a.n.0) l) (sym c.set_link.ensures.is)
-          (kept_new a.pool.now (a.n.0 + 1) s.pre.0.0 (words fresh.before) (omega arith) a.n.0 (omega arith) a.class.now (slotsIn s) s.pre.1
+          (kept_new a.pool.now (a.n.0 + 1) s.pre.0.0 (words fresh.before) (omega arith) a.n.0 (omega arith) a.class.now (slots_in s) s.pre.1
           fresh.before.find.result (omega (arith, fresh.if1.false)) fresh.before.find.ensures),
     )
 

@@ -1,5 +1,5 @@
 -- `classes`: at n the loop has the classes of the nodes below n (`Kept`); at the end `Classes`.
-use Rattle.canonical_classes.proofs.Slots.{slots-long, slots-empty}
+use Rattle.canonical_classes.proofs.Slots.{slots_long, slots-empty}
 use Rattle.canonical_classes.proofs.Steps.{kept-first, valid-le}
 use Rattle.canonical_classes.specs.Class.{Laid, Kept, slots_of}
 use mathlib.Core.Path.{◌≡◌}
@@ -23,7 +23,7 @@ loop-holds c =
     let s = c.before in
     let laid = s.requires.1.0.1 in
     let e = s.requires.1.1 in
-    (omega arith, laid, kept-first _ _ _ s.requires.1.0.0 (slots-long _ _ _ laid) (slots-empty _ _ _ laid e.0 e.1 e.2))
+    (omega arith, laid, kept-first _ _ _ s.requires.1.0.0 (slots_long _ _ _ laid) (slots-empty _ _ _ laid e.0 e.1 e.2))
 
 class-one-requires : tie.Need-class-one-requires invariant-loop decreases-loop
 class-one-requires c κs =
@@ -47,7 +47,7 @@ returns c =
     let s = entry at-loop in
     let e : at-loop.loop.n ≡ s.args.count = omega arith in
     let i = at-loop.loop.invariant in
-    (rw e at i.2.classes, i.1.first-long, i.1.second-long)
+    (rw e at i.2.classes, i.1.first_long, i.1.second_long)
 
 pub classes-spec : {M : Type 1} → statement M
 classes-spec =

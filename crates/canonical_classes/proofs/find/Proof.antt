@@ -8,9 +8,9 @@ use lib.ListN.{length, get_or}
 use Rattle.pool_fields.specs.Fields.{op_c}
 use Rattle.pool_operands.proofs.Unused.{third-small}
 use Rattle.canonical_classes.specs.declared.Key.{Key}
-use Rattle.canonical_classes.specs.Key.{keyOf, sameKey, bucketOf}
+use Rattle.canonical_classes.specs.Key.{key_of, same_key, bucket_of}
 use Rattle.canonical_classes.specs.Class.{On, Reached, Holds, slots_of}
-use Rattle.canonical_classes.proofs.Search.{Searching, comes-less, search-first, search-next, search-none, keys-same, next-rises, toGo, falls}
+use Rattle.canonical_classes.proofs.Search.{Searching, comes-less, search-first, search-next, search-none, keys-same, next-rises, to_go, falls}
 use borrow.Author.Rules.{rules}
 use Rattle.canonical_classes.proofs.find.Statement.{statement}
 use Rattle.canonical_classes.proofs.find.Tie as tie
@@ -20,7 +20,7 @@ invariant-loop pool class first second ways k spread slot₀ level₀ link₀ sl
     (link ≡ get_or (slots_of first second ways) slot 0) × Searching pool class (slots_of first second ways) k slot level
 
 abbrev decreases-loop : tie.decreases-loop
-decreases-loop pool class first second ways k spread slot₀ level₀ link₀ slot level link = toGo level link
+decreases-loop pool class first second ways k spread slot₀ level₀ link₀ slot level link = to_go level link
 
 abbrev spreaded : tie.At-loop invariant-loop decreases-loop → tie.After-spread invariant-loop decreases-loop
 spreaded c = c.before.before.before
@@ -31,8 +31,8 @@ keyed c = (spreaded c).before
 abbrev entry : tie.At-loop invariant-loop decreases-loop → tie.Start invariant-loop decreases-loop
 entry c = (keyed c).before.before
 
-abbrev slotsIn : tie.Start invariant-loop decreases-loop → List ℕ
-slotsIn s = slots_of s.args.first.now s.args.second.now s.args.ways.now
+abbrev slots_in : tie.Start invariant-loop decreases-loop → List ℕ
+slots_in s = slots_of s.args.first.now s.args.second.now s.args.ways.now
 
 -- the link is to a node below n
 link-low : (c : tie.At-loop invariant-loop decreases-loop) → c.loop.link ≤ (entry c).args.n.0
@@ -40,7 +40,7 @@ link-low c = let l = c.loop in omega (arith, l.invariant.0, (entry c).requires.1
 
 -- the slot is not past theirs
 slot-low : (c : tie.At-loop invariant-loop decreases-loop) → c.loop.slot < 131072 + 2 * (entry c).args.n.0
-slot-low c = let s = entry c in comes-less (slotsIn s) s.args.n.0 s.pre.1.0 (keyed c).key_of.result c.loop.invariant.1.comes
+slot-low c = let s = entry c in comes-less (slots_in s) s.args.n.0 s.pre.1.0 (keyed c).key_of.result c.loop.invariant.1.comes
 
 -- a node up to n may be read
 readable : (s : tie.Start invariant-loop decreases-loop) (m : ℕ) → m ≤ s.args.n.0 → let ws = s.args.pool.now in (4 * m + 3 < length ws) × (op_c ws m < 65536)
@@ -76,7 +76,7 @@ loop-holds c =
     let s = at_key.before.before in
     let a = s.args in
     let e = at-bucket.bucket.ensures in
-    (c.link_at.ensures.0, rw e.0 (search-first a.pool.now a.class.now (slotsIn s) at_key.key_of.result))
+    (c.link_at.ensures.0, rw e.0 (search-first a.pool.now a.class.now (slots_in s) at_key.key_of.result))
 
 sub-t14 : tie.Need-overflow-sub-t14 invariant-loop decreases-loop
 sub-t14 c = search rules
@@ -100,7 +100,7 @@ returns c =
       );
       missed = λ z. absurd (no z);
       free = λ z. absurd (no z);
-      slot-less = slot-low at-loop;
+      slot_less = slot-low at-loop;
       comes = λ z. absurd (no z);
       leads = λ z. absurd (no z);
     }
@@ -125,11 +125,11 @@ loop-less c =
     let l = looped o in
     let s = entry l in
     let k = (keyed l).key_of.result in
-    let e = c.link-at2.ensures.0 ∙ ap (λ (i : ℕ). get_or (slotsIn s) i 0) c.before.next.ensures.0 in
+    let e = c.link-at2.ensures.0 ∙ ap (λ (i : ℕ). get_or (slots_in s) i 0) c.before.next.ensures.0 in
     let m = l.loop.link - 1 in
     let t = (tested o).loop-test.taken in
     falls l.loop.level l.loop.link c.link-at2.result t (omega (arith, link-low l, s.pre.0))
-    (λ h g. omega (arith, e, next-rises (slotsIn s) s.pre.1.1 k m l.loop.level h (omega (arith, g, e)), t))
+    (λ h g. omega (arith, e, next-rises (slots_in s) s.pre.1.1 k m l.loop.level h (omega (arith, g, e)), t))
 
 loop-again : tie.Need-loop-preserved invariant-loop decreases-loop
 loop-again c =
@@ -139,12 +139,12 @@ loop-again c =
     let a = s.args in
     let k = (keyed l).key_of.result in
     let m = l.loop.link - 1 in
-    let here : get_or (slotsIn s) l.loop.slot 0 ≡ suc m = omega (arith, l.loop.inv.0, (tested o).loop-test.taken) in
-    let differs : sameKey (keyOf a.pool.now a.class.now m) k ≡ false =
-    sym (o.before.same.ensures ∙ ap (λ (x : Key). sameKey x k) o.before.before.key-of2.ensures.0) ∙ o.if1.left in (
+    let here : get_or (slots_in s) l.loop.slot 0 ≡ suc m = omega (arith, l.loop.inv.0, (tested o).loop-test.taken) in
+    let differs : same_key (key_of a.pool.now a.class.now m) k ≡ false =
+    sym (o.before.same.ensures ∙ ap (λ (x : Key). same_key x k) o.before.before.key-of2.ensures.0) ∙ o.if1.left in (
       c.link-at2.ensures.0,
       rw c.before.next.ensures.0
-          (search-next a.pool.now a.class.now (slotsIn s) k s.pre.1.1 l.loop.slot l.loop.level m here differs l.loop.inv.1),
+          (search-next a.pool.now a.class.now (slots_in s) k s.pre.1.1 l.loop.slot l.loop.level m here differs l.loop.inv.1),
     )
 
 returns-2 : tie.Need-returns-2 invariant-loop decreases-loop
@@ -155,17 +155,17 @@ returns-2 c =
     let at_key = keyed c.before in
     let k = at_key.key_of.result in
     let e = at_key.key_of.ensures.0 in
-    let z : get_or (slotsIn s) l.slot 0 ≡ 0 = omega (arith, l.invariant.0, c.loop-test.false) in
+    let z : get_or (slots_in s) l.slot 0 ≡ 0 = omega (arith, l.invariant.0, c.loop-test.false) in
     record {
       found = λ h. absurd (omega (arith, h, c.loop-test.false));
       missed = λ q.
-          subst (λ (k : Key). (j : ℕ) → On (slotsIn s) k (bucketOf k) 0 j → keyOf a.pool.now a.class.now j ≡ k → ⊥) e
-          (search-none a.pool.now a.class.now (slotsIn s) k l.slot l.level z l.invariant.1);
+          subst (λ (k : Key). (j : ℕ) → On (slots_in s) k (bucket_of k) 0 j → key_of a.pool.now a.class.now j ≡ k → ⊥) e
+          (search-none a.pool.now a.class.now (slots_in s) k l.slot l.level z l.invariant.1);
       free = λ q. z;
-      slot-less = slot-low c.before;
-      comes = λ q. subst (λ (k : Key). Reached (slotsIn s) k l.slot) e (l.level, l.invariant.1.comes);
+      slot_less = slot-low c.before;
+      comes = λ q. subst (λ (k : Key). Reached (slots_in s) k l.slot) e (l.level, l.invariant.1.comes);
       leads = λ q.
-          subst (λ (k : Key). (new : List ℕ) → Holds (slotsIn s) new → get_or new l.slot 0 ≡ suc a.n.0 → On new k (bucketOf k) 0 a.n.0) e
+          subst (λ (k : Key). (new : List ℕ) → Holds (slots_in s) new → get_or new l.slot 0 ≡ suc a.n.0 → On new k (bucket_of k) 0 a.n.0) e
           (λ new h f. l.invariant.1.back new h a.n.0 (On.here f));
     }
 

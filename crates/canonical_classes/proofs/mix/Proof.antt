@@ -1,7 +1,7 @@
--- `mix` gives `mixOf`, which is below 2^61.
+-- `mix` gives `mix_of`, which is below 2^61.
 use native.Mathlib.Omega.{arith}
 use mathlib.Core.Path.{refl}
-use Rattle.canonical_classes.specs.Key.{mixOf}
+use Rattle.canonical_classes.specs.Key.{mix_of}
 use borrow.Author.Rules.{rules}
 use Rattle.canonical_classes.proofs.mix.Statement.{statement}
 use Rattle.canonical_classes.proofs.mix.Tie as tie
@@ -16,7 +16,7 @@ add-result : tie.Need-overflow-add-result
 add-result c = search rules
 
 returns : tie.Need-returns
-unfolding mixOf
+unfolding mix_of
 returns c = (refl, omega arith)
 
 pub mix-spec : {M : Type 1} → statement M

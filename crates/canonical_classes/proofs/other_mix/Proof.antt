@@ -1,7 +1,7 @@
--- `other_mix` gives `otherMixOf`, which is below 2^61.
+-- `other_mix` gives `other_mix_of`, which is below 2^61.
 use native.Mathlib.Omega.{arith}
 use mathlib.Core.Path.{refl}
-use Rattle.canonical_classes.specs.Key.{otherMixOf}
+use Rattle.canonical_classes.specs.Key.{other_mix_of}
 use borrow.Author.Rules.{rules}
 use Rattle.canonical_classes.proofs.other_mix.Statement.{statement}
 use Rattle.canonical_classes.proofs.other_mix.Tie as tie
@@ -16,7 +16,7 @@ add-result : tie.Need-overflow-add-result
 add-result c = search rules
 
 returns : tie.Need-returns
-unfolding otherMixOf
+unfolding other_mix_of
 returns c = (refl, omega arith)
 
 pub other-mix-spec : {M : Type 1} → statement M

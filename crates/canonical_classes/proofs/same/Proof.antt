@@ -1,4 +1,4 @@
--- `same` meets its contract: the test of six words is `sameKey`.
+-- `same` meets its contract: the test of six words is `same_key`.
 use mathlib.Core.Path.{refl}
 use Rattle.canonical_classes.proofs.same.Statement.{statement}
 use Rattle.canonical_classes.proofs.same.Tie as tie

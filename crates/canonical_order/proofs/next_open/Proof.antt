@@ -1,4 +1,4 @@
--- `next_open` gives `nextOpen`: the first of A, B and C that is there and has no number yet.
+-- `next_open` gives `next_open`: the first of A, B and C that is there and has no number yet.
 use native.Mathlib.Omega.{arith}
 use Rattle.canonical_order.proofs.Lists.{open_made}
 use borrow.Author.Rules.{rules}

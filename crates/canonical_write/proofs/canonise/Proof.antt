@@ -3,7 +3,7 @@ use mathlib.Core.Bool.{true}
 use mathlib.Core.Path.{◌≡◌, sym, ◌∙◌}
 use Prim.Native.Nat.{◌<◌}
 use native.Mathlib.Omega.{arith}
-use Rattle.pool.specs.Rules.{poolOk}
+use Rattle.pool.specs.Rules.{pool_ok}
 use Rattle.pool_check.proofs.Number.{accepted}
 use Rattle.canonical_write.proofs.Arrays.{passed, bad-node, root-answered}
 use borrow.Author.Rules.{rules}
@@ -16,7 +16,7 @@ entry c = c.before.before.before.before
 zero : (c : tie.Else1) → c.before.node-number.result ≡ 0
 zero c = omega (arith, c.if1.false)
 
-good : (c : tie.Else1) → let a = (entry c).args in (poolOk a.pool.now a.count ≡ true) × (a.root < a.count)
+good : (c : tie.Else1) → let a = (entry c).args in (pool_ok a.pool.now a.count ≡ true) × (a.root < a.count)
 good c =
     let a = (entry c).args in
     let k = accepted a.pool.now a.count a.root 0 (sym c.before.node-number.ensures ∙ zero c) in (k.0, k.1)

@@ -60,7 +60,7 @@ classes-requires c κs =
     let f = second.zeros3.ensures in
     let g = ways.free-ways.ensures in (
       (s.pre.0, s.pre.1, omega (arith, s.pre.2)),
-      ((class.zeros.ensures.0, record { first-long = e.0; second-long = f.0; ways-long = g.0 }), (e.1, f.1, g.1)),
+      ((class.zeros.ensures.0, record { first_long = e.0; second_long = f.0; ways_long = g.0 }), (e.1, f.1, g.1)),
     )
 
 nones-requires : tie.Need-nones-requires

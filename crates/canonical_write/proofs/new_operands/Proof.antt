@@ -1,4 +1,4 @@
--- `new_operands` gives `newOperands`: word 1 with the new number of each operand that the kind has.
+-- `new_operands` gives `new_operands`: word 1 with the new number of each operand that the kind has.
 use native.Mathlib.Omega.{arith}
 use mathlib.Core.Path.{◌∙◌}
 use Rattle.canonical_write.proofs.Words.{operands-made}

@@ -1,4 +1,4 @@
--- `number_if` gives `numberIf`: the new number of a node's class, or node 0 if there is no such operand.
+-- `number_if` gives `number_if`: the new number of a node's class, or node 0 if there is no such operand.
 use lib.ListN.{get_or}
 use Prim.Native.Nat.{ℕ}
 use mathlib.Core.Path.{◌∙◌, ap}

@@ -1,6 +1,6 @@
 -- `write_one` writes the four words of node j of the canonical pool, and nothing else (`OneMore`).
 use Rattle.canonical_write.proofs.Words.{one_more, new-words}
-use Rattle.canonical_write.specs.Canonise.{newOperands}
+use Rattle.canonical_write.specs.Canonise.{new_operands}
 use Rattle.pool.specs.Node.{word_at}
 use Rattle.pool_operands.proofs.Unused.{third-small}
 use lib.ListN.{length, get_or}
@@ -66,7 +66,7 @@ returns c =
     let w = new-words ws a.class.now a.root.0 s.pre.0.0 (λ i. omega (arith, known i)) s.pre.1.0 a.number.now a.order.now a.k N a.j.0 l in
     one_more ws a.root.0 a.j.0 a.out.now at_push.push.new.0 _ _ _ _ (omega (arith, N.count, l)) (omega (arith, l, s.pre.1.1.1.1)) at_push.push.ensures.words (
       at-word.kind-word-at.ensures ∙ ap (λ (m : ℕ). get_or ws (4 * m) 0) e ∙ w.0,
-      at-operands.new-operands.ensures ∙ ap (newOperands ws a.class.now a.number.now) e ∙ w.1,
+      at-operands.new-operands.ensures ∙ ap (new_operands ws a.class.now a.number.now) e ∙ w.1,
       at_low.low.ensures ∙ ap (λ (m : ℕ). word_at ws m 2) e ∙ w.2,
       at_high.high.ensures ∙ ap (λ (m : ℕ). word_at ws m 3) e ∙ w.3,
     )

@@ -110,7 +110,7 @@ module _ (t : ℕ) where
       let s = entry t f in
       let e = o.before.before in (
         (s.pre.1.0, λ q. e.if4.false (kind-is t f ∙ q), s.pre.1.1),
-        (λ h. (first-visited t f).value-is (omega (arith, e.before.if3.false)), λ h q. absurd (false≢true (sym q ∙ rw (← kind-is t f) (one-is t o)))),
+        (λ h. (first-visited t f).value_is (omega (arith, e.before.if3.false)), λ h q. absurd (false≢true (sym q ∙ rw (← kind-is t f) (one-is t o)))),
       )
 
   returns-6 : visit-lts.Need-returns-6 (claims t) (visit-at t) visit.Post
@@ -150,7 +150,7 @@ module _ (t : ℕ) where
       let s = entry t f in
       let i = (two t v).before.before in (
         (s.pre.1.0, λ q. i.if4.left (kind-is t f ∙ q), s.pre.1.1),
-        (λ h. (first-visited t f).value-is (omega (arith, i.before.if3.left)), λ h q. (second-visited t v).value-is (omega (arith, e.if7.false))),
+        (λ h. (first-visited t f).value_is (omega (arith, i.before.if3.left)), λ h q. (second-visited t v).value_is (omega (arith, e.if7.false))),
       )
 
   returns-8 : visit-lts.Need-returns-8 (claims t) (visit-at t) visit.Post

@@ -1,4 +1,4 @@
--- `applied` gives `appliedAt`: `apply` is asked with the widths of the operands that the kind has.
+-- `applied` gives `applied_at`: `apply` is asked with the widths of the operands that the kind has.
 use mathlib.Core.Bool.{true, false}
 use mathlib.Core.List.{List}
 use mathlib.Core.Path.{◌≡◌, sym, ◌∙◌}

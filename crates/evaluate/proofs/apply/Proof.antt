@@ -1,4 +1,4 @@
--- `apply` gives `nodeValue` of each kind from 3 on but Ite, by the contract of the operation that it calls.
+-- `apply` gives `node_value` of each kind from 3 on but Ite, by the contract of the operation that it calls.
 use mathlib.Core.Path.{◌≡◌, sym, ap, ◌∙◌, subst}
 use Prim.Native.Nat.{ℕ, suc, ◌+◌, ◌*◌, ◌^◌, ◌≤◌, ◌<◌}
 use native.Mathlib.Omega.{arith}

@@ -1,7 +1,7 @@
 -- `combine` leaves the node's value in a: that of a leaf, or `applied` to the values of its operands.
 use mathlib.Core.Path.{◌≡◌, sym, ◌∙◌}
 use Prim.Native.Nat.{◌≤◌}
-use Rattle.pool.specs.Node.{kindNumber}
+use Rattle.pool.specs.Node.{kind_number}
 use Rattle.evaluate.proofs.Values.{held-ok, held-is}
 use borrow.Author.Rules.{rules}
 use Rattle.evaluate.proofs.combine.Statement.{statement}
@@ -12,10 +12,10 @@ module _ (c : tie.Else1) where
   abbrev entry : tie.Start
   entry = c.before.before.before
 
-  is-k : c.before.kind-of.result ≡ kindNumber entry.args.p.now.now entry.args.n.0
+  is-k : c.before.kind-of.result ≡ kind_number entry.args.p.now.now entry.args.n.0
   is-k = c.before.kind-of.ensures
 
-  from-three : 3 ≤ kindNumber entry.args.p.now.now entry.args.n.0
+  from-three : 3 ≤ kind_number entry.args.p.now.now entry.args.n.0
   from-three = rw (← is-k) c.if1.false
 
   no-ite : c.before.kind-of.result ≡ 15 → ⊥

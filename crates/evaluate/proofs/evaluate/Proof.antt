@@ -3,12 +3,12 @@ use mathlib.Core.Bool.{true}
 use mathlib.Core.Path.{◌≡◌, refl, sym, ◌∙◌}
 use Prim.Native.Nat.{◌≤◌, ◌<◌}
 use native.Mathlib.Omega.{arith}
-use Rattle.pool.specs.Rules.{poolOk}
+use Rattle.pool.specs.Rules.{pool_ok}
 use Rattle.pool_check.proofs.Number.{accepted}
 use Rattle.pool_check.proofs.Passed.{words-for, keeps}
 use Rattle.text_parts.specs.Text.{Ready}
 use Rattle.text_parts.proofs.Operands.{ready_of}
-use Rattle.evaluate.specs.Visits.{visitsAt}
+use Rattle.evaluate.specs.Visits.{visits_at}
 use Rattle.evaluate.specs.Step.{Visited}
 use Rattle.evaluate.proofs.Steps.{some}
 use Rattle.evaluate.proofs.Answers.{bad, too_many, given}
@@ -23,7 +23,7 @@ entry c = c.before.before.before
 zero : (c : tie.Else1) → c.before.node-number.result ≡ 0
 zero c = omega (arith, c.if1.false)
 
-good : (c : tie.Else1) → let a = (entry c).args in (poolOk a.t1.now a.count ≡ true) × (a.node < a.count)
+good : (c : tie.Else1) → let a = (entry c).args in (pool_ok a.t1.now a.count ≡ true) × (a.node < a.count)
 good c =
     let a = (entry c).args in
     let k = accepted a.t1.now a.count a.node 0 (sym c.before.node-number.ensures ∙ zero c) in (k.0, k.1)
@@ -44,7 +44,7 @@ module _ (c : tie.After-visit) where
   visited : Visited start.args.t1.now start.args.start.now start.args.node start.args.allowance c.visit.new.1.1.1.0 c.visit.result
   visited = c.visit.ensures
 
-  count-some : 1 ≤ visitsAt start.args.t1.now start.args.start.now start.args.node
+  count-some : 1 ≤ visits_at start.args.t1.now start.args.start.now start.args.node
   count-some = some start.args.t1.now start.args.start.now start.args.node (ready_at passed) _ refl
 
 node-number-requires : tie.Need-node-number-requires

@@ -2,13 +2,13 @@
 use mathlib.Core.Path.{◌≡◌, sym, ap, ◌∙◌}
 use Prim.Native.Nat.{ℕ}
 use native.Mathlib.Omega.{arith}
-use Rattle.neon.specs.Op.{opAt, arrangementAt, laneBits}
+use Rattle.neon.specs.Op.{op_at, arrangement_at, bits_of_lane}
 use Rattle.neon.specs.Form.{most}
 use Rattle.text_digits.proofs.Laws.{wrote_none, wrote_as, room_as}
 use Rattle.neon.proofs.Geometry.{sized}
 use Rattle.neon_form.proofs.Parts.{with-form}
 use Rattle.forms_list.specs.Forms.{second_of}
-use Rattle.forms_list.specs.Texts.{immediatesText, arrangementText}
+use Rattle.forms_list.specs.Texts.{immediates_text, arrangement_text}
 use Rattle.line_records.proofs.Small.{most-small}
 use Rattle.forms_list.proofs.Rows.{nothing, rows, second-small}
 use borrow.Author.Rules.{rules}
@@ -18,9 +18,9 @@ use Rattle.forms_list.proofs.put_arrangement.Tie as tie
 -- ---- the row that the code tells
 
 record Found (operation arrangement least' most' m : ℕ) : Type 0 where
-  most-is : most' ≡ most (opAt operation) (laneBits (arrangementAt arrangement))
-  second_is : m ≡ second_of (opAt operation)
-  text : immediatesText operation arrangement least' most' m ≡ arrangementText operation arrangement
+  most-is : most' ≡ most (op_at operation) (bits_of_lane (arrangement_at arrangement))
+  second_is : m ≡ second_of (op_at operation)
+  text : immediates_text operation arrangement least' most' m ≡ arrangement_text operation arrangement
 
 found : (c : tie.After-second) → let a = c.before.before.before.before.before.before.before.args in
     Found a.operation a.arrangement c.before.before.before.least-immediate.result c.before.most-immediate.result c.second.result
@@ -29,8 +29,8 @@ found c =
     let e = q.before in
     let st = e.before.before.before in
     let a = st.args in
-    let o = opAt a.operation in
-    let v = arrangementAt a.arrangement in
+    let o = op_at a.operation in
+    let v = arrangement_at a.arrangement in
     let f = with-form a.operation a.arrangement st.requires.0.0 st.requires.0.1 (λ z. e.if1.false (e.before.form-code.ensures ∙ z)) in
     let k = e.before.form-code.ensures ∙ f.2 in
     let l = q.least-immediate.ensures o v f.1 k in
@@ -57,7 +57,7 @@ lane-bits-requires c κs = search rules
 
 most-immediate-requires : tie.Need-most-immediate-requires
 most-immediate-requires c κs =
-    let v = arrangementAt c.before.before.before.before.before.args.arrangement in
+    let v = arrangement_at c.before.before.before.before.before.args.arrangement in
     omega (arith, c.lane-bits.ensures, (sized v).eight, (sized v).most)
 
 second-requires : tie.Need-second-requires
@@ -71,8 +71,8 @@ put-immediates-requires c κs =
       (
         omega (arith, st.requires.0.1),
         omega (arith, st.requires.0.2),
-        omega (arith, f.most-is, most-small (opAt a.operation) (arrangementAt a.arrangement)),
-        omega (arith, f.second_is, second-small (opAt a.operation)),
+        omega (arith, f.most-is, most-small (op_at a.operation) (arrangement_at a.arrangement)),
+        omega (arith, f.second_is, second-small (op_at a.operation)),
       ),
       room_as (sym f.text) st.requires.1,
     )

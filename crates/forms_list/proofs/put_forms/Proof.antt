@@ -7,13 +7,13 @@ use lib.ListN.{length}
 use Rattle.text_digits.specs.Writing.{Wrote}
 use Rattle.text_digits.proofs.Laws.{wrote-length}
 use Rattle.text_series.specs.Series.{up_to}
-use Rattle.forms_list.specs.Texts.{operationText, formsText}
+use Rattle.forms_list.specs.Texts.{operation_text, forms_text}
 use Rattle.text_series.proofs.Texts.{room_next, wrote-next, wrote-first}
 use Rattle.forms_list.proofs.put_forms.Statement.{statement}
 use Rattle.forms_list.proofs.put_forms.Tie as tie
 
 abbrev texts : ℕ → List ℕ
-texts o = operationText (o + 1)
+texts o = operation_text (o + 1)
 
 abbrev invariant-loop : tie.invariant-loop
 invariant-loop buf₀ at operation₀ end₀ buf operation end = Wrote buf₀ at (up_to operation texts) end buf × (operation ≤ 67) × (length buf ≡ length buf₀)
@@ -28,7 +28,7 @@ add-operation : tie.Need-overflow-add-operation invariant-loop decreases-loop
 add-operation c = omega arith
 
 put-operation-requires : tie.Need-put-operation-requires invariant-loop decreases-loop
-unfolding formsText
+unfolding forms_text
 put-operation-requires c κs =
     let st = c.before.before.before.before in
     let l = c.before.before.loop in
@@ -49,7 +49,7 @@ same_length : tie.Need-same-length invariant-loop decreases-loop
 same_length c = c.before.loop.invariant.2
 
 returns : tie.Need-returns invariant-loop decreases-loop
-unfolding formsText
+unfolding forms_text
 returns c =
     let l = c.before.loop in
     let a = c.before.before.before.args in

@@ -9,7 +9,7 @@ use Rattle.text_digits.proofs.Laws.{wrote-length}
 use Rattle.text_series.specs.Series.{up_to}
 use Rattle.block_record_check.specs.Record.{instruction}
 use Rattle.line_records.specs.Line.{line}
-use Rattle.forms_list.specs.Texts.{immediatesText}
+use Rattle.forms_list.specs.Texts.{immediates_text}
 use Rattle.text_series.proofs.Texts.{room_next, wrote-row, wrote-first}
 use Rattle.forms_list.proofs.put_immediates.Statement.{statement}
 use Rattle.forms_list.proofs.put_immediates.Tie as tie
@@ -40,7 +40,7 @@ loop-holds c =
     )
 
 put-line-requires : tie.Need-put-line-requires invariant-loop decreases-loop
-unfolding immediatesText
+unfolding immediates_text
 put-line-requires c κs =
     let st = c.before.before.before.before in
     let a = st.args in
@@ -79,7 +79,7 @@ same_length : tie.Need-same-length invariant-loop decreases-loop
 same_length c = c.before.loop.invariant.3
 
 returns : tie.Need-returns invariant-loop decreases-loop
-unfolding immediatesText
+unfolding immediates_text
 returns c =
     let l = c.before.loop in
     let a = c.before.before.before.args in

@@ -3,7 +3,7 @@ use mathlib.Core.Path.{◌≡◌, ◌∙◌}
 use native.Mathlib.Omega.{arith}
 use lib.ListN.{length}
 use Rattle.text_series.proofs.Texts.{filled}
-use Rattle.forms_list.specs.Texts.{formsText}
+use Rattle.forms_list.specs.Texts.{forms_text}
 use Rattle.forms_list.proofs.Lines.{text-is, text-length}
 use Rattle.forms_list.proofs.write_forms.Statement.{statement}
 use Rattle.forms_list.proofs.write_forms.Tie as tie
@@ -14,8 +14,8 @@ put-forms-requires c κs = record { room = omega (arith, text-length) }
 returns : tie.Need-returns
 returns c =
     let a = c.before.before.args in
-    let fits : length formsText ≡ length a.buffer.now = omega (arith, text-length) in
-    filled formsText fits c.put-forms.ensures ∙ text-is
+    let fits : length forms_text ≡ length a.buffer.now = omega (arith, text-length) in
+    filled forms_text fits c.put-forms.ensures ∙ text-is
 
 pub write-forms-spec : {M : Type 1} → statement M
 write-forms-spec = tie.close (tie.spec put-forms-requires returns)

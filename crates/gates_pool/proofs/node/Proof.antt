@@ -3,7 +3,7 @@ use native.Mathlib.Omega.{arith}
 use mathlib.Core.List.{List}
 use mathlib.Core.Path.{◌≡◌, sym, ap, ◌∙◌, subst}
 use Prim.Native.Nat.{ℕ, ◌+◌, ◌*◌, ◌≤◌, ◌<◌}
-use Rattle.pool.specs.Node.{kindNumber}
+use Rattle.pool.specs.Node.{kind_number}
 use Rattle.gates_pool.specs.Bits.{NoGates}
 use Rattle.gates_pool.proofs.Steps.{wired}
 use borrow.Author.Rules.{rules}
@@ -15,7 +15,7 @@ module _ (c : tie.After-kind-of) where
   entry = c.before.before.before.before.before
 
   abbrev its-kind : ℕ
-  its-kind = kindNumber entry.args.pool.now entry.args.n.0
+  its-kind = kind_number entry.args.pool.now entry.args.n.0
 
   is-kind : c.kind-of.result ≡ its-kind
   is-kind = c.kind-of.ensures

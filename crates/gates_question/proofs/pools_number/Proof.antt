@@ -2,7 +2,7 @@
 use mathlib.Core.Path.{◌≡◌, sym, ◌∙◌}
 use borrow.Author.Tests.{not-true, not-false}
 use mathlib.Core.Bool.{true}
-use Rattle.pool.specs.Rules.{poolOk}
+use Rattle.pool.specs.Rules.{pool_ok}
 use Rattle.gates_question.proofs.Refusals.{bad-first, bad-second, none-bad}
 use borrow.Author.Rules.{rules}
 use Rattle.gates_question.proofs.pools_number.Statement.{statement}
@@ -11,7 +11,7 @@ use Rattle.gates_question.proofs.pools_number.Tie as tie
 abbrev entry : tie.After-pool-check → tie.Start
 entry c = c.before.before.before
 
-first-ok : (c : tie.Else1) → let a = (entry c.before).args in poolOk a.first.now a.n ≡ true
+first-ok : (c : tie.Else1) → let a = (entry c.before).args in pool_ok a.first.now a.n ≡ true
 first-ok c = sym c.before.pool-check.ensures ∙ not-false _ c.if1.false
 
 pool-check-requires : tie.Need-pool-check-requires

@@ -5,7 +5,7 @@ use Prim.Native.Nat.{ℕ, ◌+◌, ◌-◌, ◌*◌, ◌≤◌, ◌<◌}
 use mathlib.Core.List.{List}
 use lib.ListN.{length}
 use Rattle.gates_question.proofs.Refusals.{Passed, all-passed}
-use Rattle.gates_question.proofs.Asks.{ready, first_reads, second_reads, room, few, asks, graph-size}
+use Rattle.gates_question.proofs.Asks.{ready, first_reads, second_reads, room, few, asks, graph_size}
 use borrow.Author.Rules.{rules}
 use Rattle.gates_question.proofs.question.Statement.{statement}
 use Rattle.gates_question.proofs.question.Tie as tie
@@ -32,7 +32,7 @@ returns c =
       refused = λ h. (refl, refl, refl, refl, refl);
       done = λ e. absurd (c.if1.true e);
       few = omega arith;
-      graph-size = refl;
+      graph_size = refl;
     }
 
 both-requires : tie.Need-both-requires
@@ -84,7 +84,7 @@ returns-2 c =
       refused = λ h. absurd (h refl);
       done = λ z. asks p d.both.ensures made;
       few = few p d.both.ensures made;
-      graph-size = graph-size p d.both.ensures made;
+      graph_size = graph_size p d.both.ensures made;
     }
 
 pub question-spec : {M : Type 1} → statement M

@@ -29,7 +29,7 @@ returns c =
     let k = c.before.pools-number in
     record {
       number_is = k.ensures;
-      gates-is = sym (zero-beside k.result _ (some c.if1.true));
+      gates_is = sym (zero-beside k.result _ (some c.if1.true));
       places_is = sym (zero-beside k.result _ (some c.if1.true));
     }
 

@@ -5,10 +5,10 @@ use Prim.Native.Nat.{ℕ, ◌+◌, ◌-◌, ◌*◌, ◌≤◌, ◌<◌}
 use mathlib.Core.Bool.{true}
 use mathlib.Core.List.{List}
 use borrow.Author.Tests.{not-true, not-false}
-use Rattle.facts.specs.Refuse.{byNumber}
-use Rattle.pool.specs.Rules.{poolOk, ofWidth}
+use Rattle.facts.specs.Refuse.{by_number}
+use Rattle.pool.specs.Rules.{pool_ok, of_width}
 use Rattle.pool_check.proofs.Passed.{words-for}
-use Rattle.gates_question.specs.Question.{gatesOfTwo, placesOfTwo}
+use Rattle.gates_question.specs.Question.{gates_of_two, places_of_two}
 use Rattle.gates_question.proofs.Refusals.{both_ok, bad-pools, bad-a, bad-b, not-in-order, too-high, short-graph, too_many, short-places, none-refused}
 use borrow.Author.Rules.{rules}
 use Rattle.gates_question.proofs.refusal.Statement.{statement}
@@ -53,10 +53,10 @@ abbrev asked : tie.Else1 → tie.After-question-room
 asked c = c.before.before
 
 record Good (c : tie.Else1) : Type 0 where
-  first : poolOk (ws (asked c)) (n (asked c)) ≡ true
-  second : poolOk (ws' (asked c)) (m (asked c)) ≡ true
-  gates-are : (asked c).question-room.result.gates ≡ gatesOfTwo (ws (asked c)) (n (asked c)) (ws' (asked c)) (m (asked c))
-  places-are : (asked c).question-room.result.places ≡ placesOfTwo (n (asked c)) (m (asked c))
+  first : pool_ok (ws (asked c)) (n (asked c)) ≡ true
+  second : pool_ok (ws' (asked c)) (m (asked c)) ≡ true
+  gates-are : (asked c).question-room.result.gates ≡ gates_of_two (ws (asked c)) (n (asked c)) (ws' (asked c)) (m (asked c))
+  places-are : (asked c).question-room.result.places ≡ places_of_two (n (asked c)) (m (asked c))
 
 good : (c : tie.Else1) → Good c
 good c =
@@ -66,14 +66,14 @@ good c =
     record {
       first = r.0;
       second = r.1;
-      gates-are = q.gates-is ∙ ap (λ (z : ℕ). byNumber z (gatesOfTwo (ws k) (n k) (ws' k) (m k))) c.if1.false;
-      places-are = q.places_is ∙ ap (λ (z : ℕ). byNumber z (placesOfTwo (n k) (m k))) c.if1.false;
+      gates-are = q.gates_is ∙ ap (λ (z : ℕ). by_number z (gates_of_two (ws k) (n k) (ws' k) (m k))) c.if1.false;
+      places-are = q.places_is ∙ ap (λ (z : ℕ). by_number z (places_of_two (n k) (m k))) c.if1.false;
     }
 
-a-wide : (c : tie.Else2) → let k = asked c.before.before in ofWidth (ws k) (n k) (a k) 128 ≡ true
+a-wide : (c : tie.Else2) → let k = asked c.before.before in of_width (ws k) (n k) (a k) 128 ≡ true
 a-wide c = sym c.before.of_width.ensures ∙ not-false _ c.if2.false
 
-b-wide : (c : tie.Else3) → let k = asked c.before.before.before.before in ofWidth (ws' k) (m k) (b k) 128 ≡ true
+b-wide : (c : tie.Else3) → let k = asked c.before.before.before.before in of_width (ws' k) (m k) (b k) 128 ≡ true
 b-wide c = sym c.before.of-width2.ensures ∙ not-false _ c.if3.false
 
 question-room-requires : tie.Need-question-room-requires

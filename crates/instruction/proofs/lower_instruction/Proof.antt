@@ -23,7 +23,7 @@ returns c =
     rw c.refused.ensures (record {
       number = r.before.instruction-number.ensures;
       done = λ e. absurd (r.if1.true e);
-      refused = λ f. record { no_node = refl; same_count = refl; same-words = refl };
+      refused = λ f. record { no_node = refl; same_count = refl; same_words = refl };
     })
 
 lower-form-requires : tie.Need-lower-form-requires

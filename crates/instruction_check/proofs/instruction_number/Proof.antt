@@ -1,14 +1,14 @@
--- instruction_number is `instructionNumber`: its tests in order, and 0 past them all
+-- instruction_number is `instruction_number`: its tests in order, and 0 past them all
 use native.Mathlib.Omega.{arith}
 use mathlib.Core.Bool.{true}
 use mathlib.Core.Path.{◌≡◌, sym, ◌∙◌}
 use borrow.Author.Tests.{not-true, not-false}
-use Rattle.neon.specs.Op.{opAt, arrangementAt}
-use Rattle.neon.specs.Refusal.{formNumber}
+use Rattle.neon.specs.Op.{op_at, arrangement_at}
+use Rattle.neon.specs.Refusal.{form_number}
 use Rattle.neon.proofs.Legal.{formed}
-use Rattle.pool.specs.Rules.{poolOk}
+use Rattle.pool.specs.Rules.{pool_ok}
 use Rattle.neon_form.proofs.Parts.{coded}
-use Rattle.instruction_check.specs.Number.{sourcesOk}
+use Rattle.instruction_check.specs.Number.{sources_ok}
 use Rattle.pool_check.proofs.Passed.{within-places}
 use Rattle.instruction_check.proofs.Refusing.{number-pool, number-form, number-sources, number-room, number-done}
 use borrow.Author.Rules.{rules}
@@ -20,30 +20,30 @@ use Rattle.instruction_check.proofs.instruction_number.Tie as tie
 abbrev entry : tie.Else1 → tie.Start
 entry c = c.before.before.before
 
-good : (c : tie.Else1) → poolOk (entry c).args.pool.now (entry c).args.count ≡ true
+good : (c : tie.Else1) → pool_ok (entry c).args.pool.now (entry c).args.count ≡ true
 good c = sym c.before.pool-check.ensures ∙ not-false c.before.pool-check.result c.if1.false
 
 abbrev checked : tie.Else2 → tie.Else1
 checked c = c.before.before
 
-legal : (c : tie.Else2) → let a = (entry (checked c)).args in formNumber a.operation a.arrangement a.i 0 ≡ 0
+legal : (c : tie.Else2) → let a = (entry (checked c)).args in form_number a.operation a.arrangement a.i 0 ≡ 0
 legal c = sym c.before.form-number.ensures ∙ c.if2.false
 
 abbrev formed-at : tie.After-sources-ok → tie.Else2
 formed-at c = c.before.before.before
 
 sources : (c : tie.After-sources-ok) → let a = (entry (checked (formed-at c))).args in
-    c.sources-ok.result ≡ sourcesOk a.pool.now a.count (opAt a.operation) (arrangementAt a.arrangement) a.d.0 a.n.0 a.m.0
+    c.sources-ok.result ≡ sources_ok a.pool.now a.count (op_at a.operation) (arrangement_at a.arrangement) a.d.0 a.n.0 a.m.0
 sources c =
     let a = (entry (checked (formed-at c))).args in
     let k = coded a.operation a.arrangement a.i 0 (legal (formed-at c)) in
-    c.sources-ok.ensures (opAt a.operation) (arrangementAt a.arrangement) k.0 (c.before.before.form-code.ensures ∙ k.1) c.before.is-full.ensures
+    c.sources-ok.ensures (op_at a.operation) (arrangement_at a.arrangement) k.0 (c.before.before.form-code.ensures ∙ k.1) c.before.is-full.ensures
 
 abbrev form-past : tie.Else3 → tie.Else2
 form-past c = formed-at c.before
 
 sourced : (c : tie.Else3) → let a = (entry (checked (form-past c))).args in
-    sourcesOk a.pool.now a.count (opAt a.operation) (arrangementAt a.arrangement) a.d.0 a.n.0 a.m.0 ≡ true
+    sources_ok a.pool.now a.count (op_at a.operation) (arrangement_at a.arrangement) a.d.0 a.n.0 a.m.0 ≡ true
 sourced c = sym (sources c.before) ∙ not-false c.before.sources-ok.result c.if3.false
 
 -- the fourth test finds too little room, or enough

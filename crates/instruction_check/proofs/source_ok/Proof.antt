@@ -1,4 +1,4 @@
--- source_ok is `sourceOk`: none if it is not wanted, else a node below the count of its width
+-- source_ok is `source_ok`: none if it is not wanted, else a node below the count of its width
 use mathlib.Core.Path.{◌∙◌}
 use Prim.Native.Nat.{◌*◌, ◌≤◌}
 use lib.ListN.{length}

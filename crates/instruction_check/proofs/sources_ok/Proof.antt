@@ -1,4 +1,4 @@
--- sources_ok is `sourcesOk` of each form with that code: the three sources as the code says
+-- sources_ok is `sources_ok` of each form with that code: the three sources as the code says
 use Rattle.instruction_check.proofs.Refusing.{sources-are}
 use borrow.Author.Rules.{rules}
 use Rattle.instruction_check.proofs.sources_ok.Statement.{statement}

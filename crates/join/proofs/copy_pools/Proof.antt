@@ -1,4 +1,4 @@
--- `copy_pools` meets its contract: before node m the words are those of `joinWord`, whatever the nodes of the Eq are.
+-- `copy_pools` meets its contract: before node m the words are those of `join_word`, whatever the nodes of the Eq are.
 use Rattle.join.proofs.Copies.{start-at, second_at, from-half}
 use Rattle.join.proofs.Moved.{moved-parts, word_small}
 use Rattle.join.specs.Join.{SecondAt}

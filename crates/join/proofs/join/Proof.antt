@@ -1,4 +1,4 @@
--- `join` meets its contract: a refusal writes nothing, and past it every word is that of `joinWord`.
+-- `join` meets its contract: a refusal writes nothing, and past it every word is that of `join_word`.
 use native.Mathlib.Omega.{arith}
 use borrow.Author.Rules.{rules}
 use Rattle.join.proofs.Refusals.{Passed, all-passed}

@@ -4,8 +4,8 @@ use mathlib.Core.Path.{◌≡◌, sym, ◌∙◌}
 use native.Mathlib.Omega.{arith}
 use borrow.Author.Tests.{not-true, not-false}
 use borrow.Author.Rules.{rules}
-use Rattle.pool.specs.Rules.{poolOk, ofWidth}
-use Rattle.join.specs.Starts.{startsWithRegisters}
+use Rattle.pool.specs.Rules.{pool_ok, of_width}
+use Rattle.join.specs.Starts.{starts_with_registers}
 use Rattle.join.proofs.Registers.{Starts, starts}
 use Rattle.join.proofs.Refusals.{bad-first, bad-second, bad-chosen, no_room, none-bad}
 use Rattle.join.proofs.join_number.Statement.{statement}
@@ -27,18 +27,18 @@ both c = second-passed c.before.before
 
 -- ---- what holds past each test
 
-good-first : (c : tie.Else1) → let a = (entry c).args in (poolOk a.first.now a.c && startsWithRegisters a.first.now a.c) ≡ true
+good-first : (c : tie.Else1) → let a = (entry c).args in (pool_ok a.first.now a.c && starts_with_registers a.first.now a.c) ≡ true
 good-first c = sym c.before.starts.ensures ∙ not-false _ c.if1.false
 
-good-second : (c : tie.Else2) → let a = (entry (first-passed c)).args in (poolOk a.second.now a.d && startsWithRegisters a.second.now a.d) ≡ true
+good-second : (c : tie.Else2) → let a = (entry (first-passed c)).args in (pool_ok a.second.now a.d && starts_with_registers a.second.now a.d) ≡ true
 good-second c = sym c.before.starts2.ensures ∙ not-false _ c.if2.false
 
 chosen-asked : (c : tie.After-of-width2) → let a = (entry (first-passed (second-passed c))).args in
-    (ofWidth a.first.now a.c a.x.0 128 && ofWidth a.second.now a.d a.y.0 128) ≡ (c.before.of_width.result && c.of-width2.result)
+    (of_width a.first.now a.c a.x.0 128 && of_width a.second.now a.d a.y.0 128) ≡ (c.before.of_width.result && c.of-width2.result)
 chosen-asked c = sym (λ i. c.before.of_width.ensures i && c.of-width2.ensures i)
 
 good-chosen : (c : tie.Else3) → let a = (entry (first-passed (second-passed c.before))).args in
-    (ofWidth a.first.now a.c a.x.0 128 && ofWidth a.second.now a.d a.y.0 128) ≡ true
+    (of_width a.first.now a.c a.x.0 128 && of_width a.second.now a.d a.y.0 128) ≡ true
 good-chosen c = chosen-asked c.before ∙ not-false _ c.if3.false
 
 starts_first : (c : tie.Else1) → let a = (entry c).args in Starts a.first.now a.c

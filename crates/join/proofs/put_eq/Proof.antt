@@ -1,7 +1,7 @@
 -- `put_eq` meets its contract: the Eq's words, with the registers of both terms.
-use Rattle.pool.specs.Node.{operand_word, kindWord}
+use Rattle.pool.specs.Node.{operand_word, kind_word}
 use lib.Bits.{bit_or, or_lt}
-use Rattle.join.specs.Join.{moved, eqSet}
+use Rattle.join.specs.Join.{moved, eq_set}
 use Rattle.join.proofs.Checks.{raised_is}
 use mathlib.Core.Path.{◌≡◌, ◌∙◌, ap, ap₂}
 use native.Mathlib.Omega.{arith}
@@ -18,7 +18,7 @@ abbrev entry : tie.After-set-of2 → tie.Start
 entry c = c.before.before.before.before.before
 
 set-of-both : (c : tie.After-set-of2) → let a = (entry c).args in
-    bit_or c.before.set-of.result c.set-of2.result ≡ eqSet a.first.now a.second.now a.x.0 a.y.0
+    bit_or c.before.set-of.result c.set-of2.result ≡ eq_set a.first.now a.second.now a.x.0 a.y.0
 set-of-both c = ap₂ bit_or c.before.set-of.ensures.0 c.set-of2.ensures.0
 
 -- ---- the needs
@@ -66,8 +66,8 @@ returns c =
     let asked = first_word.before in
     let rise = asked.before.before.raised in
     let a = (entry (sets asked)).args in
-    let k : first_word.kind-word.result ≡ kindWord 12 0 (eqSet a.first.now a.second.now a.x.0 a.y.0) =
-    first_word.kind-word.ensures ∙ ap (kindWord 12 0) (set-of-both (sets asked)) in
+    let k : first_word.kind-word.result ≡ kind_word 12 0 (eq_set a.first.now a.second.now a.x.0 a.y.0) =
+    first_word.kind-word.ensures ∙ ap (kind_word 12 0) (set-of-both (sets asked)) in
     let b = raised_is a.c a.y.0 rise.result (entry (sets asked)).requires.1.0.0 rise.ensures.0 in
     let w : second_word.operands-word.result ≡ operand_word a.x.0 (moved a.c a.y.0) 0 = omega (arith, b, second_word.operands-word.ensures) in
     rw (k, w) at pushed.push.ensures.words

@@ -1,8 +1,8 @@
--- `starts` meets its contract: after n turns the first n nodes keep `varRule`; past the check no further node is a Var.
+-- `starts` meets its contract: after n turns the first n nodes keep `var_rule`; past the check no further node is a Var.
 use Rattle.join.proofs.Checks.{rules-none, rules-more, rules-bad, not-ok, too_few, not-var, all-good}
-use Rattle.join.specs.Starts.{varRules}
-use Rattle.pool.specs.Rules.{poolOk}
-use Rattle.pool_check.specs.Plain.{plainFrom}
+use Rattle.join.specs.Starts.{var_rules}
+use Rattle.pool.specs.Rules.{pool_ok}
+use Rattle.pool_check.specs.Plain.{plain_from}
 use Rattle.pool_check.proofs.Passed.{words-for}
 use Rattle.facts.proofs.Tests.{and_both}
 use Prim.Native.Nat.{◌≤◌, ◌-◌}
@@ -15,7 +15,7 @@ use Rattle.join.proofs.starts.Statement.{statement}
 use Rattle.join.proofs.starts.Tie as tie
 
 abbrev invariant-loop : tie.invariant-loop
-invariant-loop pool count n₀ n = (n ≤ 32) × (varRules pool n ≡ true)
+invariant-loop pool count n₀ n = (n ≤ 32) × (var_rules pool n ≡ true)
 
 abbrev decreases-loop : tie.decreases-loop
 decreases-loop pool count n₀ n = 32 - n
@@ -31,7 +31,7 @@ checked c = c.before.before
 abbrev turn : tie.After-is-register invariant-loop decreases-loop → tie.At-loop invariant-loop decreases-loop
 turn c = c.before.before
 
-check-passed : (c : tie.Else1 invariant-loop decreases-loop) → let a = (entry c.before).args in (poolOk a.pool.now a.count && plainFrom a.pool.now 32 a.count) ≡ true
+check-passed : (c : tie.Else1 invariant-loop decreases-loop) → let a = (entry c.before).args in (pool_ok a.pool.now a.count && plain_from a.pool.now 32 a.count) ≡ true
 check-passed c = sym c.before.check-plain.ensures ∙ not-false _ c.if1.false
 
 -- ---- the needs
@@ -53,7 +53,7 @@ is-register-requires c κs =
     let e = checked c.before in
     let a = (entry e.before).args in
     let ws = a.pool.now in
-    let ok = (and_both (poolOk ws a.count) (plainFrom ws 32 a.count) (check-passed e)).0 in
+    let ok = (and_both (pool_ok ws a.count) (plain_from ws 32 a.count) (check-passed e)).0 in
     omega (arith, words-for ws a.count ok)
 
 returns-3 : tie.Need-returns-3 invariant-loop decreases-loop

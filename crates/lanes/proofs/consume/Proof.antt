@@ -50,7 +50,7 @@ answer-lines-requires c κs =
     (rooms-kept i.1 i.2 i.3 (entry l).requires.0, i.0)
 
 write-requires : tie.Need-write-requires invariant-loop decreases-loop
-write-requires c κs = c.before.before.before.before.before.before.before.answer-lines.ensures.output-fits
+write-requires c κs = c.before.before.before.before.before.before.before.answer-lines.ensures.output_fits
 
 -- a write failed
 same_length : tie.Need-same-length invariant-loop decreases-loop
@@ -63,7 +63,7 @@ same-length-3 : tie.Need-same-length-3 invariant-loop decreases-loop
 same-length-3 c = same_out (answered c.before)
 
 returns : tie.Need-returns invariant-loop decreases-loop
-returns c = (answered c.before).answer-lines.ensures.line-fits
+returns c = (answered c.before).answer-lines.ensures.line_fits
 
 -- the answers are written
 loop-less : tie.Need-loop-smaller invariant-loop decreases-loop
@@ -74,7 +74,7 @@ loop-less c =
 loop-again : tie.Need-loop-preserved invariant-loop decreases-loop
 loop-again c =
     let a = written c in
-    (a.answer-lines.ensures.line-fits, same-pool a, same-held a, same_out a)
+    (a.answer-lines.ensures.line_fits, same-pool a, same-held a, same_out a)
 
 same-length-4 : tie.Need-same-length-4 invariant-loop decreases-loop
 same-length-4 c = c.before.loop.invariant.1

@@ -8,8 +8,8 @@ use lib.ListN.{length, get_or}
 use Rattle.pool.specs.Node.{places}
 use Rattle.block_map.specs.Map.{node_of}
 use Rattle.block.specs.Block.{Answered}
-use Rattle.line_fields.specs.Fields.{inColumns, recordOf}
-use Rattle.line_output.specs.Answer.{answerRoom}
+use Rattle.line_fields.specs.Fields.{in_columns, record_of}
+use Rattle.line_output.specs.Answer.{answer_room}
 use Rattle.line.proofs.Fits.{inside}
 use Rattle.line.proofs.Records.{block-low, answered-one, long, low-d, node-under, registers, left-little, left_other, lowered-one, no_room, little-room, other, refused, done}
 use borrow.Author.Tests.{not-true, not-false}
@@ -21,14 +21,14 @@ abbrev entry : tie.Else2 → tie.Start
 entry c = c.before.before.before.before.before
 
 -- past the second test there is room for every answer
-room : (c : tie.Else2) → (entry c).args.at + answerRoom ≤ length (entry c).args.out.now
+room : (c : tie.Else2) → (entry c).args.at + answer_room ≤ length (entry c).args.out.now
 room c = omega (arith, c.if2.false, c.before.if1.false)
 
 abbrev roomy : tie.Else3 → tie.Else2
 roomy c = c.before.before
 
 -- past the third the line is in columns
-in-columns : (c : tie.Else3) → inColumns (entry (roomy c)).args.line.now ≡ true
+in-columns : (c : tie.Else3) → in_columns (entry (roomy c)).args.line.now ≡ true
 in-columns c = sym c.before.in-columns.ensures ∙ not-false _ c.if3.false
 
 abbrev read : tie.After-lower-block → tie.After-fields-of
@@ -42,7 +42,7 @@ asked c = entry (roomy (ordered c))
 
 -- the block of one is answered
 one : (c : tie.After-lower-block) → let a = (asked c).args in
-    Answered a.pool.now (recordOf a.line.now ∷ []) c.lower_block.new.0 c.lower_block.result
+    Answered a.pool.now (record_of a.line.now ∷ []) c.lower_block.new.0 c.lower_block.result
 one c = answered-one (asked c).args.line.now (read c).fields-of.ensures c.lower_block.ensures
 
 -- it is refused
@@ -59,12 +59,12 @@ accepted c = omega (arith, c.if4.false)
 abbrev accepted-at : tie.After-get → tie.Else4
 accepted-at c = c.before.before
 
-d-is : (c : tie.After-lower-block) → get_or (read c).fields-of.result 3 0 ≡ (recordOf (asked c).args.line.now).d
-d-is c = ap (λ (z : List ℕ). get_or z 3 0) (read c).fields-of.ensures
+d_is : (c : tie.After-lower-block) → get_or (read c).fields-of.result 3 0 ≡ (record_of (asked c).args.line.now).d
+d_is c = ap (λ (z : List ℕ). get_or z 3 0) (read c).fields-of.ensures
 
 node-is : (c : tie.After-get) → let l = lowered (accepted-at c) in
-    c.get.result.0 ≡ node_of l.lower_block.result.map (recordOf (asked l).args.line.now).d
-node-is c = let l = lowered (accepted-at c) in c.get.ensures ∙ ap (node_of l.lower_block.result.map) (d-is l)
+    c.get.result.0 ≡ node_of l.lower_block.result.map (record_of (asked l).args.line.now).d
+node-is c = let l = lowered (accepted-at c) in c.get.ensures ∙ ap (node_of l.lower_block.result.map) (d_is l)
 
 returns : tie.Need-returns
 returns c =
@@ -116,7 +116,7 @@ put-refusal-requires-2 : tie.Need-put-refusal-requires-2
 put-refusal-requires-2 c κs =
     let l = unlowered c.before in
     let a = (asked l).args in
-    (omega (arith, (one l).number, block-low (places a.pool.now) (recordOf a.line.now)), room (roomy (ordered l)))
+    (omega (arith, (one l).number, block-low (places a.pool.now) (record_of a.line.now)), room (roomy (ordered l)))
 
 same-length-2 : tie.Need-same-length-2
 same-length-2 c = search rules
@@ -140,7 +140,7 @@ array-read-get c = search rules
 get-requires : tie.Need-get-requires
 get-requires c κs =
     let l = lowered c.before in
-    omega (arith, low-d (asked l).args.line.now (one l) (accepted c.before), d-is l)
+    omega (arith, low-d (asked l).args.line.now (one l) (accepted c.before), d_is l)
 
 put-term-requires : tie.Need-put-term-requires
 put-term-requires c κs =

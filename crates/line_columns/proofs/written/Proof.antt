@@ -2,7 +2,7 @@
 use mathlib.Core.Path.{◌≡◌, sym, ap, ◌∙◌}
 use Prim.Native.Nat.{◌/◌}
 use native.Mathlib.Omega.{arith}
-use Rattle.line_columns.specs.Columns.{characterOf}
+use Rattle.line_columns.specs.Columns.{character_of}
 use Rattle.line_columns.proofs.Characters.{four, columns-are}
 use borrow.Author.Rules.{rules}
 use Rattle.line_columns.proofs.written.Statement.{statement}
@@ -44,9 +44,9 @@ returns c =
     let e2 : hundreds.tens-of2.result.tens ≡ x / 100 = omega (arith, tens.tens-of.ensures, hundreds.tens-of2.ensures) in
     let e3 : thousands.tens-of3.result.tens ≡ x / 1000 = omega (arith, e2, thousands.tens-of3.ensures) in
     four
-    (first.character.ensures ∙ ap characterOf e3)
-    (last.before.character2.ensures ∙ ap characterOf e2)
-    (last.character3.ensures ∙ ap characterOf e1)
+    (first.character.ensures ∙ ap character_of e3)
+    (last.before.character2.ensures ∙ ap character_of e2)
+    (last.character3.ensures ∙ ap character_of e1)
     (omega (arith, tens.tens-of.ensures))
     ∙ sym (columns-are x tens.before.requires)
 

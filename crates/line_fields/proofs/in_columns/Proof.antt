@@ -1,13 +1,13 @@
 -- `in_columns` meets its contract: 24 characters, and six fields that are in columns.
 use mathlib.Core.Path.{sym}
 use borrow.Author.Tests.{eq-eqb, ne_eqb}
-use Rattle.line_fields.specs.Fields.{inColumns}
+use Rattle.line_fields.specs.Fields.{in_columns}
 use borrow.Author.Rules.{rules}
 use Rattle.line_fields.proofs.in_columns.Statement.{statement}
 use Rattle.line_fields.proofs.in_columns.Tie as tie
 
 returns : tie.Need-returns
-unfolding inColumns
+unfolding in_columns
 returns c = sym (rw (ne_eqb _ _ c.if1.true))
 
 is-field-requires : tie.Need-is-field-requires
@@ -29,7 +29,7 @@ is-field-requires-6 : tie.Need-is-field-requires-6
 is-field-requires-6 c κs = search rules
 
 returns-2 : tie.Need-returns-2
-unfolding inColumns
+unfolding in_columns
 returns-2 c =
     let f16 = c.before in
     let f12 = f16.before in

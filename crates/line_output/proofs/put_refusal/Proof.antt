@@ -19,7 +19,7 @@ put-requires c κs =
     let p = c.before.before.before.before in
     let st = p.before.before.before in
     let w = p.put-columns.ensures in
-    record { room = omega (arith, st.requires.1, length-columns st.args.number st.requires.0, w.next-is, wrote-length w) }
+    record { room = omega (arith, st.requires.1, length-columns st.args.number st.requires.0, w.next_is, wrote-length w) }
 
 same_length : tie.Need-same-length
 same_length c = search rules

@@ -5,7 +5,7 @@ use lib.ListN.{length}
 use Rattle.text_digits.proofs.Laws.{wrote-length}
 use Rattle.text_parts.specs.Text.{text, Ready}
 use Rattle.text_length.proofs.Answers.{ready}
-use Rattle.line_output.specs.Answer.{textRoom}
+use Rattle.line_output.specs.Answer.{text_room}
 use Rattle.line_output.proofs.Texts.{length-columns, term-refused, term-done}
 use borrow.Author.Rules.{rules}
 use Rattle.line_output.proofs.put_term.Statement.{statement}
@@ -29,7 +29,7 @@ abbrev spaced : tie.After-write-known → tie.After-put
 spaced t = t.before.before.before.before
 
 -- past the test the text has room
-roomy : (c : tie.Else1) → let a = (start c).args in length (text a.pool.now a.node.0) ≤ textRoom
+roomy : (c : tie.Else1) → let a = (start c).args in length (text a.pool.now a.node.0) ≤ text_room
 roomy c = omega (arith, c.before.length-in-block.ensures, c.if1.false)
 
 length-in-block-requires : tie.Need-length-in-block-requires
@@ -62,7 +62,7 @@ put-requires c κs =
     let p = c.before.before.before.before in
     let s = start (fitting p) in
     let w = p.put-columns.ensures in
-    record { room = omega (arith, s.pre.1.1, length-columns 0 (omega arith), w.next-is, wrote-length w) }
+    record { room = omega (arith, s.pre.1.1, length-columns 0 (omega arith), w.next_is, wrote-length w) }
 
 write-known-requires : tie.Need-write-known-requires
 write-known-requires c κs =
@@ -73,7 +73,7 @@ write-known-requires c κs =
     let w = p.put-columns.ensures in
     let v = q.put.ensures in (
       whole s,
-      record { room = omega (arith, s.pre.1.1, length-columns 0 (omega arith), w.next-is, wrote-length w, v.next-is, wrote-length v, roomy i) },
+      record { room = omega (arith, s.pre.1.1, length-columns 0 (omega arith), w.next_is, wrote-length w, v.next_is, wrote-length v, roomy i) },
     )
 
 slice-aggregate-put-2 : tie.Need-slice-aggregate-put-2
@@ -89,7 +89,7 @@ put-requires-2 c κs =
     let w = p.put-columns.ensures in
     let v = q.put.ensures in
     let u = t.write_known.ensures in
-    record { room = omega (arith, s.pre.1.1, length-columns 0 (omega arith), w.next-is, wrote-length w, v.next-is, wrote-length v, u.next-is, wrote-length u, roomy i) }
+    record { room = omega (arith, s.pre.1.1, length-columns 0 (omega arith), w.next_is, wrote-length w, v.next_is, wrote-length v, u.next_is, wrote-length u, roomy i) }
 
 same-length-2 : tie.Need-same-length-2
 same-length-2 c = search rules

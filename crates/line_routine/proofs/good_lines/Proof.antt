@@ -6,12 +6,12 @@ use native.Mathlib.Omega.{arith}
 use borrow.Author.Rules.{rules}
 use borrow.Author.Tests.{not-true, not-false}
 use Rattle.neon.proofs.First.{one_more}
-use Rattle.line_routine.specs.Routine.{lineCount, is_line}
+use Rattle.line_routine.specs.Routine.{line_count, is_line}
 use Rattle.line_routine.proofs.good_lines.Statement.{statement}
 use Rattle.line_routine.proofs.good_lines.Tie as tie
 
 abbrev invariant-loop : tie.invariant-loop
-invariant-loop bytes count j₀ j = (count ≡ lineCount bytes) × (j ≤ count) × ((i : ℕ) → i < j → is_line bytes i ≡ true)
+invariant-loop bytes count j₀ j = (count ≡ line_count bytes) × (j ≤ count) × ((i : ℕ) → i < j → is_line bytes i ≡ true)
 
 abbrev decreases-loop : tie.decreases-loop
 decreases-loop bytes count j₀ j = count - j
@@ -60,7 +60,7 @@ loop-again c =
 returns-2 : tie.Need-returns-2 invariant-loop decreases-loop
 returns-2 c =
     let l = c.before in
-    let e : l.loop.j ≡ lineCount (entry l).args.bytes.now = omega (arith, l.loop.invariant.0, l.loop.invariant.1, c.loop-test.false) in
+    let e : l.loop.j ≡ line_count (entry l).args.bytes.now = omega (arith, l.loop.invariant.0, l.loop.invariant.1, c.loop-test.false) in
     record { most = omega arith; before = λ i h. l.loop.invariant.2 i (omega (arith, e, h)); first = λ h. absurd (omega arith) }
 
 pub good-lines-spec : {M : Type 1} → statement M

@@ -1,7 +1,7 @@
 -- `line_routine::is_line` meets its contract.
 use Rattle.line_routine.proofs.Answers.{short-line, part-is, bad-columns, byte-after, none_after}
 use Rattle.line_routine.specs.Routine.{line_at}
-use Rattle.line_fields.specs.Fields.{inColumns}
+use Rattle.line_fields.specs.Fields.{in_columns}
 use mathlib.Core.Bool.{true}
 use mathlib.Core.Path.{◌≡◌, sym, ap, ◌∙◌, refl}
 use native.Mathlib.Omega.{arith}
@@ -40,13 +40,13 @@ in-columns-requires : tie.Need-in-columns-requires
 in-columns-requires c κs = search rules
 
 -- what was asked of the line
-columns_of : (l : tie.After-in-columns) → let a = (entry l).args in inColumns (line_at a.bytes.now a.j) ≡ l.in-columns.result
+columns_of : (l : tie.After-in-columns) → let a = (entry l).args in in_columns (line_at a.bytes.now a.j) ≡ l.in-columns.result
 columns_of l =
     let a = (entry l).args in
-    sym (l.in-columns.ensures ∙ ap inColumns (part-is a.bytes.now _ a.j refl))
+    sym (l.in-columns.ensures ∙ ap in_columns (part-is a.bytes.now _ a.j refl))
 
 -- the fields are in their columns
-full : (t : tie.Else2) → let a = (entry t.before).args in inColumns (line_at a.bytes.now a.j) ≡ true
+full : (t : tie.Else2) → let a = (entry t.before).args in in_columns (line_at a.bytes.now a.j) ≡ true
 full t = columns_of t.before ∙ not-false _ t.if2.false
 
 returns-2 : tie.Need-returns-2

@@ -2,7 +2,7 @@
 use Prim.Native.Nat.{◌*◌, ◌≤◌}
 use native.Mathlib.Omega.{arith}
 use lib.ListN.{length}
-use Rattle.line_routine.specs.Routine.{lineCount}
+use Rattle.line_routine.specs.Routine.{line_count}
 use Rattle.line_routine.proofs.Answers.{numbers-length, bad-line, long-routine, no-refusal, all-good, refused, written}
 use borrow.Author.Rules.{rules}
 use Rattle.line_routine.proofs.read_lines.Statement.{statement}
@@ -17,11 +17,11 @@ abbrev entry : tie.After-good-lines → tie.Start
 entry g = (to-count g).before.before.before
 
 -- no line is bad
-good : (c : tie.Else1) → lineCount (entry c.before).args.bytes.now ≤ c.before.good-lines.result
+good : (c : tie.Else1) → line_count (entry c.before).args.bytes.now ≤ c.before.good-lines.result
 good c = omega (arith, (to-count c.before).line-count.ensures, c.if1.false)
 
 -- and there is room for their numbers
-room : (c : tie.Else2) → let a = (entry c.before.before).args in 6 * lineCount a.bytes.now ≤ length a.records.now
+room : (c : tie.Else2) → let a = (entry c.before.before).args in 6 * line_count a.bytes.now ≤ length a.records.now
 room c = omega (arith, (to-count c.before.before).line-count.ensures, c.if2.false)
 
 -- ---- needs

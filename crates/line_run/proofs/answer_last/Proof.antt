@@ -37,7 +37,7 @@ returns-2 c =
     let st = entry t in
     let a = st.args in
     let w = l.answer-line.ensures in
-    last_some (places a.pool.now) a.held.now a.line (omega (arith, t.if1.false)) st.pre.1 st.pre.0.out-room w.0 (w.1.1 (omega arith))
+    last_some (places a.pool.now) a.held.now a.line (omega (arith, t.if1.false)) st.pre.1 st.pre.0.out_room w.0 (w.1.1 (omega arith))
 
 pub answer-last-spec : {M : Type 1} → statement M
 answer-last-spec =

@@ -5,7 +5,7 @@ use mathlib.Core.Path.{◌≡◌, refl, sym, ap, ◌∙◌}
 use Prim.Native.Nat.{ℕ, ◌-◌, ◌≤◌, ◌<◌}
 use lib.ListN.{length, take, drop}
 use lib.Seq.{length-take-le}
-use Rattle.pool.specs.Node.{places, placesIn}
+use Rattle.pool.specs.Node.{places, places_in}
 use Rattle.line_pieces.proofs.Gathering.{taken_more, held_fits}
 use Rattle.line_run.specs.Going.{answers}
 use Rattle.line_run.proofs.Running.{turn-ended, turn-open, some-taken}
@@ -55,7 +55,7 @@ module _ (g : tie.After-gather invariant-loop decreases-loop) where
   fits = held_fits (top g).loop.inv.0 g.gather.ensures
 
   holds-25 : 25 ≤ length (top g).loop.held
-  holds-25 = omega (arith, (entry (top g)).pre.0.held-room, (top g).loop.inv.3)
+  holds-25 = omega (arith, (entry (top g)).pre.0.held_room, (top g).loop.inv.3)
 
 loop-holds : tie.Need-loop-init invariant-loop decreases-loop
 loop-holds c =
@@ -81,9 +81,9 @@ returns c =
     let i = l.loop.invariant in
     record {
       same = i.7;
-      line-fits = i.0;
-      output-fits = i.1;
-      further = λ k. some-taken i.5 i.6 c.if1.true (omega (arith, (entry l).requires.0.out-room, i.4));
+      line_fits = i.0;
+      output_fits = i.1;
+      further = λ k. some-taken i.5 i.6 c.if1.true (omega (arith, (entry l).requires.0.out_room, i.4));
       stops = λ k. omega (arith, c.if1.true, i.1);
     }
 
@@ -117,7 +117,7 @@ loop-again c =
     let l = top g in
     let i = l.loop.inv in
     let p = places l.loop.pool in
-    let same-places : p ≡ places (entry l).args.pool.now = ap placesIn i.2 in
+    let same-places : p ≡ places (entry l).args.pool.now = ap places_in i.2 in
     let turned =
     turn-ended p l.loop.held (entry l).args.input.now l.loop.len l.loop.next g.gather.result _ (holds-25 g) g.gather.ensures
     t.if2.taken i.1 (omega (arith, g.before.before.if1.left)) a.answer-line.ensures.0
@@ -172,8 +172,8 @@ returns-2 c =
     let i = c.before.loop.invariant in
     record {
       same = i.7;
-      line-fits = i.0;
-      output-fits = i.1;
+      line_fits = i.0;
+      output_fits = i.1;
       further = λ k. omega (arith, c.loop-test.false);
       stops = λ k. absurd (omega (arith, c.loop-test.false));
     }

@@ -1,4 +1,4 @@
--- absolute_difference_lane builds `absoluteDifferenceLane`: both differences, and the comparison that chooses
+-- absolute_difference_lane builds `absolute_difference_lane`: both differences, and the comparison that chooses
 use Rattle.lower_absolute_difference.proofs.Differing.{difference-lane}
 use borrow.Author.Rules.{rules}
 use Rattle.lower_absolute_difference.proofs.absolute_difference_lane.Statement.{

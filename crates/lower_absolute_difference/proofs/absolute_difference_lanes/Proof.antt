@@ -1,18 +1,18 @@
--- absolute_difference_lanes builds `absoluteDifferenceLanes`: its loop keeps the lanes so far
+-- absolute_difference_lanes builds `absolute_difference_lanes`: its loop keeps the lanes so far
 use native.Mathlib.Omega.{arith}
 use Prim.Native.Nat.{◌*◌, ◌-◌}
 use mathlib.Core.List.{[]}
-use Rattle.lower.specs.Builds.{read, readIf}
+use Rattle.lower.specs.Builds.{read, read_if}
 use Rattle.lower.proofs.Loop.{Turning, SoFar, begun, so_far, first-asks, lane-asks, concat-asks, again, whole}
-use Rattle.trees.specs.Trees.{differenceAt, absoluteDifferenceLanes}
+use Rattle.trees.specs.Trees.{difference_at, absolute_difference_lanes}
 use Rattle.trees.specs.Arith as Arith
 use Rattle.lower_absolute_difference.proofs.absolute_difference_lanes.Statement.{statement}
 use Rattle.lower_absolute_difference.proofs.absolute_difference_lanes.Tie as tie
 
 abbrev invariant-loop : tie.invariant-loop
 invariant-loop pool₀ count signed accumulate first second d lane-bits lanes acc₀ i₀ pool acc i =
-    Turning count 9 lane-bits lanes (readIf accumulate d (lane-bits * lanes)) (read first (lane-bits * lanes)) (read second (lane-bits * lanes))
-    (differenceAt signed accumulate lane-bits) [] pool₀ acc₀ pool acc i
+    Turning count 9 lane-bits lanes (read_if accumulate d (lane-bits * lanes)) (read first (lane-bits * lanes)) (read second (lane-bits * lanes))
+    (difference_at signed accumulate lane-bits) [] pool₀ acc₀ pool acc i
 
 abbrev decreases-loop : tie.decreases-loop
 decreases-loop pool₀ count signed accumulate first second d lane-bits lanes acc₀ i₀ pool acc i = lanes - i
@@ -22,7 +22,7 @@ now c = let l = c.before.before.before in let p = l.before.before.before.before.
     so_far c.loop.invariant p.0 p.1.1.0 p.1.1.3 l.before.first.ensures (omega arith) l.difference-at.ensures
 
 pub absolute-difference-lanes-spec : {M : Type 1} → statement M
-unfolding Arith.absoluteDifferenceLanes
+unfolding Arith.absolute_difference_lanes
 absolute-difference-lanes-spec =
     tie.close (tie.spec invariant-loop decreases-loop (λ c κs. tt)
     (λ c κs. let p = c.before.before.before.requires in let w = p.1.1 in

@@ -1,4 +1,4 @@
--- difference_at builds `differenceAt`, one lane, added to the old destination's or alone
+-- difference_at builds `difference_at`, one lane, added to the old destination's or alone
 use Prim.Native.Nat.{◌+◌, ◌*◌, ◌≤◌}
 use mathlib.Core.List.{[], ◌∷◌}
 use Rattle.lower.proofs.Run.{both, Begun, begun, Next, next}

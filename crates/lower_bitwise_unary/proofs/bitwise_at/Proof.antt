@@ -1,4 +1,4 @@
--- bitwise_at builds `bitwiseAt`, one lane, whose bits are cut from below every Extract
+-- bitwise_at builds `bitwise_at`, one lane, whose bits are cut from below every Extract
 use native.Mathlib.Omega.{arith}
 use Prim.Native.Nat.{◌+◌, ◌*◌, ◌≤◌}
 use Rattle.lower.proofs.Lanes.{lane-fits}

@@ -1,10 +1,10 @@
--- bitwise_unary_lanes builds `bitwiseUnaryLanes`: its loop keeps the lanes so far
+-- bitwise_unary_lanes builds `bitwise_unary_lanes`: its loop keeps the lanes so far
 use native.Mathlib.Omega.{arith}
 use Prim.Native.Nat.{◌+◌, ◌*◌, ◌-◌}
 use mathlib.Core.List.{[]}
 use Rattle.lower.specs.Builds.{read, unread}
 use Rattle.lower.proofs.Loop.{Turning, SoFar, begun, so_far, first-asks, lane-asks, concat-asks, again, whole}
-use Rattle.trees.specs.Trees.{bitwiseAt, bitwiseUnaryLanes}
+use Rattle.trees.specs.Trees.{bitwise_at, bitwise_unary_lanes}
 use Rattle.trees.specs.Arith as Arith
 use Rattle.lower_bitwise_unary.proofs.bitwise_unary_lanes.Statement.{statement}
 use Rattle.lower_bitwise_unary.proofs.bitwise_unary_lanes.Tie as tie
@@ -12,7 +12,7 @@ use Rattle.lower_bitwise_unary.proofs.bitwise_unary_lanes.Tie as tie
 abbrev invariant-loop : tie.invariant-loop
 invariant-loop pool₀ count kind first lane-bits lanes acc₀ i₀ pool acc i =
     Turning count (5 * lane-bits + 2) lane-bits lanes unread (read first (lane-bits * lanes)) unread
-    (λ d a b. bitwiseAt kind lane-bits a) [] pool₀ acc₀ pool acc i
+    (λ d a b. bitwise_at kind lane-bits a) [] pool₀ acc₀ pool acc i
 
 abbrev decreases-loop : tie.decreases-loop
 decreases-loop pool₀ count kind first lane-bits lanes acc₀ i₀ pool acc i = lanes - i
@@ -22,7 +22,7 @@ now c = let l = c.before.before.before in let p = l.before.before.before.before.
     so_far c.loop.invariant p.0 (omega (arith, p.1.1.0)) p.1.1.3 l.before.first.ensures (omega arith) l.bitwise-at.ensures
 
 pub bitwise-unary-lanes-spec : {M : Type 1} → statement M
-unfolding Arith.bitwiseUnaryLanes
+unfolding Arith.bitwise_unary_lanes
 bitwise-unary-lanes-spec =
     tie.close (tie.spec invariant-loop decreases-loop (λ c κs. tt)
     (λ c κs. let p = c.before.before.before.requires in let w = p.1.1 in

@@ -1,4 +1,4 @@
--- bitwise_unary_lane builds `bitwiseUnaryLane` for each of the four kinds
+-- bitwise_unary_lane builds `bitwise_unary_lane` for each of the four kinds
 use Rattle.lower_bitwise_unary_lane.proofs.Bitwise.{lane_count, lane-zeros, lane-signs, lane-reversed}
 use borrow.Author.Rules.{rules}
 use Rattle.lower_bitwise_unary_lane.proofs.bitwise_unary_lane.Statement.{statement}

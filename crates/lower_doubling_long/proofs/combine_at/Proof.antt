@@ -1,4 +1,4 @@
--- combine_at builds `combinedAt`: the product itself, or its sum with the old lane under a second clamp
+-- combine_at builds `combined_at`: the product itself, or its sum with the old lane under a second clamp
 use native.Mathlib.Omega.{arith}
 use Rattle.lower_doubling_long.proofs.Multiplying.{combined-nothing, combined-with}
 use Rattle.lower.proofs.Lanes.{lane-fits}

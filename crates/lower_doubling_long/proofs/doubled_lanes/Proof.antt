@@ -1,17 +1,17 @@
--- doubled_lanes builds the lanes of `doublingLongLanes` over a second source that is made: its loop keeps the lanes so far
+-- doubled_lanes builds the lanes of `doubling_long_lanes` over a second source that is made: its loop keeps the lanes so far
 use native.Mathlib.Omega.{arith}
 use Prim.Native.Nat.{◌*◌, ◌/◌, ◌-◌}
-use Rattle.lower.specs.Builds.{read, readIf}
+use Rattle.lower.specs.Builds.{read, read_if}
 use Rattle.lower.proofs.Loop.{Turning, SoFar, begun, so_far, first-asks, lane-asks, concat-asks, again, whole}
-use Rattle.lower_doubling_long.specs.Elements.{accumulates, elementSource, elementNodes, factorBits}
-use Rattle.lower_doubling_long.specs.Lanes.{doubledAt}
+use Rattle.lower_doubling_long.specs.Elements.{accumulates, element_source, element_nodes, factor_bits}
+use Rattle.lower_doubling_long.specs.Lanes.{doubled_at}
 use Rattle.lower_doubling_long.proofs.doubled_lanes.Statement.{statement}
 use Rattle.lower_doubling_long.proofs.doubled_lanes.Tie as tie
 
 abbrev invariant-loop : tie.invariant-loop
 invariant-loop pool₀ count combine upper first second d lane-bits lanes acc₀ i₀ pool acc i =
-    Turning count 26 lane-bits lanes (readIf (accumulates combine) d (lane-bits * lanes)) (read first (factorBits upper lane-bits lanes))
-    (elementSource second (lane-bits / 2) (factorBits upper lane-bits lanes)) (doubledAt combine second upper lane-bits lanes) (elementNodes second)
+    Turning count 26 lane-bits lanes (read_if (accumulates combine) d (lane-bits * lanes)) (read first (factor_bits upper lane-bits lanes))
+    (element_source second (lane-bits / 2) (factor_bits upper lane-bits lanes)) (doubled_at combine second upper lane-bits lanes) (element_nodes second)
     pool₀ acc₀ pool acc i
 
 abbrev decreases-loop : tie.decreases-loop

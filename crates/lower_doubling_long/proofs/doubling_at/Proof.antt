@@ -1,4 +1,4 @@
--- doubling_at builds `doubledAt`, one lane: its two factors, their product, and the old lane
+-- doubling_at builds `doubled_at`, one lane: its two factors, their product, and the old lane
 use native.Mathlib.Omega.{arith}
 use native.Mathlib.Nat.{lt_of_lt_of_le}
 use Prim.Native.Nat.{◌+◌, ◌*◌, ◌/◌, ◌≤◌}

@@ -1,4 +1,4 @@
--- doubling_long_lanes builds `doublingLongLanes`, over one element or over a vector's lanes
+-- doubling_long_lanes builds `doubling_long_lanes`, over one element or over a vector's lanes
 use native.Mathlib.Omega.{arith}
 use Rattle.lower_doubling_long.proofs.Multiplying.{by-element}
 use Rattle.lower_doubling_long.proofs.Multiplying.{by-lane}

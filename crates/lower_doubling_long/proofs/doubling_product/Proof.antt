@@ -1,4 +1,4 @@
--- doubling_product builds `doublingProduct`: the doubled product at one bit more, clamped
+-- doubling_product builds `doubling_product`: the doubled product at one bit more, clamped
 use Rattle.lower_doubling_long.proofs.Multiplying.{product-made}
 use borrow.Author.Rules.{rules}
 use Rattle.lower_doubling_long.proofs.doubling_product.Statement.{statement}

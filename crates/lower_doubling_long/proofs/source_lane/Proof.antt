@@ -1,4 +1,4 @@
--- source_lane is `sourceLane`: the same lane, or as many further as there are lanes
+-- source_lane is `source_lane`: the same lane, or as many further as there are lanes
 use mathlib.Core.Path.{refl}
 use borrow.Author.Rules.{rules}
 use Rattle.lower_doubling_long.proofs.source_lane.Statement.{statement}

@@ -1,4 +1,4 @@
--- high_at builds `highAt`, one lane: two source lanes of twice the bits
+-- high_at builds `high_at`, one lane: two source lanes of twice the bits
 use native.Mathlib.Omega.{arith}
 use Prim.Native.Nat.{◌+◌, ◌*◌, ◌≤◌}
 use Rattle.lower.proofs.Lanes.{lane-fits}

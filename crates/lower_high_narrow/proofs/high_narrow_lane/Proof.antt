@@ -1,4 +1,4 @@
--- high_narrow_lane builds `highNarrowLane`: the sum or the difference, rounded or not, and its upper half
+-- high_narrow_lane builds `high_narrow_lane`: the sum or the difference, rounded or not, and its upper half
 use native.Mathlib.Omega.{arith}
 use Rattle.lower_high_narrow.proofs.Narrowing.{high_lane}
 use Rattle.facts.proofs.Numbers.{half-fits}

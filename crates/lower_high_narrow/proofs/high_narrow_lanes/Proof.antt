@@ -1,8 +1,8 @@
--- high_narrow_lanes builds `highNarrowLanes`: the new lanes, above the lower half of d in a 2 form
+-- high_narrow_lanes builds `high_narrow_lanes`: the new lanes, above the lower half of d in a 2 form
 use native.Mathlib.Omega.{arith}
 use native.Mathlib.Nat.{lt_of_lt_of_le, one-le-mul}
 use Rattle.lower.proofs.Lanes.{kept-below}
-use Rattle.trees.specs.Trees.{highNarrowLanes}
+use Rattle.trees.specs.Trees.{high_narrow_lanes}
 use Rattle.trees.specs.Width as Width
 use borrow.Author.Rules.{rules}
 use Rattle.lower_high_narrow.proofs.high_narrow_lanes.Statement.{statement}
@@ -28,7 +28,7 @@ same_length : tie.Need-same-length
 same_length c = search rules
 
 returns : tie.Need-returns
-unfolding Width.highNarrowLanes
+unfolding Width.high_narrow_lanes
 returns c =
     let l-keep-lower = c.before.before in
     let l-narrowed-lanes = l-keep-lower.before.before.before.before in

@@ -1,17 +1,17 @@
--- narrowed_lanes builds the new lanes of `highNarrowLanes`: its loop keeps the lanes so far
+-- narrowed_lanes builds the new lanes of `high_narrow_lanes`: its loop keeps the lanes so far
 use native.Mathlib.Omega.{arith}
 use Prim.Native.Nat.{◌*◌, ◌-◌}
 use mathlib.Core.List.{[]}
 use Rattle.lower.specs.Builds.{read, unread}
 use Rattle.lower.proofs.Loop.{Turning, SoFar, begun, so_far, first-asks, lane-asks, concat-asks, again, whole}
-use Rattle.trees.specs.Trees.{highAt}
+use Rattle.trees.specs.Trees.{high_at}
 use Rattle.lower_high_narrow.proofs.narrowed_lanes.Statement.{statement}
 use Rattle.lower_high_narrow.proofs.narrowed_lanes.Tie as tie
 
 abbrev invariant-loop : tie.invariant-loop
 invariant-loop pool₀ count subtract rounding first second lane-bits lanes acc₀ i₀ pool acc i =
     Turning count 7 lane-bits lanes unread (read first (lane-bits * 2 * lanes)) (read second (lane-bits * 2 * lanes))
-    (λ d. highAt subtract rounding lane-bits) [] pool₀ acc₀ pool acc i
+    (λ d. high_at subtract rounding lane-bits) [] pool₀ acc₀ pool acc i
 
 abbrev decreases-loop : tie.decreases-loop
 decreases-loop pool₀ count subtract rounding first second lane-bits lanes acc₀ i₀ pool acc i = lanes - i

@@ -1,4 +1,4 @@
--- mixed_at builds `mixedAt`, one lane: the sum at two bits more, clamped
+-- mixed_at builds `mixed_at`, one lane: the sum at two bits more, clamped
 use native.Mathlib.Omega.{arith}
 use Prim.Native.Nat.{◌+◌, ◌*◌, ◌≤◌}
 use Rattle.lower_mixed_sign_add.proofs.Summing.{mixed-lane}

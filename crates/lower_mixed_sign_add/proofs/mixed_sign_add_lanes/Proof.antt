@@ -1,10 +1,10 @@
--- mixed_sign_add_lanes builds `mixedSignAddLanes`: its loop keeps the lanes so far
+-- mixed_sign_add_lanes builds `mixed_sign_add_lanes`: its loop keeps the lanes so far
 use native.Mathlib.Omega.{arith}
 use Prim.Native.Nat.{◌*◌, ◌-◌}
 use mathlib.Core.List.{[]}
 use Rattle.lower.specs.Builds.{read, unread}
 use Rattle.lower.proofs.Loop.{Turning, SoFar, begun, so_far, first-asks, lane-asks, concat-asks, again, whole}
-use Rattle.trees.specs.Trees.{mixedAt, mixedSignAddLanes}
+use Rattle.trees.specs.Trees.{mixed_at, mixed_sign_add_lanes}
 use Rattle.trees.specs.Arith as Arith
 use Rattle.lower_mixed_sign_add.proofs.mixed_sign_add_lanes.Statement.{statement}
 use Rattle.lower_mixed_sign_add.proofs.mixed_sign_add_lanes.Tie as tie
@@ -12,7 +12,7 @@ use Rattle.lower_mixed_sign_add.proofs.mixed_sign_add_lanes.Tie as tie
 abbrev invariant-loop : tie.invariant-loop
 invariant-loop pool₀ count destination-signed first d lane-bits lanes acc₀ i₀ pool acc i =
     Turning count 13 lane-bits lanes (read d (lane-bits * lanes)) (read first (lane-bits * lanes)) unread
-    (λ d a b. mixedAt destination-signed lane-bits d a) [] pool₀ acc₀ pool acc i
+    (λ d a b. mixed_at destination-signed lane-bits d a) [] pool₀ acc₀ pool acc i
 
 abbrev decreases-loop : tie.decreases-loop
 decreases-loop pool₀ count destination-signed first d lane-bits lanes acc₀ i₀ pool acc i = lanes - i
@@ -22,7 +22,7 @@ now c = let l = c.before.before.before in let p = l.before.before.before.before.
     so_far c.loop.invariant p.0 p.1.1.0 p.1.1.3 l.before.first.ensures (omega arith) l.mixed-at.ensures
 
 pub mixed-sign-add-lanes-spec : {M : Type 1} → statement M
-unfolding Arith.mixedSignAddLanes
+unfolding Arith.mixed_sign_add_lanes
 mixed-sign-add-lanes-spec =
     tie.close (tie.spec invariant-loop decreases-loop (λ c κs. tt)
     (λ c κs. let p = c.before.before.before.requires in let w = p.1.1 in

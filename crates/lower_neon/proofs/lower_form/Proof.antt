@@ -1,6 +1,6 @@
--- lower_form builds `resultTree`: a legal form's shape is ready for its family
+-- lower_form builds `result_tree`: a legal form's shape is ready for its family
 use native.Mathlib.Omega.{arith}
-use Rattle.neon.specs.Op.{Op, Arrangement, opAt, arrangementAt}
+use Rattle.neon.specs.Op.{Op, Arrangement, op_at, arrangement_at}
 use Rattle.neon.specs.Refusal.{Formed}
 use Rattle.neon.proofs.Legal.{formed}
 use Rattle.lower_neon.proofs.Rows.{Row, row}
@@ -12,10 +12,10 @@ abbrev entry : tie.After-shape → tie.Start
 entry c = c.before.before
 
 abbrev op : tie.Start → Op
-op s = opAt s.args.operation
+op s = op_at s.args.operation
 
 abbrev arrangement : tie.Start → Arrangement
-arrangement s = arrangementAt s.args.arrangement
+arrangement s = arrangement_at s.args.arrangement
 
 -- the form is legal, and has a row
 legal : (s : tie.Start) → Formed s.args.operation s.args.arrangement s.args.i

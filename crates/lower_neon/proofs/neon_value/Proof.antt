@@ -5,7 +5,7 @@ use Prim.Native.Nat.{ℕ, ◌+◌, ◌*◌, ◌≤◌}
 use Rattle.trees.specs.declared.NeonOp.{NeonOp}
 use Rattle.pool.specs.Growth.{Room}
 use Rattle.lower_bitwise_unary.proofs.Lanes.{nodes-most}
-use Rattle.neon.specs.Refusal.{mostNodes}
+use Rattle.neon.specs.Refusal.{most_nodes}
 use Rattle.lower_neon.proofs.Sources.{Ready, lanes-le, ready, as_is, not-read, within}
 use borrow.Author.Rules.{rules}
 use Rattle.lower_neon.proofs.neon_value.Statement.{statement}
@@ -72,11 +72,11 @@ wide s = (omega (arith, eight s), s.requires.1.1.1, s.requires.1.1.2, s.requires
 lanes : (s : tie.Start) → s.args.shape.lanes ≤ 16
 lanes s = lanes-le s.args.shape.lane_bits s.args.shape.lanes (eight s) (wide s).3
 
-room : (s : tie.Start) {m : ℕ} → m ≤ mostNodes → Room s.args.pool.now s.args.count m
+room : (s : tie.Start) {m : ℕ} → m ≤ most_nodes → Room s.args.pool.now s.args.count m
 room s h = omega (arith, s.requires.0, h)
 
 -- the functions of bits have more nodes a lane, by the lane's bits
-most : (s : tie.Start) → let a = s.args.shape in (5 * a.lane_bits + 2) * a.lanes ≤ mostNodes
+most : (s : tie.Start) → let a = s.args.shape in (5 * a.lane_bits + 2) * a.lanes ≤ most_nodes
 most s = omega (arith, nodes-most s.args.shape.lane_bits s.args.shape.lanes (eight s) (wide s).3)
 
 -- the sources that it reads and what it asks of its lanes, once the operation is known to be op

@@ -1,11 +1,11 @@
--- made_lanes builds the new lanes of `saturatingLanes`: its loop keeps the lanes so far
+-- made_lanes builds the new lanes of `saturating_lanes`: its loop keeps the lanes so far
 use native.Mathlib.Omega.{arith}
 use Prim.Native.Nat.{◌*◌, ◌-◌}
 use mathlib.Core.List.{[]}
-use Rattle.trees.specs.Arith.{kindBits}
-use Rattle.trees.specs.Trees.{saturatingAt}
-use Rattle.lower_kinds.specs.Sources.{usesSecond}
-use Rattle.lower.specs.Builds.{read, readIf, unread}
+use Rattle.trees.specs.Arith.{kind_bits}
+use Rattle.trees.specs.Trees.{saturating_at}
+use Rattle.lower_kinds.specs.Sources.{uses_second}
+use Rattle.lower.specs.Builds.{read, read_if, unread}
 use Rattle.lower.proofs.Loop.{Turning, SoFar, begun, so_far, first-asks, lane-asks, concat-asks, again, whole}
 use Rattle.lower_saturating.proofs.Joining.{made-most}
 use Rattle.lower_saturating.proofs.made_lanes.Statement.{statement}
@@ -13,8 +13,8 @@ use Rattle.lower_saturating.proofs.made_lanes.Tie as tie
 
 abbrev invariant-loop : tie.invariant-loop
 invariant-loop pool₀ count kind signed-sources first second lane-bits lanes acc₀ i₀ pool acc i =
-    Turning count 19 lane-bits lanes unread (read first (kindBits kind lane-bits * lanes)) (readIf (usesSecond kind) second (kindBits kind lane-bits * lanes))
-    (λ d. saturatingAt kind signed-sources lane-bits) [] pool₀ acc₀ pool acc i
+    Turning count 19 lane-bits lanes unread (read first (kind_bits kind lane-bits * lanes)) (read_if (uses_second kind) second (kind_bits kind lane-bits * lanes))
+    (λ d. saturating_at kind signed-sources lane-bits) [] pool₀ acc₀ pool acc i
 
 abbrev decreases-loop : tie.decreases-loop
 decreases-loop pool₀ count kind signed-sources first second lane-bits lanes acc₀ i₀ pool acc i = lanes - i

@@ -1,10 +1,10 @@
--- saturating_at builds `saturatingAt`, one lane, of one source lane or of two
+-- saturating_at builds `saturating_at`, one lane, of one source lane or of two
 use native.Mathlib.Omega.{arith}
 use mathlib.Core.Bool.{true}
 use mathlib.Core.Logic.{⊎_elim, inl, inr}
 use mathlib.Core.Path.{◌≡◌, sym, subst, ◌∙◌}
 use Prim.Native.Nat.{ℕ, ◌+◌, ◌*◌, ◌≤◌}
-use Rattle.lower_kinds.specs.Sources.{usesSecond}
+use Rattle.lower_kinds.specs.Sources.{uses_second}
 use Rattle.lower.proofs.Lanes.{lane-fits}
 use Rattle.lower_kinds.proofs.Bits.{source-least}
 use Rattle.lower_saturating.proofs.Joining.{Second, Both, both-sized, at-lane}
@@ -43,7 +43,7 @@ extract-lane-requires c κs = omega (arith, (entry c.before).requires.0, (entry 
 uses-second-requires : tie.Need-uses-second-requires
 uses-second-requires c κs = search rules
 
-used : (c : tie.Then1) → usesSecond (entry (bits c.before)).args.kind ≡ true
+used : (c : tie.Then1) → uses_second (entry (bits c.before)).args.kind ≡ true
 used c = sym c.before.uses-second.ensures ∙ c.if1.true
 
 extract-lane-requires-2 : tie.Need-extract-lane-requires-2
@@ -53,7 +53,7 @@ extract-lane-requires-2 c κs =
     omega (arith, s.pre.0, s.pre.1.0.1 (used u), (first u.before).extract-lane.ensures.sized, fits (bits u.before))
 
 second : (c : tie.Joined1) → let u = c.before in let s = (entry (bits u)).args in let a = (first u).extract-lane in
-    Second a.last.0 a.result c.if1.pool c.if1.b (usesSecond s.kind) s.second (bits u).source-bits.result s.index.0
+    Second a.last.0 a.result c.if1.pool c.if1.b (uses_second s.kind) s.second (bits u).source-bits.result s.index.0
 second c =
     let e = sym c.before.uses-second.ensures in
     ⊎_elim (λ w. inl (e ∙ w.0.taken, rw (w.5, w.6) w.2.ensures)) (λ w. inr (e ∙ w.0.left, w.1, w.2)) c.if1.branch

@@ -1,4 +1,4 @@
--- saturating_lanes builds `saturatingLanes`: the new lanes, above the lower half of d in a 2 form
+-- saturating_lanes builds `saturating_lanes`: the new lanes, above the lower half of d in a 2 form
 use native.Mathlib.Omega.{arith}
 use native.Mathlib.Nat.{lt_of_lt_of_le, one-le-mul}
 use Rattle.lower_saturating.proofs.Joining.{with-lower, alone}

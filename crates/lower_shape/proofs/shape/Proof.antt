@@ -1,7 +1,7 @@
 -- shape is `shape_of`: the row of the operation, and the arrangement's lanes
 use native.Mathlib.Omega.{arith}
 use mathlib.Core.Path.{refl}
-use Rattle.neon.specs.Op.{arrangementAt}
+use Rattle.neon.specs.Op.{arrangement_at}
 use Rattle.neon.proofs.Geometry.{sized}
 use borrow.Author.Rules.{rules}
 use Rattle.lower_shape.proofs.shape.Statement.{statement}
@@ -22,7 +22,7 @@ made-bits-requires c κs = search rules
 div-t8 : tie.Need-nonzero-div-t8
 div-t8 c =
     let s = c.before.before.before.before in
-    omega (arith, c.before.lane-bits.ensures, (sized (arrangementAt s.args.arrangement)).eight)
+    omega (arith, c.before.lane-bits.ensures, (sized (arrangement_at s.args.arrangement)).eight)
 
 returns : tie.Need-returns
 returns c =

@@ -3,17 +3,17 @@ use native.Mathlib.Omega.{arith}
 use Prim.Native.Nat.{◌*◌, ◌-◌}
 use mathlib.Core.List.{[]}
 use Rattle.lower_kinds.specs.Sources.{is_register}
-use Rattle.lower.specs.Builds.{read, readIf, unread}
+use Rattle.lower.specs.Builds.{read, read_if, unread}
 use Rattle.lower.proofs.Loop.{Turning, SoFar, begun, so_far, first-asks, lane-asks, concat-asks, again, whole}
-use Rattle.trees.specs.Trees.{shiftAt, shift_lanes}
+use Rattle.trees.specs.Trees.{shift_at, shift_lanes}
 use Rattle.trees.specs.Arith as Arith
 use Rattle.lower_shift.proofs.shift_lanes.Statement.{statement}
 use Rattle.lower_shift.proofs.shift_lanes.Tie as tie
 
 abbrev invariant-loop : tie.invariant-loop
 invariant-loop pool₀ count kind signed first second lane-bits lanes acc₀ i₀ pool acc i =
-    Turning count 25 lane-bits lanes unread (read first (lane-bits * lanes)) (readIf (is_register kind) second (lane-bits * lanes))
-    (λ d. shiftAt kind signed lane-bits) [] pool₀ acc₀ pool acc i
+    Turning count 25 lane-bits lanes unread (read first (lane-bits * lanes)) (read_if (is_register kind) second (lane-bits * lanes))
+    (λ d. shift_at kind signed lane-bits) [] pool₀ acc₀ pool acc i
 
 abbrev decreases-loop : tie.decreases-loop
 decreases-loop pool₀ count kind signed first second lane-bits lanes acc₀ i₀ pool acc i = lanes - i

@@ -1,4 +1,4 @@
--- insert_at builds `insertAt`, one lane of an insert
+-- insert_at builds `insert_at`, one lane of an insert
 use Prim.Native.Nat.{◌+◌, ◌*◌, ◌≤◌}
 use mathlib.Core.List.{[], ◌∷◌}
 use Rattle.lower.proofs.Run.{both, Begun, begun, Next, next}

@@ -1,17 +1,17 @@
--- insert_lanes builds the lanes of `shiftInsertLanes` over the amount's node: its loop keeps the lanes so far
+-- insert_lanes builds the lanes of `shift_insert_lanes` over the amount's node: its loop keeps the lanes so far
 use native.Mathlib.Omega.{arith}
 use Prim.Native.Nat.{◌*◌, ◌-◌}
 use mathlib.Core.List.{[], ◌∷◌}
 use Rattle.lower.specs.Builds.{read}
 use Rattle.lower.proofs.Loop.{Turning, SoFar, begun, so_far, first-asks, lane-asks, concat-asks, again, whole}
-use Rattle.trees.specs.Trees.{insertAt}
+use Rattle.trees.specs.Trees.{insert_at}
 use Rattle.lower_shift_insert.proofs.insert_lanes.Statement.{statement}
 use Rattle.lower_shift_insert.proofs.insert_lanes.Tie as tie
 
 abbrev invariant-loop : tie.invariant-loop
 invariant-loop pool₀ count left kept amount first d lane-bits lanes acc₀ i₀ pool acc i =
     Turning count 7 lane-bits lanes (read d (lane-bits * lanes)) (read first (lane-bits * lanes)) (read amount lane-bits)
-    (insertAt left kept lane-bits) (amount.0 ∷ []) pool₀ acc₀ pool acc i
+    (insert_at left kept lane-bits) (amount.0 ∷ []) pool₀ acc₀ pool acc i
 
 abbrev decreases-loop : tie.decreases-loop
 decreases-loop pool₀ count left kept amount first d lane-bits lanes acc₀ i₀ pool acc i = lanes - i

@@ -1,4 +1,4 @@
--- kept_bits is `keptBits`: the low bits, or all but the low ones
+-- kept_bits is `kept_bits`: the low bits, or all but the low ones
 use Rattle.lower_shift_insert.proofs.Inserting.{kept-left, kept-right, low-le}
 use borrow.Author.Rules.{rules}
 use Rattle.lower_shift_insert.proofs.kept_bits.Statement.{statement}

@@ -1,4 +1,4 @@
--- low_bits is `unsignedMax`, for no bits too
+-- low_bits is `unsigned_max`, for no bits too
 use mathlib.Core.Path.{refl}
 use borrow.Author.Rules.{rules}
 use Rattle.lower_shift_insert.proofs.low_bits.Statement.{statement}

@@ -1,4 +1,4 @@
--- shift_insert_lanes builds `shiftInsertLanes`: the amount and the mask, then the lanes
+-- shift_insert_lanes builds `shift_insert_lanes`: the amount and the mask, then the lanes
 use native.Mathlib.Omega.{arith}
 use Rattle.lower_shift_insert.proofs.Inserting.{inserted-all, kept-lt}
 use borrow.Author.Rules.{rules}

@@ -1,4 +1,4 @@
--- rises is risesAt: each test is that of the node's words
+-- rises is rises_at: each test is that of the node's words
 use borrow.Author.Rules.{rules}
 use Rattle.lower_simd.proofs.rises.Statement.{statement}
 use Rattle.lower_simd.proofs.rises.Tie as tie

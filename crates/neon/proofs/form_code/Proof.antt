@@ -7,8 +7,8 @@ use native.Mathlib.Omega.{arith}
 use lib.ListN.{get_or}
 use borrow.Author.Rules.{rules}
 use borrow.Author.Tests.{lt-leb, le-leb}
-use Rattle.neon.specs.Op.{Op, operations, opAt, Arrangement, full, arrangements, arrangementAt, isOperation, isArrangement}
-use Rattle.neon.specs.Form.{form, hasForm, hasSecond, readsD, byElement, firstFull, secondFull, flag, immediateCode, formCode, formCodeAt}
+use Rattle.neon.specs.Op.{Op, operations, op_at, Arrangement, full, arrangements, arrangement_at, is_operation, is_arrangement}
+use Rattle.neon.specs.Form.{form, has_form, has_second, reads_d, by_element, first_full, second_full, flag, immediate_code, form_code, form_code_at}
 use Rattle.neon.specs.Arm.{lane, lanes}
 use Rattle.neon.proofs.Geometry.{immediate-le}
 use Rattle.neon.proofs.Lanes.{lane-of-lanes}
@@ -21,45 +21,45 @@ flag-le : (b : Bool) (k : ℕ) → flag b k ≤ k
 flag-le true k = omega arith
 flag-le false k = omega arith
 
-code_lt : (o : Op) (v : Arrangement) → formCode o v < 2 ^ 8
-unfolding formCode
+code_lt : (o : Op) (v : Arrangement) → form_code o v < 2 ^ 8
+unfolding form_code
 code_lt o v =
     let l = (form o).lanes in
-    let code : ℕ = immediateCode (form o).immediate + flag (hasSecond o) 8 + flag (readsD o v) 16 + flag (firstFull l (full v)) 32 + flag (secondFull l (byElement o) (full v)) 64 in
+    let code : ℕ = immediate_code (form o).immediate + flag (has_second o) 8 + flag (reads_d o v) 16 + flag (first_full l (full v)) 32 + flag (second_full l (by_element o) (full v)) 64 in
     omega (
       arith,
-      flag-le (hasForm o v) code,
+      flag-le (has_form o v) code,
       immediate-le (form o).immediate,
-      flag-le (hasSecond o) 8,
-      flag-le (readsD o v) 16,
-      flag-le (firstFull l (full v)) 32,
-      flag-le (secondFull l (byElement o) (full v)) 64,
+      flag-le (has_second o) 8,
+      flag-le (reads_d o v) 16,
+      flag-le (first_full l (full v)) 32,
+      flag-le (second_full l (by_element o) (full v)) 64,
     )
 
-code-at-lt : (o a : ℕ) → formCodeAt o a < 2 ^ 8
-unfolding formCodeAt
-code-at-lt o a = omega (arith, flag-le (isOperation o && isArrangement a) (formCode (opAt o) (arrangementAt a)), code_lt (opAt o) (arrangementAt a))
+code-at-lt : (o a : ℕ) → form_code_at o a < 2 ^ 8
+unfolding form_code_at
+code-at-lt o a = omega (arith, flag-le (is_operation o && is_arrangement a) (form_code (op_at o) (arrangement_at a)), code_lt (op_at o) (arrangement_at a))
 
 -- the word of operation k + 1
 word : ℕ → ℕ
-word k = lanes 8 7 (formCodeAt (suc k))
+word k = lanes 8 7 (form_code_at (suc k))
 
 table : List ℕ
 table = tabulate word 0 67
 
-table-code : (o a : ℕ) → 1 ≤ o → o ≤ 67 → a ≤ 6 → get_or table (o - 1) 0 / 2 ^ (8 * a) % 256 ≡ formCodeAt o a
+table-code : (o a : ℕ) → 1 ≤ o → o ≤ 67 → a ≤ 6 → get_or table (o - 1) 0 / 2 ^ (8 * a) % 256 ≡ form_code_at o a
 unfolding table word lane
 table-code o a l m h =
     ap (λ (x : ℕ). x / 2 ^ (8 * a) % 256) (entry word 67 (o - 1) (omega arith))
-    ∙ lane-of-lanes 8 7 (formCodeAt (suc (o - 1))) (code-at-lt (suc (o - 1))) a (omega arith)
-    ∙ ap (λ (k : ℕ). formCodeAt k a) (omega arith)
+    ∙ lane-of-lanes 8 7 (form_code_at (suc (o - 1))) (code-at-lt (suc (o - 1))) a (omega arith)
+    ∙ ap (λ (k : ℕ). form_code_at k a) (omega arith)
 
 returns : tie.Need-returns
-unfolding formCodeAt
+unfolding form_code_at
 returns c = rw (lt-leb 1 c.before.args.operation c.if1.true)
 
 returns-2 : tie.Need-returns-2
-unfolding formCodeAt
+unfolding form_code_at
 returns-2 c =
     rw (
       le-leb 1 c.before.before.args.operation c.before.if1.false,
@@ -67,7 +67,7 @@ returns-2 c =
     )
 
 returns-3 : tie.Need-returns-3
-unfolding formCodeAt
+unfolding form_code_at
 returns-3 c =
     rw (
       le-leb 1 c.before.before.before.args.operation c.before.before.if1.false,
@@ -88,7 +88,7 @@ shr-result : tie.Need-overflow-shr-result
 shr-result c = search rules
 
 returns-4 : tie.Need-returns-4
-unfolding table tabulate word lanes formCodeAt formCode opAt operations arrangementAt arrangements
+unfolding table tabulate word lanes form_code_at form_code op_at operations arrangement_at arrangements
 returns-4 c =
     table-code c.before.before.before.args.operation c.before.before.before.args.arrangement c.before.before.if1.false
     c.before.if2.false c.if3.false

@@ -1,13 +1,13 @@
--- form_number is `formNumber`: 2, 3 and 4 by its tests in order, and 0 past them all
+-- form_number is `form_number`: 2, 3 and 4 by its tests in order, and 0 past them all
 use native.Mathlib.Omega.{arith}
 use mathlib.Core.Path.{◌≡◌, sym, ap, ◌∙◌}
 use mathlib.Core.Bool.{true, cond, ◌&&◌}
 use lib.Dec.{leb}
 use Prim.Native.Nat.{ℕ}
 use borrow.Author.Tests.{lt-leb, le-leb, leb-true}
-use Rattle.neon.specs.Op.{Op, opAt, isOperation, Arrangement, arrangementAt, isArrangement, laneBits}
-use Rattle.neon.specs.Form.{least, most, hasForm, formCode, formCodeAt}
-use Rattle.neon.specs.Refusal.{formNumber}
+use Rattle.neon.specs.Op.{Op, op_at, is_operation, Arrangement, arrangement_at, is_arrangement, bits_of_lane}
+use Rattle.neon.specs.Form.{least, most, has_form, form_code, form_code_at}
+use Rattle.neon.specs.Refusal.{form_number}
 use Rattle.neon.proofs.Geometry.{sized}
 use Rattle.neon_form.proofs.Parts.{without, with-form}
 use borrow.Author.Rules.{rules}
@@ -21,27 +21,27 @@ abbrev entry : tie.Else2 → tie.Start
 entry c = c.before.before
 
 abbrev op : tie.Else2 → Op
-op c = opAt (entry c).args.operation
+op c = op_at (entry c).args.operation
 
 abbrev arrangement : tie.Else2 → Arrangement
-arrangement c = arrangementAt (entry c).args.arrangement
+arrangement c = arrangement_at (entry c).args.arrangement
 
-known : (c : tie.Else2) → isOperation (entry c).args.operation ≡ true
+known : (c : tie.Else2) → is_operation (entry c).args.operation ≡ true
 known c = rw (le-leb 1 (entry c).args.operation c.before.if1.false, le-leb (entry c).args.operation 67 c.if2.false)
 
 -- with a form of that arrangement
 abbrev past : tie.Else3 → tie.Else2
 past c = c.before.before
 
-formed : (c : tie.Else3) → let a = (entry (past c)).args in (isArrangement a.arrangement ≡ true) × (hasForm (op (past c)) (arrangement (past c)) ≡ true)
-    × (formCodeAt a.operation a.arrangement ≡ formCode (op (past c)) (arrangement (past c)))
+formed : (c : tie.Else3) → let a = (entry (past c)).args in (is_arrangement a.arrangement ≡ true) × (has_form (op (past c)) (arrangement (past c)) ≡ true)
+    × (form_code_at a.operation a.arrangement ≡ form_code (op (past c)) (arrangement (past c)))
 formed c =
     let o = past c in
     with-form _ _ o.before.if1.left o.if2.left (λ z. c.if3.false (c.before.form-code.ensures ∙ z))
 
 left : (c : tie.Else3) → let a = (entry (past c)).args in
-    formNumber a.operation a.arrangement a.i 0
-    ≡ cond (leb (least (op (past c))) a.i && leb a.i (most (op (past c)) (laneBits (arrangement (past c))))) 0 4
+    form_number a.operation a.arrangement a.i 0
+    ≡ cond (leb (least (op (past c))) a.i && leb a.i (most (op (past c)) (bits_of_lane (arrangement (past c))))) 0 4
 left c = rw (known (past c), (formed c).0, (formed c).1)
 
 -- the ends of its immediates
@@ -51,7 +51,7 @@ least-is c = let f = formed c.before in c.least-immediate.ensures _ _ f.1 (c.bef
 abbrev to-least : tie.After-most-immediate → tie.After-least-immediate
 to-least c = c.before.before.before
 
-most-is : (c : tie.After-most-immediate) → let o = past (to-least c).before in c.most-immediate.result ≡ most (op o) (laneBits (arrangement o))
+most-is : (c : tie.After-most-immediate) → let o = past (to-least c).before in c.most-immediate.result ≡ most (op o) (bits_of_lane (arrangement o))
 most-is c =
     let k = (to-least c).before in
     let f = formed k in
@@ -93,7 +93,7 @@ most-immediate-requires c κs =
 
 -- the immediate is not below its least: the last test decides
 last : (c : tie.After-most-immediate) → let a = (entry (past (to-least c).before)).args in
-    formNumber a.operation a.arrangement a.i 0 ≡ cond (leb a.i c.most-immediate.result) 0 4
+    form_number a.operation a.arrangement a.i 0 ≡ cond (leb a.i c.most-immediate.result) 0 4
 last c =
     let l = to-least c in
     let o = past l.before in

@@ -1,36 +1,36 @@
 -- is_full is `full` of the arrangement: each arm at its number
 use native.Mathlib.Omega.{arith}
 use mathlib.Core.Path.{◌≡◌, refl}
-use Rattle.neon.specs.Op.{arrangementAt, arrangements}
+use Rattle.neon.specs.Op.{arrangement_at, arrangements}
 use Rattle.neon_form.proofs.is_full.Statement.{statement}
 use Rattle.neon_form.proofs.is_full.Tie as tie
 
 returns : tie.Need-returns
-unfolding arrangementAt arrangements
+unfolding arrangement_at arrangements
 returns c = rw c.match.keys1 refl
 
 returns-2 : tie.Need-returns-2
-unfolding arrangementAt arrangements
+unfolding arrangement_at arrangements
 returns-2 c = rw c.match.keys2 refl
 
 returns-3 : tie.Need-returns-3
-unfolding arrangementAt arrangements
+unfolding arrangement_at arrangements
 returns-3 c = rw c.match.keys3 refl
 
 returns-4 : tie.Need-returns-4
-unfolding arrangementAt arrangements
+unfolding arrangement_at arrangements
 returns-4 c = rw c.match.keys4 refl
 
 returns-5 : tie.Need-returns-5
-unfolding arrangementAt arrangements
+unfolding arrangement_at arrangements
 returns-5 c = rw c.match.keys5 refl
 
 returns-6 : tie.Need-returns-6
-unfolding arrangementAt arrangements
+unfolding arrangement_at arrangements
 returns-6 c = rw c.match.keys6 refl
 
 returns-7 : tie.Need-returns-7
-unfolding arrangementAt arrangements
+unfolding arrangement_at arrangements
 returns-7 c =
     let st = c.before in
     let e : st.args.arrangement ≡ 6 = omega (arith, st.requires, c.match.rest) in

@@ -1,4 +1,4 @@
--- check_plain is poolOk with the rule of Vars: past the test of places the nodes decide
+-- check_plain is pool_ok with the rule of Vars: past the test of places the nodes decide
 use native.Mathlib.Omega.{arith}
 use borrow.Author.Tests.{le-leb, lt-leb}
 use Rattle.pool.specs.Node.{places}

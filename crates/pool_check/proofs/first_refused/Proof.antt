@@ -5,14 +5,14 @@ use Prim.Native.Nat.{◌≤◌, ◌-◌}
 use mathlib.Core.Path.{◌≡◌, sym, ◌∙◌}
 use mathlib.Core.Bool.{true}
 use Rattle.facts.proofs.Tests.{and_both}
-use Rattle.pool.specs.Rules.{okNode, okPool}
-use Rattle.pool_check.specs.Plain.{plainAt, plainFrom}
+use Rattle.pool.specs.Rules.{ok_node, ok_pool}
+use Rattle.pool_check.specs.Plain.{plain_at, plain_from}
 use Rattle.pool_check.proofs.Nodes.{one_more, none, plain-none, plain_more, some-refused}
 use Rattle.pool_check.proofs.first_refused.Statement.{statement}
 use Rattle.pool_check.proofs.first_refused.Tie as tie
 
 abbrev invariant-loop : tie.invariant-loop
-invariant-loop pool count plain n₀ n = (n ≤ count) × (okPool pool n ≡ true) × (plainFrom pool plain.0 n ≡ true)
+invariant-loop pool count plain n₀ n = (n ≤ count) × (ok_pool pool n ≡ true) × (plain_from pool plain.0 n ≡ true)
 
 abbrev decreases-loop : tie.decreases-loop
 decreases-loop pool count plain n₀ n = count - n
@@ -51,7 +51,7 @@ loop-again c =
     let s = turn c.before in
     let a = (entry s).args in
     let n = s.loop.n in
-    let p = and_both (okNode a.pool.now n) (plainAt a.pool.now a.plain.0 n) (sym c.before.node_ok.ensures ∙ not-false _ c.if1.false) in
+    let p = and_both (ok_node a.pool.now n) (plain_at a.pool.now a.plain.0 n) (sym c.before.node_ok.ensures ∙ not-false _ c.if1.false) in
     (omega arith, one_more a.pool.now n s.loop.inv.1 p.0, plain_more a.pool.now a.plain.0 n s.loop.inv.2 p.1)
 
 returns-2 : tie.Need-returns-2 invariant-loop decreases-loop

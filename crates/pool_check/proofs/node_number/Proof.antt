@@ -2,7 +2,7 @@
 use mathlib.Core.Bool.{true}
 use mathlib.Core.Path.{◌≡◌, sym, ◌∙◌}
 use borrow.Author.Tests.{not-true, not-false}
-use Rattle.pool.specs.Rules.{poolOk}
+use Rattle.pool.specs.Rules.{pool_ok}
 use Rattle.pool_check.proofs.Number.{bad-pool, bad-node, good-node}
 use borrow.Author.Rules.{rules}
 use Rattle.pool_check.proofs.node_number.Statement.{statement}
@@ -14,7 +14,7 @@ pool-check-requires c κs = search rules
 abbrev entry : tie.After-pool-check → tie.Start
 entry c = c.before.before
 
-valid : (c : tie.Else1) → let a = (entry c.before).args in poolOk a.pool.now a.count ≡ true
+valid : (c : tie.Else1) → let a = (entry c.before).args in pool_ok a.pool.now a.count ≡ true
 valid c = sym c.before.pool-check.ensures ∙ not-false _ c.if1.false
 
 returns : tie.Need-returns

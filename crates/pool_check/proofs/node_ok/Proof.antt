@@ -1,13 +1,13 @@
--- node_ok is okNode with the rule of Vars: each kind has its rules
+-- node_ok is ok_node with the rule of Vars: each kind has its rules
 use mathlib.Core.Bool.{Bool, ◌&&◌}
 use mathlib.Core.List.{List}
 use mathlib.Core.Path.{◌≡◌, refl, sym, ◌∙◌}
 use Prim.Native.Nat.{ℕ}
 use native.Mathlib.Omega.{arith}
 use Rattle.pool.specs.Node.{kind_at, kinds}
-use Rattle.pool.specs.Rules.{okNode}
-use Rattle.pool_rules.specs.Rule.{okAs}
-use Rattle.pool_check.specs.Plain.{plainAt}
+use Rattle.pool.specs.Rules.{ok_node}
+use Rattle.pool_rules.specs.Rule.{ok_as}
+use Rattle.pool_check.specs.Plain.{plain_at}
 use Rattle.pool_check.proofs.Nodes.{by_number, extension, no_kind, no-var, a-var}
 use borrow.Author.Rules.{rules}
 use Rattle.pool_check.proofs.node_ok.Statement.{statement}
@@ -31,10 +31,10 @@ module _ (c : tie.After-kind-of) where
   abbrev kind : ℕ
   kind = c.kind-of.result
 
-  other : {r : Bool} → (kind ≡ 1 → ⊥) → r ≡ okAs (kind_at kind) ws n → r ≡ (okNode ws n && plainAt ws plain n)
+  other : {r : Bool} → (kind ≡ 1 → ⊥) → r ≡ ok_as (kind_at kind) ws n → r ≡ (ok_node ws n && plain_at ws plain n)
   other f h = no-var ws plain n c.kind-of.ensures f (by_number ws n c.kind-of.ensures h)
 
-  named : {k : ℕ} {r : Bool} → kind ≡ k → (k ≡ 1 → ⊥) → r ≡ okAs (kind_at k) ws n → r ≡ (okNode ws n && plainAt ws plain n)
+  named : {k : ℕ} {r : Bool} → kind ≡ k → (k ≡ 1 → ⊥) → r ≡ ok_as (kind_at k) ws n → r ≡ (ok_node ws n && plain_at ws plain n)
   named e f h = no-var ws plain n c.kind-of.ensures (λ q. f (sym e ∙ q)) (by_number ws n (sym e ∙ c.kind-of.ensures) h)
 
 -- ---- the kind, past the tests

@@ -1,4 +1,4 @@
--- `of_width` meets its contract: both its tests are those of `ofWidth`.
+-- `of_width` meets its contract: both its tests are those of `of_width`.
 use borrow.Author.Tests.{lt-ltb, le-ltb}
 use borrow.Author.Rules.{rules}
 use Rattle.pool_check.proofs.of_width.Statement.{statement}

@@ -1,8 +1,8 @@
--- pool_check is poolOk: below its count every node may be a Var
+-- pool_check is pool_ok: below its count every node may be a Var
 use native.Mathlib.Omega.{arith}
 use mathlib.Core.Path.{◌∙◌}
 use mathlib.Core.Bool.{and-true}
-use Rattle.pool.specs.Rules.{poolOk}
+use Rattle.pool.specs.Rules.{pool_ok}
 use Rattle.pool_check.proofs.Nodes.{plain-below}
 use borrow.Author.Rules.{rules}
 use Rattle.pool_check.proofs.pool_check.Statement.{statement}
@@ -14,7 +14,7 @@ check-plain-requires c κs = search rules
 returns : tie.Need-returns
 returns c =
     let a = c.before.before.args in
-    c.check-plain.ensures ∙ rw (plain-below a.pool.now a.count a.count (omega arith)) (and-true (poolOk a.pool.now a.count))
+    c.check-plain.ensures ∙ rw (plain-below a.pool.now a.count a.count (omega arith)) (and-true (pool_ok a.pool.now a.count))
 
 pub pool-check-spec : {M : Type 1} → statement M
 pool-check-spec = tie.close (tie.spec check-plain-requires returns)

@@ -4,7 +4,7 @@ use mathlib.Core.Path.{◌≡◌}
 use Prim.Native.Nat.{ℕ}
 use native.Mathlib.Omega.{arith}
 use Rattle.pool_fields.specs.Fields.{op_a}
-use Rattle.pool_rules.proofs.At.{Own, Alone, wA, alone, width-before, set_before, extract-at, extract-late, reversed, too-high}
+use Rattle.pool_rules.proofs.At.{Own, Alone, w_a, alone, width-before, set_before, extract-at, extract-late, reversed, too-high}
 use borrow.Author.Rules.{rules}
 use Rattle.pool_rules.proofs.extract_ok.Statement.{statement}
 use Rattle.pool_rules.proofs.extract_ok.Tie as tie
@@ -39,7 +39,7 @@ module _ (c : tie.After-width-of) where
   abbrev one : tie.Else1
   one = c.before.before.before.before
 
-  wide : c.width_of_lem.result ≡ wA (ws (word one)) (n (word one))
+  wide : c.width_of_lem.result ≡ w_a (ws (word one)) (n (word one))
   wide = width-before (ws (word one)) (n (word one)) (operand-is one) one.if1.left c.width_of_lem.ensures.0
 
 cut-hi-requires : tie.Need-cut-hi-requires

@@ -14,7 +14,7 @@ abbrev entry : tie.After-first → tie.Start
 entry c = c.before.before
 
 is-pair : (st : tie.Start) → IsPair st.args.kind
-is-pair st = let h = st.requires.1 in record { from = h.0; below = h.1; no-ite = h.2; no-extract = h.3 }
+is-pair st = let h = st.requires.1 in record { from = h.0; below = h.1; no-ite = h.2; no_extract = h.3 }
 
 first-requires : tie.Need-first-requires
 first-requires c κs = search rules

@@ -1,4 +1,4 @@
--- width_over is widthOver
+-- width_over is width_over
 use borrow.Author.Tests.{eq-eqb, ne_eqb, lt-ltb, le-ltb}
 use borrow.Author.Rules.{rules}
 use Rattle.pool_rules.proofs.width_over.Statement.{statement}

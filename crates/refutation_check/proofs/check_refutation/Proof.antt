@@ -6,8 +6,8 @@ use native.Mathlib.Omega.{arith}
 use lib.ListN.{length, take}
 use lib.Seq.{length-take-le}
 use borrow.Author.Tests.{not-true, not-false}
-use Rattle.gates.specs.Graph.{graphOk}
-use Rattle.gates.specs.Grow.{literalOf}
+use Rattle.gates.specs.Graph.{graph_ok}
+use Rattle.gates.specs.Grow.{literal_of}
 use Rattle.refutation_check.proofs.Answers.{count_fits, bad-graph, bad-literal, short-marks, short-starts, accepted, refused}
 use borrow.Author.Rules.{rules}
 use Rattle.refutation_check.proofs.check_refutation.Statement.{statement}
@@ -16,7 +16,7 @@ use Rattle.refutation_check.proofs.check_refutation.Tie as tie
 abbrev entry : tie.After-graph-check → tie.Start
 entry c = c.before.before.before.before.before
 
-good : (c : tie.Else1) → let a = (entry c.before).args in graphOk a.graph.now a.count ≡ true
+good : (c : tie.Else1) → let a = (entry c.before).args in graph_ok a.graph.now a.count ≡ true
 good c = sym c.before.graph-check.ensures ∙ not-false _ c.if1.false
 
 fits : (c : tie.Else1) → let a = (entry c.before).args in a.count ≤ length a.graph.now
@@ -30,8 +30,8 @@ abbrev called : tie.After-refused-step → tie.Else4
 called c = c.before.before.before
 
 -- the marks that are lent on, one for each literal
-prefix : (c : tie.Else4) → let a = (entry (passed c).before).args in length (take (literalOf a.count) a.marks.now) ≡ literalOf a.count
-prefix c = let a = (entry (passed c).before).args in length-take-le (literalOf a.count) a.marks.now c.before.if3.false
+prefix : (c : tie.Else4) → let a = (entry (passed c).before).args in length (take (literal_of a.count) a.marks.now) ≡ literal_of a.count
+prefix c = let a = (entry (passed c).before).args in length-take-le (literal_of a.count) a.marks.now c.before.if3.false
 
 graph-check-requires : tie.Need-graph-check-requires
 graph-check-requires c κs = search rules

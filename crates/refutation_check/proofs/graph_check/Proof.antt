@@ -3,14 +3,14 @@ use mathlib.Core.Path.{◌≡◌, sym}
 use mathlib.Core.Bool.{true}
 use Prim.Native.Nat.{◌-◌, ◌≤◌}
 use native.Mathlib.Omega.{arith}
-use Rattle.gates.specs.Graph.{gatesOk}
+use Rattle.gates.specs.Graph.{gates_ok}
 use Rattle.refutation_check.proofs.Graph.{no-gates, gates-more, left-bad, right-bad, graph-short, graph-good}
 use borrow.Author.Rules.{rules}
 use Rattle.refutation_check.proofs.graph_check.Statement.{statement}
 use Rattle.refutation_check.proofs.graph_check.Tie as tie
 
 abbrev invariant-loop : tie.invariant-loop
-invariant-loop graph count n₀ n = (n ≤ count) × (gatesOk graph n ≡ true)
+invariant-loop graph count n₀ n = (n ≤ count) × (gates_ok graph n ≡ true)
 
 abbrev decreases-loop : tie.decreases-loop
 decreases-loop graph count n₀ n = count - n

@@ -5,8 +5,8 @@ use mathlib.Core.List.{List}
 use Prim.Native.Nat.{ℕ, ◌+◌, ◌-◌, ◌≤◌, ◌<◌}
 use native.Mathlib.Omega.{arith}
 use lib.ListN.{length, get_or, drop, length-set}
-use Rattle.refutation.specs.Refutation.{stepOk}
-use Rattle.refutation_hints.specs.Memory.{skipped, afterStep, clausesTo}
+use Rattle.refutation.specs.Refutation.{step_ok}
+use Rattle.refutation_hints.specs.Memory.{skipped, after_step, clauses_to}
 use Rattle.refutation_check.proofs.Parts.{skip-none, skip-some}
 use Rattle.refutation_check.proofs.Going.{Going, going-first, going-refused, step-ends, place-left, going_done, going_on}
 use borrow.Author.Rules.{rules}
@@ -25,34 +25,34 @@ entry c = c.before.before.before.before.before.before.before.before.before
 abbrev turn : tie.After-step invariant-loop decreases-loop → tie.At-loop invariant-loop decreases-loop
 turn c = c.before.before.before
 
-abbrev okAt : tie.At-loop invariant-loop decreases-loop → Bool
-okAt c =
+abbrev ok_at : tie.At-loop invariant-loop decreases-loop → Bool
+ok_at c =
     let a = (entry c).args in
-    let l = c.loop in stepOk a.graph.now a.count (clausesTo a.words.now l.starts a.l l.k) (drop l.at a.words.now)
+    let l = c.loop in step_ok a.graph.now a.count (clauses_to a.words.now l.starts a.l l.k) (drop l.at a.words.now)
 
-abbrev marksNow : tie.After-step invariant-loop decreases-loop → List ℕ
-marksNow c = c.step.new.1.1.1.1.1.1.1.0
+abbrev marks_now : tie.After-step invariant-loop decreases-loop → List ℕ
+marks_now c = c.step.new.1.1.1.1.1.1.1.0
 
 -- the step is accepted, and the next one's place
 accepted :
     (c : tie.Else1 invariant-loop decreases-loop)
     → let s = c.before.before.before in let t = turn s in
-    (okAt t ≡ true) × (s.step.result ≡ afterStep (entry t).args.words.now t.loop.at)
+    (ok_at t ≡ true) × (s.step.result ≡ after_step (entry t).args.words.now t.loop.at)
 accepted c =
     let s = c.before.before.before in
     let t = turn s in
     let ws = (entry t).args.words.now in
-    let h = skipped ws t.loop.at in skip-some (okAt t) (h + get_or ws h 0) s.step.result s.step.ensures.0 c.if1.false
+    let h = skipped ws t.loop.at in skip-some (ok_at t) (h + get_or ws h 0) s.step.result s.step.ensures.0 c.if1.false
 
 long :
-    (c : tie.After-step invariant-loop decreases-loop) → length (marksNow c) ≡ length (entry (turn c)).args.marks.now
+    (c : tie.After-step invariant-loop decreases-loop) → length (marks_now c) ≡ length (entry (turn c)).args.marks.now
 long c = c.step.auto.1.1.1.1.1.1.1.0 ∙ (turn c).loop.invariant.0.ready.room ∙ sym (entry (turn c)).pre.2
 
 -- the step's place is in the words, and it has a place of its own
 within :
     (c : tie.Else1 invariant-loop decreases-loop)
     → let t = turn c.before.before.before in let ws = (entry t).args.words.now in let l = t.loop in
-    (l.at < afterStep ws l.at) × (afterStep ws l.at ≤ length ws) × (l.k < length l.starts)
+    (l.at < after_step ws l.at) × (after_step ws l.at ≤ length ws) × (l.k < length l.starts)
     × (length l.starts ≡ length (entry t).args.starts.now)
 within c =
     let l = (turn c.before.before.before).loop in
@@ -87,7 +87,7 @@ returns c =
     let t = turn s in
     let ws = (entry t).args.words.now in
     let h = skipped ws t.loop.at in
-    going-refused t.loop.inv.0 (skip-none (okAt t) (h + get_or ws h 0) s.step.result s.step.ensures.0 c.if1.true)
+    going-refused t.loop.inv.0 (skip-none (ok_at t) (h + get_or ws h 0) s.step.result s.step.ensures.0 c.if1.true)
 
 mul-if2 : tie.Need-overflow-mul-if2 invariant-loop decreases-loop
 mul-if2 c = let s = entry (turn c.before.before.before) in omega (arith, within c, s.good)
@@ -126,7 +126,7 @@ loop-again c =
     let t = turn s in
     let l = t.loop in
     let p = accepted z in (
-      rw p.1 (going_on l.inv.0 p.0 (marksNow s) c.if2.false s.step.auto.1.1.1.1.1.1.1.0 s.step.ensures.1),
+      rw p.1 (going_on l.inv.0 p.0 (marks_now s) c.if2.false s.step.auto.1.1.1.1.1.1.1.0 s.step.ensures.1),
       length-set l.starts l.k l.at ∙ l.inv.1,
     )
 

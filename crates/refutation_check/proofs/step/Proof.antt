@@ -8,9 +8,9 @@ use lib.ListN.{length, get_or, drop, length-set}
 use lib.Seq.{slice}
 use borrow.Author.Tests.{not-true, not-false}
 use Rattle.refutation.specs.Refutation as refutation
-use Rattle.gates.specs.Grow.{literalOf}
-use Rattle.refutation.specs.Refutation.{whole, andFalse, all_below, stepOk}
-use Rattle.refutation_hints.specs.Memory.{skipped, clausesTo}
+use Rattle.gates.specs.Grow.{literal_of}
+use Rattle.refutation.specs.Refutation.{whole, and_false, all_below, step_ok}
+use Rattle.refutation_hints.specs.Memory.{skipped, clauses_to}
 use Rattle.refutation_hints.proofs.Lists.{whole-fits}
 use Rattle.refutation_hints.proofs.Marks.{marked_more, at-most-set, ready-again}
 use Rattle.refutation_check.proofs.Parts.{skip-none, skip-some, not_low, low, no-clause, no-hints, marked-clause}
@@ -24,8 +24,8 @@ entry c = c.before.before.before.before.before
 abbrev words_in : tie.Start → List ℕ
 words_in s = s.args.words.now
 
-abbrev stepsIn : tie.Start → List (List ℕ)
-stepsIn s = let a = s.args in clausesTo a.words.now a.starts.now a.l a.k
+abbrev steps_in : tie.Start → List (List ℕ)
+steps_in s = let a = s.args in clauses_to a.words.now a.starts.now a.l a.k
 
 -- the clause is there, and the hints after it
 clause-there :
@@ -64,19 +64,19 @@ ends c =
 abbrev both : tie.Else3 → tie.Else2
 both c = c.before.before.before.before.before
 
-abbrev marksNow : tie.Else3 → List ℕ
-marksNow c = c.before.before.before.set-false.new.1.1.1.1.0
+abbrev marks_now : tie.Else3 → List ℕ
+marks_now c = c.before.before.before.set-false.new.1.1.1.1.0
 
-same-marks : (c : tie.Else3) → length (marksNow c) ≡ length (entry (both c).before.before.before).args.marks.now
+same-marks : (c : tie.Else3) → length (marks_now c) ≡ length (entry (both c).before.before.before).args.marks.now
 same-marks c = c.before.before.before.set-false.auto.1.1.1.1.0
 
-some-mark : (c : tie.Else3) → 0 < length (marksNow c)
+some-mark : (c : tie.Else3) → 0 < length (marks_now c)
 some-mark c = omega (arith, same-marks c, (entry (both c).before.before.before).requires.0.room)
 
 all-below :
     (c : tie.Else3)
     → let h = (both c).before.before.before in let s = entry h in
-    all_below (literalOf s.args.count) (slice (s.args.at + 1) h.skip.result (words_in s)) ≡ true
+    all_below (literal_of s.args.count) (slice (s.args.at + 1) h.skip.result (words_in s)) ≡ true
 all-below c = sym c.before.before.before.set-false.ensures.answer ∙ not-false _ c.if3.false
 
 abbrev passed : tie.Else4 → tie.Else3
@@ -89,7 +89,7 @@ tried c = c.before.before.before.before.before
 step_is :
     (c : tie.After-conflict)
     → let z = c.before.before in let s = entry (both z).before.before.before in
-    c.conflict.result ≡ stepOk s.args.graph.now s.args.count (stepsIn s) (drop s.args.at (words_in s))
+    c.conflict.result ≡ step_ok s.args.graph.now s.args.count (steps_in s) (drop s.args.at (words_in s))
 step_is c =
     let z = c.before.before in
     let b = both z in
@@ -102,19 +102,19 @@ step_is c =
     let clause = slice (a.at + 1) at ws in
     let f = clause-there b.before.before in
     let t = hints-there b in
-    let m = z.before.before.before.set-false.ensures.marks-are (not-false _ z.if3.false) in
+    let m = z.before.before.before.set-false.ensures.marks_are (not-false _ z.if3.false) in
     c.conflict.ensures.0
-    ∙ ap (λ (x : ℕ → Bool). refutation.conflict a.graph.now a.count (stepsIn s) x (slice (at + 1) end ws))
-    (marked_more (marksNow z) 0 a.k (some-mark z)
-    ∙ ap (λ (x : ℕ → Bool). andFalse x 0) (marked-clause a.marks.now (marksNow z) a.k clause s.pre.1 m))
-    ∙ sym (low a.graph.now a.count (stepsIn s) ws a.at at end f.1 t.1 f.0 t.0 (all-below z))
+    ∙ ap (λ (x : ℕ → Bool). refutation.conflict a.graph.now a.count (steps_in s) x (slice (at + 1) end ws))
+    (marked_more (marks_now z) 0 a.k (some-mark z)
+    ∙ ap (λ (x : ℕ → Bool). and_false x 0) (marked-clause a.marks.now (marks_now z) a.k clause s.pre.1 m))
+    ∙ sym (low a.graph.now a.count (steps_in s) ws a.at at end f.1 t.1 f.0 t.0 (all-below z))
 
 after-conflict :
     (c : tie.After-conflict)
     → length c.conflict.new.1.1.1.1.1.1.1.1.0 ≡ length (entry (both c.before.before).before.before.before).args.marks.now
 after-conflict c =
     let z = c.before.before in
-    c.conflict.auto.1.1.1.1.1.1.1.1.0 ∙ length-set (marksNow z) 0 (entry (both z).before.before.before).args.k ∙ same-marks z
+    c.conflict.auto.1.1.1.1.1.1.1.1.0 ∙ length-set (marks_now z) 0 (entry (both z).before.before.before).args.k ∙ same-marks z
 
 skip-requires : tie.Need-skip-requires
 skip-requires c κs = search rules
@@ -126,7 +126,7 @@ returns c =
     let a = s.args in
     let ws = words_in s in
     let no = skip-none (whole (drop a.at ws)) (a.at + get_or ws a.at 0) h.skip.result h.skip.ensures c.if1.true in
-    (rw (no-clause a.graph.now a.count (stepsIn s) ws a.at no) refl, λ x. omega (arith, s.pre.1 x))
+    (rw (no-clause a.graph.now a.count (steps_in s) ws a.at no) refl, λ x. omega (arith, s.pre.1 x))
 
 skip-requires-2 : tie.Need-skip-requires-2
 skip-requires-2 c κs = search rules
@@ -141,7 +141,7 @@ returns-2 c =
     let at = h.skip.result in
     let f = clause-there e in
     let no = skip-none (whole (drop at ws)) (at + get_or ws at 0) c.before.skip2.result c.before.skip2.ensures c.if2.true in
-    (rw (no-hints a.graph.now a.count (stepsIn s) ws a.at at f.1 f.0 no) refl, λ x. omega (arith, s.pre.1 x))
+    (rw (no-hints a.graph.now a.count (steps_in s) ws a.at at f.1 f.0 no) refl, λ x. omega (arith, s.pre.1 x))
 
 add-set-false : tie.Need-overflow-add-set-false
 add-set-false c = omega (arith, ends c)
@@ -171,7 +171,7 @@ returns-3 c =
     let p = clause-there b.before.before in
     let t = hints-there b in
     let no = sym f.set-false.ensures.answer ∙ not-true _ c.if3.true in (
-      rw (not_low a.graph.now a.count (stepsIn s) (words_in s) a.at h.skip.result b.before.skip2.result p.1 t.1 p.0 t.0 no) refl,
+      rw (not_low a.graph.now a.count (steps_in s) (words_in s) a.at h.skip.result b.before.skip2.result p.1 t.1 p.0 t.0 no) refl,
       f.set-false.ensures.at_most,
     )
 
@@ -188,10 +188,10 @@ conflict-requires c κs =
     let s = entry b.before.before.before in
     let e = ends b in
     let f = z.before.before.before in (
-      ready-again s.pre.0 (length-set (marksNow z) 0 s.args.k ∙ same-marks z),
+      ready-again s.pre.0 (length-set (marks_now z) 0 s.args.k ∙ same-marks z),
       e.1,
       e.2,
-      at-most-set (marksNow z) 0 s.args.k (some-mark z) f.set-false.ensures.at_most,
+      at-most-set (marks_now z) 0 s.args.k (some-mark z) f.set-false.ensures.at_most,
     )
 
 same-length-2 : tie.Need-same-length-2

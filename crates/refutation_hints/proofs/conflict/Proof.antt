@@ -10,9 +10,9 @@ use lib.Seq.{slice}
 use borrow.Author.Tests.{eq-eqb, ne_eqb}
 use Rattle.gates.specs.Graph.{inputs}
 use Rattle.refutation.specs.Refutation as refutation
-use Rattle.gates.specs.Grow.{negated, literalOf}
-use Rattle.refutation.specs.Refutation.{cited, andFalse}
-use Rattle.refutation_hints.specs.Memory.{marked, AtMost, clausesTo, Ready}
+use Rattle.gates.specs.Grow.{negated, literal_of}
+use Rattle.refutation.specs.Refutation.{cited, and_false}
+use Rattle.refutation_hints.specs.Memory.{marked, AtMost, clauses_to, Ready}
 use Rattle.refutation_hints.proofs.Lists.{negated-low}
 use Rattle.refutation_hints.proofs.Steps.{cited-low}
 use Rattle.refutation_hints.proofs.Marks.{marked_more, at-most-set, ready-again, conflict-one, conflict-end}
@@ -23,8 +23,8 @@ use Rattle.refutation_hints.proofs.conflict.Tie as tie
 abbrev invariant-loop : tie.invariant-loop
 invariant-loop graph count l words starts k from to marks₀ i₀ marks i =
     (i ≤ to) × (length marks ≡ length marks₀) × AtMost k marks
-    × (refutation.conflict graph count (clausesTo words starts l k) (marked marks k) (slice i to words)
-    ≡ refutation.conflict graph count (clausesTo words starts l k) (marked marks₀ k) (slice from to words))
+    × (refutation.conflict graph count (clauses_to words starts l k) (marked marks k) (slice i to words)
+    ≡ refutation.conflict graph count (clauses_to words starts l k) (marked marks₀ k) (slice from to words))
 
 abbrev decreases-loop : tie.decreases-loop
 decreases-loop graph count l words starts k from to marks₀ i₀ marks i = to - i
@@ -35,8 +35,8 @@ entry c = c.before.before.before.before.before
 abbrev turn : tie.After-left-of-hint invariant-loop decreases-loop → tie.In-loop invariant-loop decreases-loop
 turn c = c.before.before.before.before
 
-abbrev stepsIn : tie.Start invariant-loop decreases-loop → List (List ℕ)
-stepsIn s = let a = s.args in clausesTo a.words.now a.starts.now a.l a.k
+abbrev steps_in : tie.Start invariant-loop decreases-loop → List (List ℕ)
+steps_in s = let a = s.args in clauses_to a.words.now a.starts.now a.l a.k
 
 ready :
     (c : tie.At-loop invariant-loop decreases-loop)
@@ -47,19 +47,19 @@ ready c = ready-again (entry c).requires.0 c.loop.invariant.1
 left_is :
     (c : tie.After-left-of-hint invariant-loop decreases-loop)
     → let l = (turn c).before.loop in let s = entry (turn c).before in let a = s.args in
-    c.left-of-hint.result ≡ cited a.graph.now a.count (stepsIn s) (marked l.marks a.k) (get_or a.words.now l.i 0)
+    c.left-of-hint.result ≡ cited a.graph.now a.count (steps_in s) (marked l.marks a.k) (get_or a.words.now l.i 0)
 left_is c =
     let l = (turn c).before.loop in
     let s = entry (turn c).before in
     let a = s.args in
-    c.left-of-hint.ensures ∙ ap (cited a.graph.now a.count (stepsIn s) (marked l.marks a.k)) c.before.wide.ensures.0
+    c.left-of-hint.ensures ∙ ap (cited a.graph.now a.count (steps_in s) (marked l.marks a.k)) c.before.wide.ensures.0
 
 -- it is nothing, too much, or a literal of the graph
-left-low : (c : tie.After-left-of-hint invariant-loop decreases-loop) → c.left-of-hint.result < literalOf (entry (turn c).before).args.count + 2
+left-low : (c : tie.After-left-of-hint invariant-loop decreases-loop) → c.left-of-hint.result < literal_of (entry (turn c).before).args.count + 2
 left-low c =
     let l = (turn c).before.loop in
     let a = (entry (turn c).before).args in
-    subst (λ (n : ℕ). n < literalOf a.count + 2) (sym (left_is c))
+    subst (λ (n : ℕ). n < literal_of a.count + 2) (sym (left_is c))
     (cited-low (ready (turn c).before) (marked l.marks a.k) (get_or a.words.now l.i 0))
 
 two : (c : tie.Else2 invariant-loop decreases-loop) → 2 ≤ c.before.before.left-of-hint.result
@@ -83,15 +83,15 @@ from-here :
     let m = marked l.marks a.k in
     cond (eqb left 0) true
     (cond (eqb left 1) false
-    (refutation.conflict a.graph.now a.count (stepsIn s) (andFalse m (negated (left - 2))) (slice (l.i + 1) a.to a.words.now)))
-    ≡ refutation.conflict a.graph.now a.count (stepsIn s) (marked a.marks.now a.k) (slice a.from a.to a.words.now)
+    (refutation.conflict a.graph.now a.count (steps_in s) (and_false m (negated (left - 2))) (slice (l.i + 1) a.to a.words.now)))
+    ≡ refutation.conflict a.graph.now a.count (steps_in s) (marked a.marks.now a.k) (slice a.from a.to a.words.now)
 from-here c =
     let t = turn c in
     let l = t.before.loop in
     let s = entry t.before in
     let a = s.args in
     let m = marked l.marks a.k in
-    sym (conflict-one a.graph.now a.count (stepsIn s) m a.words.now l.i a.to c.left-of-hint.result t.loop-test.taken s.pre.2
+    sym (conflict-one a.graph.now a.count (steps_in s) m a.words.now l.i a.to c.left-of-hint.result t.loop-test.taken s.pre.2
     (left_is c))
     ∙ l.inv.3
 
@@ -171,7 +171,7 @@ returns-3 c =
     let s = entry c.before in
     let a = s.args in
     let e : l.i ≡ a.to = omega arith in
-    (sym (sym l.invariant.3 ∙ conflict-end a.graph.now a.count (stepsIn s) (marked l.marks a.k) a.words.now l.i a.to e), l.invariant.2)
+    (sym (sym l.invariant.3 ∙ conflict-end a.graph.now a.count (steps_in s) (marked l.marks a.k) a.words.now l.i a.to e), l.invariant.2)
 
 pub conflict-spec : {M : Type 1} → statement M
 conflict-spec =

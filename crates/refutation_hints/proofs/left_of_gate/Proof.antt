@@ -4,8 +4,8 @@ use Prim.Native.Nat.{◌+◌}
 use native.Mathlib.Omega.{arith}
 use lib.ListN.{length, get_or}
 use borrow.Author.Tests.{eq-eqb, ne_eqb}
-use Rattle.gates.specs.Graph.{inputs, left_of, rightOf}
-use Rattle.gates.specs.Grow.{negated, literalOf}
+use Rattle.gates.specs.Graph.{inputs, left_of, right_of}
+use Rattle.gates.specs.Grow.{negated, literal_of}
 use Rattle.refutation_hints.proofs.Lists.{negated-low}
 use borrow.Author.Rules.{rules}
 use Rattle.refutation_hints.proofs.left_of_gate.Statement.{statement}
@@ -35,7 +35,7 @@ left-of-two-requires c κs = search rules
 returns : tie.Need-returns
 returns c =
     let a = c.before.before.before.before.before.before.args in
-    let odd : negated (literalOf a.n) ≡ literalOf a.n + 1 = omega arith in
+    let odd : negated (literal_of a.n) ≡ literal_of a.n + 1 = omega arith in
     c.left-of-two.ensures ∙ rw (eq-eqb _ _ c.before.before.if1.true, odd, c.before.left-of.ensures) refl
 
 add-left-of-two-2 : tie.Need-overflow-add-left-of-two-2
@@ -50,7 +50,7 @@ left-of-two-requires-2 c κs = search rules
 returns-2 : tie.Need-returns-2
 returns-2 c =
     let a = c.before.before.before.before.before.before.before.args in
-    let odd : negated (literalOf a.n) ≡ literalOf a.n + 1 = omega arith in
+    let odd : negated (literal_of a.n) ≡ literal_of a.n + 1 = omega arith in
     c.left-of-two2.ensures
     ∙ rw (ne_eqb _ _ c.before.before.before.if1.false, eq-eqb _ _ c.before.before.if2.true, odd, c.before.right_of.ensures) refl
 
@@ -78,7 +78,7 @@ left-of-three-requires c κs =
     let room = s.requires.0.1 in (
       omega (arith, room),
       rw (o.negate.ensures, l.left-of2.ensures) (negated-low (left_of w) n m s.requires.1.0 (omega (arith, room))),
-      rw (c.negate2.ensures, r.right-of2.ensures) (negated-low (rightOf w) n m s.requires.1.1 (omega (arith, room))),
+      rw (c.negate2.ensures, r.right-of2.ensures) (negated-low (right_of w) n m s.requires.1.1 (omega (arith, room))),
     )
 
 returns-3 : tie.Need-returns-3

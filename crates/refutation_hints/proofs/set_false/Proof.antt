@@ -54,7 +54,7 @@ returns c =
     let far : ltb (get_or ws l.i 0) a.limit ≡ false = le-ltb (get_or ws l.i 0) a.limit (omega (arith, c.before.wide.ensures.0, c.if1.true)) in
     record {
       answer = sym (sym l.inv.3 ∙ below_one a.limit ws l.i a.to t.loop-test.taken s.pre.1 ∙ rw far refl);
-      marks-are = λ e. absurd (false≢true e);
+      marks_are = λ e. absurd (false≢true e);
       at_most = l.inv.2;
     }
 
@@ -108,7 +108,7 @@ returns-2 c =
     let e : l.i ≡ a.to = omega arith in
     record {
       answer = sym (sym l.invariant.3 ∙ below_end a.limit ws l.i a.to e);
-      marks-are = λ _ x. rw (among-end ws l.i a.to x e) at (l.invariant.4 x);
+      marks_are = λ _ x. rw (among-end ws l.i a.to x e) at (l.invariant.4 x);
       at_most = l.invariant.2;
     }
 

@@ -1,4 +1,4 @@
--- `halve` gives `readBits`: the number, or its low 64 bits.
+-- `halve` gives `read_bits`: the number, or its low 64 bits.
 use native.Mathlib.Omega.{arith}
 use Rattle.run_block.proofs.Running.{low_half}
 use Rattle.run_block.proofs.halve.Statement.{statement}

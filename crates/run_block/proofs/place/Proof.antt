@@ -11,11 +11,11 @@ returns c =
     rw c.if1.true (record {
       bits_are = above-is s.args.x.low s.args.x.high s.args.d.low s.args.d.high (omega arith)
           (s.requires c.if1.true);
-      saturated-is = refl;
+      saturated_is = refl;
     })
 
 returns-2 : tie.Need-returns-2
-returns-2 c = rw c.if1.false (record { bits_are = refl; saturated-is = refl })
+returns-2 c = rw c.if1.false (record { bits_are = refl; saturated_is = refl })
 
 pub place-spec : {M : Type 1} → statement M
 place-spec = tie.close (tie.spec returns returns-2)

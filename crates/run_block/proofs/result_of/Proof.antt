@@ -1,6 +1,6 @@
--- `result_of` makes `armResult` and `saturates` (`ResultOf`): it runs the lanes of the shape on sources read as the form reads them.
+-- `result_of` makes `arm_result` and `saturates` (`ResultOf`): it runs the lanes of the shape on sources read as the form reads them.
 use Rattle.facts.proofs.Tests.{and_both}
-use Rattle.neon.specs.Op.{opAt, arrangementAt}
+use Rattle.neon.specs.Op.{op_at, arrangement_at}
 use Rattle.run_block.proofs.Rows.{row, n-le, asked, narrow-lt, result-is}
 use borrow.Author.Rules.{rules}
 use Rattle.run_block.proofs.result_of.Statement.{statement}
@@ -47,8 +47,8 @@ source-by-requires : tie.Need-source-by-requires
 source-by-requires c κs =
     let at-layout-of = c.before.before.before.before.before.before in
     let s = entry at-layout-of in
-    n-le (opAt s.args.operation) (arrangementAt s.args.arrangement) s.args.i
-    (row (opAt s.args.operation) (arrangementAt s.args.arrangement) s.args.i s.pre.row s.pre.low s.pre.high) s.pre.high _
+    n-le (op_at s.args.operation) (arrangement_at s.args.arrangement) s.args.i
+    (row (op_at s.args.operation) (arrangement_at s.args.arrangement) s.args.i s.pre.row s.pre.low s.pre.high) s.pre.high _
     (shaped at-layout-of).shape.ensures
 
 skip-by-requires : tie.Need-skip-by-requires
@@ -58,8 +58,8 @@ run-lanes-requires : tie.Need-run-lanes-requires
 run-lanes-requires c κs =
     let l = laid c.before in
     let s = entry l in
-    asked (opAt s.args.operation) (arrangementAt s.args.arrangement) s.args.i
-    (row (opAt s.args.operation) (arrangementAt s.args.arrangement) s.args.i s.pre.row s.pre.low s.pre.high) s.pre.high _
+    asked (op_at s.args.operation) (arrangement_at s.args.arrangement) s.args.i
+    (row (op_at s.args.operation) (arrangement_at s.args.arrangement) s.args.i s.pre.row s.pre.low s.pre.high) s.pre.high _
     (shaped l).shape.ensures _ l.layout_of.ensures _ _ c.before.source-by.ensures c.skip_by.ensures
 
 place-requires : tie.Need-place-requires
@@ -68,8 +68,8 @@ place-requires c κs =
     let source = at-skip-by.before in
     let m = laid source in
     let s = entry m in
-    λ e. narrow-lt (opAt s.args.operation) (arrangementAt s.args.arrangement) s.args.i
-    (row (opAt s.args.operation) (arrangementAt s.args.arrangement) s.args.i s.pre.row s.pre.low s.pre.high) s.pre.high _
+    λ e. narrow-lt (op_at s.args.operation) (arrangement_at s.args.arrangement) s.args.i
+    (row (op_at s.args.operation) (arrangement_at s.args.arrangement) s.args.i s.pre.row s.pre.low s.pre.high) s.pre.high _
     (shaped m).shape.ensures _ m.layout_of.ensures _ _ source.source-by.ensures at-skip-by.skip_by.ensures _ _ _ _
     c.before.run-lanes.ensures (and_both _ _ e).0
 
@@ -85,8 +85,8 @@ returns c =
     let at-halve3 = at-first-by.before in
     let at-is-full = at-halve3.before in
     let s = entry at-is-full.before in
-    result-is (opAt s.args.operation) (arrangementAt s.args.arrangement) s.args.i
-    (row (opAt s.args.operation) (arrangementAt s.args.arrangement) s.args.i s.pre.row s.pre.low s.pre.high) s.pre.high _
+    result-is (op_at s.args.operation) (arrangement_at s.args.arrangement) s.args.i
+    (row (op_at s.args.operation) (arrangement_at s.args.arrangement) s.args.i s.pre.row s.pre.low s.pre.high) s.pre.high _
     (shaped at-is-full.before).shape.ensures _ at-is-full.before.layout_of.ensures _ _ at-source-by.source-by.ensures at-skip-by.skip_by.ensures _
     at-is-full.is-full.ensures _ _ at-first-by.first_by.ensures at-second-by.second-by.ensures _ _ _ _ _ _ at-halve3.halve.ensures
     at-halve2.halve2.ensures at-halve.halve3.ensures _ _ at-run-lanes.run-lanes.ensures c.place.ensures

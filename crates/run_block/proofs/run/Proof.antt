@@ -1,7 +1,7 @@
 -- `run` meets both its contracts: 8 first, then the first bad record, else the Arm run and whether a lane saturated.
 use native.Mathlib.Omega.{arith}
 use mathlib.Core.Path.{sym, ◌∙◌}
-use Rattle.block_check.specs.Records.{recordsOf}
+use Rattle.block_check.specs.Records.{records_of}
 use Rattle.block_check.proofs.Refusals.{all-legal}
 use Rattle.run_block.proofs.Runs.{too_many, refused, answered}
 use borrow.Author.Rules.{rules}
@@ -25,7 +25,7 @@ returns-2 c =
 run-records-requires : tie.Need-run-records-requires
 run-records-requires c κs =
     let s = c.before.before.before.before in
-    all-legal 0 (recordsOf s.args.records.now) (sym c.before.records-refusal.ensures.0 ∙ omega (arith, c.if2.false))
+    all-legal 0 (records_of s.args.records.now) (sym c.before.records-refusal.ensures.0 ∙ omega (arith, c.if2.false))
 
 returns-3 : tie.Need-returns-3
 returns-3 c =

@@ -3,7 +3,7 @@ use native.Mathlib.Omega.{arith}
 use mathlib.Core.Path.{◌≡◌, refl}
 use Prim.Native.Nat.{◌-◌, ◌/◌, ◌≤◌, ◌<◌}
 use lib.ListN.{length}
-use Rattle.block_check.specs.Records.{recordsFrom}
+use Rattle.block_check.specs.Records.{records_from}
 use Rattle.block_check.proofs.Refusals.{legal-here}
 use Rattle.run_block.specs.Run.{RanBy}
 use Rattle.run_block.proofs.Runs.{ran-start, ran-next, ran-all}
@@ -11,7 +11,7 @@ use Rattle.run_block.proofs.run_records.Statement.{statement}
 use Rattle.run_block.proofs.run_records.Tie as tie
 
 abbrev invariant-loop : tie.invariant-loop
-invariant-loop records count regs₀ saturated₀ j₀ regs saturated j = (count ≡ length records / 6) × (j ≤ count) × RanBy (recordsFrom records 0 j) regs₀.words regs.words saturated
+invariant-loop records count regs₀ saturated₀ j₀ regs saturated j = (count ≡ length records / 6) × (j ≤ count) × RanBy (records_from records 0 j) regs₀.words regs.words saturated
 
 abbrev decreases-loop : tie.decreases-loop
 decreases-loop records count regs₀ saturated₀ j₀ regs saturated j = count - j

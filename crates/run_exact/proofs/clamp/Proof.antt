@@ -1,4 +1,4 @@
--- `clamp` answers `clampZ low high` of the integer in n bits, and whether it was outside.
+-- `clamp` answers `clamp_z low high` of the integer in n bits, and whether it was outside.
 use mathlib.Core.Path.{sym, ◌∙◌}
 use Rattle.run_exact.proofs.Laws.{less-is, clamp-low, clamp-high, clamp-none}
 use borrow.Author.Rules.{rules}

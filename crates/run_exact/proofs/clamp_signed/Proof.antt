@@ -1,8 +1,8 @@
 -- `clamp_signed`: its two ends hold -2^(n-1) and 2^(n-1) - 1, so `clamp` clamps into the signed range of n bits.
 use Rattle.run_exact.proofs.Laws.{low_held, word_held, half_lt}
 use Prim.Native.Nat.{ℕ, ◌-◌}
-use Rattle.neon.specs.Arm.{cS}
-use Rattle.saturation.specs.Saturates.{beyondS}
+use Rattle.neon.specs.Arm.{c_s}
+use Rattle.saturation.specs.Saturates.{beyond_s}
 use mathlib.Core.Path.{ap}
 use native.Mathlib.Omega.{arith}
 use borrow.Author.Rules.{rules}
@@ -28,7 +28,7 @@ clamp-requires : tie.Need-clamp-requires
 clamp-requires c κs = search rules
 
 returns : tie.Need-returns
-unfolding cS beyondS
+unfolding c_s beyond_s
 returns c =
     let at-signed = c.before.before in
     let at-power = at-signed.before in

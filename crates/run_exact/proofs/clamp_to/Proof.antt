@@ -1,4 +1,4 @@
--- `clamp_to` answers `clampTo` and `beyondTo` of each range; a signed number into the unsigned range has the unsigned ends.
+-- `clamp_to` answers `clamp_to` and `beyond_to` of each range; a signed number into the unsigned range has the unsigned ends.
 use borrow.Author.Rules.{rules}
 use Rattle.run_exact.proofs.clamp_to.Statement.{statement}
 use Rattle.run_exact.proofs.clamp_to.Tie as tie

@@ -1,7 +1,7 @@
 -- `clamp_unsigned`: its two ends hold 0 and 2^n - 1, so `clamp` clamps into the unsigned range of n bits.
 use Rattle.run_exact.proofs.Laws.{word_held}
-use Rattle.neon.specs.Arm.{cU}
-use Rattle.saturation.specs.Saturates.{beyondU}
+use Rattle.neon.specs.Arm.{c_u}
+use Rattle.saturation.specs.Saturates.{beyond_u}
 use mathlib.Core.Path.{refl}
 use borrow.Author.Rules.{rules}
 use Rattle.run_exact.proofs.clamp_unsigned.Statement.{statement}
@@ -20,7 +20,7 @@ clamp-requires : tie.Need-clamp-requires
 clamp-requires c κs = search rules
 
 returns : tie.Need-returns
-unfolding cU beyondU
+unfolding c_u beyond_u
 returns c =
     let at-unsigned-max = c.before.before in
     let at-unsigned = at-unsigned-max.before in

@@ -1,4 +1,4 @@
--- `limit` answers `limited` and `beyondLimit`: clamped into a range, or n bits that never saturate.
+-- `limit` answers `limited` and `beyond_limit`: clamped into a range, or n bits that never saturate.
 use mathlib.Core.Path.{refl}
 use borrow.Author.Rules.{rules}
 use Rattle.run_exact.proofs.limit.Statement.{statement}
@@ -17,7 +17,7 @@ clamp-to-requires : tie.Need-clamp-to-requires
 clamp-to-requires c κs = search rules
 
 returns : tie.Need-returns
-returns c = λ z p. rw c.before.enum_told.given.1 (record { bits_are = c.keep.ensures 192 z p; saturated-is = refl })
+returns c = λ z p. rw c.before.enum_told.given.1 (record { bits_are = c.keep.ensures 192 z p; saturated_is = refl })
 
 returns-2 : tie.Need-returns-2
 returns-2 c = λ z p. rw c.before.before.saturate.given.1 (c.clamp-to.ensures z p)

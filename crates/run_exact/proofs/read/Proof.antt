@@ -1,4 +1,4 @@
--- `read` holds `readZ` of a lane, signed or unsigned, in 65 bits.
+-- `read` holds `read_z` of a lane, signed or unsigned, in 65 bits.
 use native.Mathlib.Omega.{arith}
 use Rattle.run_exact.proofs.Laws.{fitting}
 use borrow.Author.Rules.{rules}

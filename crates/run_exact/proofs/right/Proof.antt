@@ -1,4 +1,4 @@
--- `right` holds `rightZ`: the integer over 2^k, floored, after half of 2^k was added if it rounds.
+-- `right` holds `right_z`: the integer over 2^k, floored, after half of 2^k was added if it rounds.
 use native.Mathlib.Omega.{arith}
 use Rattle.run_exact.proofs.Laws.{floor-held, round-held}
 use Rattle.wide.proofs.Words.{num-lt}

@@ -1,4 +1,4 @@
--- `turn` holds `turnZ` by the signed low byte: to the left below 128, else to the right by 256 less it.
+-- `turn` holds `turn_z` by the signed low byte: to the left below 128, else to the right by 256 less it.
 use native.Mathlib.Omega.{arith}
 use Rattle.run_exact.proofs.Laws.{turn-left, turn-right}
 use borrow.Author.Rules.{rules}

@@ -1,4 +1,4 @@
--- `add_sub_lane` answers `saturatingLaneZ` and `saturatingBeyond` of AddSub: the exact sum or difference, clamped.
+-- `add_sub_lane` answers `saturating_lane_z` and `saturating_beyond` of AddSub: the exact sum or difference, clamped.
 use native.Mathlib.Omega.{arith}
 use Rattle.run_exact.proofs.Laws.{fitting}
 use borrow.Author.Rules.{rules}

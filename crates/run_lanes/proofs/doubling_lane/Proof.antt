@@ -1,4 +1,4 @@
--- `doubling_lane` answers `doublingLaneZ` and `doublingBeyond`: the product is clamped, then the sum with it, and either may saturate.
+-- `doubling_lane` answers `doubling_lane_z` and `doubling_beyond`: the product is clamped, then the sum with it, and either may saturate.
 use native.Mathlib.Omega.{arith}
 use Rattle.run_exact.proofs.Laws.{fitting}
 use Rattle.run_lanes.proofs.Lanes.{bits-lt, again, both}

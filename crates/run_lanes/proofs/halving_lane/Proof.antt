@@ -1,4 +1,4 @@
--- `halving_lane` answers `saturatingLaneZ` of Halving: the exact sum over 2, floored or rounded.
+-- `halving_lane` answers `saturating_lane_z` of Halving: the exact sum over 2, floored or rounded.
 use native.Mathlib.Omega.{arith}
 use Rattle.run_exact.proofs.Laws.{fitting}
 use borrow.Author.Rules.{rules}

@@ -1,4 +1,4 @@
--- `insert_lane` gives `insertLaneZ` of SLI and SRI: the shifted bits and the bits of d that stay do not meet.
+-- `insert_lane` gives `insert_lane_z` of SLI and SRI: the shifted bits and the bits of d that stay do not meet.
 use native.Mathlib.Omega.{arith}
 use mathlib.Core.Path.{◌≡◌, ap₂, subst, ◌∙◌}
 use mathlib.Core.Bool.{Bool}

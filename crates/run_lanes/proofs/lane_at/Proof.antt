@@ -1,8 +1,8 @@
--- `lane_at` answers `familyLane` and `familyBeyond`: each family's function by its own contract.
+-- `lane_at` answers `family_lane` and `family_beyond`: each family's function by its own contract.
 use mathlib.Core.Path.{◌≡◌, refl, subst}
 use Prim.Native.Nat.{◌^◌, ◌≤◌, ◌<◌}
 use Rattle.trees.specs.declared.NeonOp.{NeonOp}
-use Rattle.saturation.specs.Family.{familyLane, familyBeyond}
+use Rattle.saturation.specs.Family.{family_lane, family_beyond}
 use Rattle.run_lanes.specs.Rows.{RowIn, source_of}
 use borrow.Author.Rules.{rules}
 use Rattle.run_lanes.proofs.lane_at.Statement.{statement}
@@ -80,36 +80,36 @@ high-lane-requires c κs =
     (p.0, p.5)
 
 returns : tie.Need-returns
-unfolding familyLane familyBeyond
+unfolding family_lane family_beyond
 returns c = rw c.before.before.op.given.1 c.shift-lane.ensures
 
 returns-2 : tie.Need-returns-2
-unfolding familyLane familyBeyond
-returns-2 c = rw c.before.before.op2.given.1 (record { bits_are = c.insert-lane.ensures; saturated-is = refl })
+unfolding family_lane family_beyond
+returns-2 c = rw c.before.before.op2.given.1 (record { bits_are = c.insert-lane.ensures; saturated_is = refl })
 
 returns-3 : tie.Need-returns-3
-unfolding familyLane familyBeyond
+unfolding family_lane family_beyond
 returns-3 c = rw c.before.before.op3.given.1 c.mixed-lane.ensures
 
 returns-4 : tie.Need-returns-4
-unfolding familyLane familyBeyond
+unfolding family_lane family_beyond
 returns-4 c = rw c.before.before.op4.given.1 c.doubling-lane.ensures
 
 returns-5 : tie.Need-returns-5
-unfolding familyLane familyBeyond
+unfolding family_lane family_beyond
 returns-5 c = rw c.before.before.op5.given.1 c.saturating-lane.ensures
 
 returns-6 : tie.Need-returns-6
-unfolding familyLane familyBeyond
-returns-6 c = rw c.before.before.op6.given.1 (record { bits_are = c.bits-lane.ensures; saturated-is = refl })
+unfolding family_lane family_beyond
+returns-6 c = rw c.before.before.op6.given.1 (record { bits_are = c.bits-lane.ensures; saturated_is = refl })
 
 returns-7 : tie.Need-returns-7
-unfolding familyLane familyBeyond
+unfolding family_lane family_beyond
 returns-7 c = rw c.before.before.op7.given.1 c.difference-lane.ensures
 
 returns-8 : tie.Need-returns-8
-unfolding familyLane familyBeyond
-returns-8 c = rw c.before.before.op8.given.1 (record { bits_are = c.high_lane.ensures; saturated-is = refl })
+unfolding family_lane family_beyond
+returns-8 c = rw c.before.before.op8.given.1 (record { bits_are = c.high_lane.ensures; saturated_is = refl })
 
 pub lane-at-spec : {M : Type 1} → statement M
 lane-at-spec =

@@ -1,4 +1,4 @@
--- `mixed_lane` answers `mixedLaneZ` and `mixedBeyond`: the exact sum of a signed and an unsigned lane, clamped as d is read.
+-- `mixed_lane` answers `mixed_lane_z` and `mixed_beyond`: the exact sum of a signed and an unsigned lane, clamped as d is read.
 use native.Mathlib.Omega.{arith}
 use Rattle.run_exact.proofs.Laws.{fitting}
 use borrow.Author.Rules.{rules}

@@ -1,4 +1,4 @@
--- `multiply_high_lane` answers `saturatingLaneZ` of DoublingMultiplyHigh: the doubled product over 2^n, clamped.
+-- `multiply_high_lane` answers `saturating_lane_z` of DoublingMultiplyHigh: the doubled product over 2^n, clamped.
 use native.Mathlib.Omega.{arith}
 use Rattle.run_exact.proofs.Laws.{fitting}
 use borrow.Author.Rules.{rules}

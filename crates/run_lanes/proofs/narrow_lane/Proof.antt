@@ -1,4 +1,4 @@
--- `narrow_lane` answers `saturatingLaneZ` of Narrow: a lane of twice n bits, clamped into n.
+-- `narrow_lane` answers `saturating_lane_z` of Narrow: a lane of twice n bits, clamped into n.
 use native.Mathlib.Omega.{arith}
 use Rattle.run_exact.proofs.Laws.{fitting}
 use borrow.Author.Rules.{rules}

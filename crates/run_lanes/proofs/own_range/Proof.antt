@@ -1,4 +1,4 @@
--- `own_range` gives `ownRange`: the range of a shift by a register is that of its sign, or none.
+-- `own_range` gives `own_range`: the range of a shift by a register is that of its sign, or none.
 use borrow.Author.Rules.{rules}
 use Rattle.run_lanes.proofs.own_range.Statement.{statement}
 use Rattle.run_lanes.proofs.own_range.Tie as tie

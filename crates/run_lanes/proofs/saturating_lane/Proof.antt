@@ -1,8 +1,8 @@
--- `saturating_lane` answers `saturatingLaneZ` and `saturatingBeyond` of each of the six kinds.
+-- `saturating_lane` answers `saturating_lane_z` and `saturating_beyond` of each of the six kinds.
 use native.Mathlib.Omega.{arith}
 use mathlib.Core.Path.{◌≡◌, subst}
 use Rattle.trees.specs.declared.SaturatingKind.{SaturatingKind}
-use Rattle.trees.specs.Arith.{kindBits}
+use Rattle.trees.specs.Arith.{kind_bits}
 use Rattle.lower_kinds.specs.Sources.{KindIn}
 use Prim.Native.Nat.{◌<◌, ◌^◌}
 use borrow.Author.Rules.{rules}
@@ -11,7 +11,7 @@ use Rattle.run_lanes.proofs.saturating_lane.Tie as tie
 
 -- what is asked of the lane and its sources if the kind is k
 abbrev Asked : tie.Start → SaturatingKind → Type 0
-Asked s k = let a = s.args in (0 < a.n) × (a.a < 2 ^ kindBits k a.n) × (a.b < 2 ^ kindBits k a.n) × KindIn k a.n
+Asked s k = let a = s.args in (0 < a.n) × (a.a < 2 ^ kind_bits k a.n) × (a.b < 2 ^ kind_bits k a.n) × KindIn k a.n
 
 asked : (s : tie.Start) {k : SaturatingKind} → s.args.kind ≡ k → Asked s k
 asked s e = subst (Asked s) e s.requires

@@ -1,4 +1,4 @@
--- `shift_lane` answers `shiftLaneZ` and `shiftBeyond` of each of the three kinds: the exact shift, clamped or cut.
+-- `shift_lane` answers `shift_lane_z` and `shift_beyond` of each of the three kinds: the exact shift, clamped or cut.
 use native.Mathlib.Omega.{arith}
 use mathlib.Core.Path.{◌≡◌, subst}
 use Rattle.run_exact.proofs.Laws.{fitting}

@@ -1,4 +1,4 @@
--- `shift_narrow_lane` answers `saturatingLaneZ` of ShiftNarrow: a lane of twice n bits, shifted to the right, then clamped or cut.
+-- `shift_narrow_lane` answers `saturating_lane_z` of ShiftNarrow: a lane of twice n bits, shifted to the right, then clamped or cut.
 use native.Mathlib.Omega.{arith}
 use Rattle.run_exact.proofs.Laws.{fitting}
 use borrow.Author.Rules.{rules}

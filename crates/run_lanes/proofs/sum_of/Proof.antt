@@ -1,4 +1,4 @@
--- `sum_of` holds `highZ`, the exact sum or difference of two unsigned lanes, in 66 bits.
+-- `sum_of` holds `high_z`, the exact sum or difference of two unsigned lanes, in 66 bits.
 use native.Mathlib.Omega.{arith}
 use borrow.Author.Rules.{rules}
 use Rattle.run_lanes.proofs.sum_of.Statement.{statement}

@@ -1,4 +1,4 @@
--- `unary_lane` answers `saturatingLaneZ` of Unary: the negative or the magnitude, clamped into the signed range.
+-- `unary_lane` answers `saturating_lane_z` of Unary: the negative or the magnitude, clamped into the signed range.
 use native.Mathlib.Omega.{arith}
 use Rattle.run_exact.proofs.Laws.{fitting}
 use borrow.Author.Rules.{rules}

@@ -1,13 +1,13 @@
 -- `run_lines::is_same` meets its contract.
 use native.Mathlib.Omega.{arith}
-use Rattle.run_lines.proofs.Texts.{same-words}
+use Rattle.run_lines.proofs.Texts.{same_words}
 use Rattle.run_lines.proofs.is_same.Statement.{statement}
 use Rattle.run_lines.proofs.is_same.Tie as tie
 
 returns : tie.Need-returns
 returns c =
     let a = c.before.before.before.before.args in
-    same-words a.old.low a.old.high a.new.low a.new.high (omega arith) (omega arith)
+    same_words a.old.low a.old.high a.new.low a.new.high (omega arith) (omega arith)
 
 pub is-same-spec : {M : Type 1} → statement M
 is-same-spec = tie.close (tie.spec returns)

@@ -40,25 +40,25 @@ from-digits : (c : tie.After-put-register) → let a = (entry c).args in
     (c.put-register.result ≡ a.at + 32) × (length c.put-register.new.1.1.0 ≡ length a.buf.now)
 from-digits c =
     let w = c.put-register.ensures in
-    (omega (arith, w.next-is, digits-length 32 (number (entry c).args.new)), wrote-length w)
+    (omega (arith, w.next_is, digits-length 32 (number (entry c).args.new)), wrote-length w)
 
 from-blank : (c : tie.After-put) → let a = (entry (digits-done c.before)).args in (c.put.result ≡ a.at + 34) × (length c.put.new.1.0 ≡ length a.buf.now)
 from-blank c =
     let w = c.put.ensures in
     let f = from-digits (digits-done c.before) in
-    (omega (arith, f.0, w.next-is), omega (arith, f.1, wrote-length w))
+    (omega (arith, f.0, w.next_is), omega (arith, f.1, wrote-length w))
 
 from-name : (c : tie.After-put-decimal) → let a = (start c).args in (c.put-decimal.result ≤ a.at + 36) × (length c.put-decimal.new.1.0 ≡ length a.buf.now)
 from-name c =
     let w = c.put-decimal.ensures in
     let f = from-blank (blank-done c.before) in
-    (omega (arith, f.0, w.next-is, register-short (start c).args.r (start c).requires.0), omega (arith, f.1, wrote-length w))
+    (omega (arith, f.0, w.next_is, register-short (start c).args.r (start c).requires.0), omega (arith, f.1, wrote-length w))
 
 from-mark : (c : tie.After-put-mark) → let a = (start (name_done c.before)).args in (c.put-mark.result ≤ a.at + 38) × (length c.put-mark.new.1.0 ≡ length a.buf.now)
 from-mark c =
     let w = c.put-mark.ensures in
     let f = from-name (name_done c.before) in
-    (omega (arith, f.0, w.next-is, mark-length (compared c).is_same.result), omega (arith, f.1, wrote-length w))
+    (omega (arith, f.0, w.next_is, mark-length (compared c).is_same.result), omega (arith, f.1, wrote-length w))
 
 -- ---- needs
 
@@ -110,7 +110,7 @@ returns c =
     let b = blank-done n.before in
     let marked = wrote_as (ap mark (sym (compared m).is_same.ensures)) m.put-mark.ensures in (
       wrote_then (digits-done b.before).put-register.ensures (wrote_then b.put.ensures (wrote_then n.put-decimal.ensures (wrote_then marked e.put2.ensures))),
-      omega (arith, (from-mark m).0, e.put2.ensures.next-is),
+      omega (arith, (from-mark m).0, e.put2.ensures.next_is),
     )
 
 pub put-line-spec : {M : Type 1} → statement M

@@ -9,13 +9,13 @@ use lib.ListN.{length}
 use Rattle.text_digits.specs.Writing.{Wrote}
 use Rattle.text_series.specs.Series.{up_to}
 use Rattle.text_series.proofs.Texts.{wrote-next, wrote-first}
-use Rattle.wide.specs.Registers.{registersOf}
-use Rattle.run_lines.specs.Output.{registerLine, registersText}
+use Rattle.wide.specs.Registers.{registers_of}
+use Rattle.run_lines.specs.Output.{register_line, registers_text}
 use Rattle.run_lines.proofs.put_registers.Statement.{statement}
 use Rattle.run_lines.proofs.put_registers.Tie as tie
 
 abbrev rows : (start after : List ℕ) → ℕ → List ℕ
-rows start after r = registerLine r (registersOf start r) (registersOf after r)
+rows start after r = register_line r (registers_of start r) (registers_of after r)
 
 abbrev invariant-loop : tie.invariant-loop
 invariant-loop start after buf₀ r₀ end₀ buf r end =
@@ -59,7 +59,7 @@ loop-again c =
     let old = new.before in
     let l = old.before.before in
     let a = (entry l).args in
-    let same = ap₂ (registerLine l.loop.r) (sym old.get.ensures) (sym new.get2.ensures) in (
+    let same = ap₂ (register_line l.loop.r) (sym old.get.ensures) (sym new.get2.ensures) in (
       wrote-next (rows a.start.words a.after.words) l.loop.r l.loop.invariant.0 (wrote_as same p.put-line.ensures.0),
       omega (arith, p.put-line.ensures.1, l.loop.invariant.1),
       omega (arith, (turn c).loop-test.true),
@@ -70,7 +70,7 @@ same_length : tie.Need-same-length invariant-loop decreases-loop
 same_length c = c.before.loop.invariant.3
 
 returns : tie.Need-returns invariant-loop decreases-loop
-unfolding registersText
+unfolding registers_text
 returns c =
     let l = c.before.loop in
     let a = (entry c.before).args in

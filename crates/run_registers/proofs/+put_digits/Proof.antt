@@ -4,7 +4,7 @@ use Prim.Native.Nat.{ℕ, ◌-◌, ◌/◌, ◌<◌}
 use native.Mathlib.Omega.{arith}
 use lib.ListN.{length, length-set}
 use Rattle.text_digits.proofs.Laws.{wrote_none, wrote_as, wrote-length}
-use Rattle.run_registers.specs.Digits.{hexDigits}
+use Rattle.run_registers.specs.Digits.{hex_digits}
 use Rattle.run_registers.proofs.Digits.{none, digits-length, wrote-last}
 use borrow.Fn.Kinds.{In}
 use borrow.Fn.PlainCycle.{Measures, is, falls, and}
@@ -48,7 +48,7 @@ module _ (t : ℕ) where
       let s = entry c in
       let w = (rest c).put-digits.ensures in
       omega
-      (arith, w.next-is, wrote-length w, digits-length (s.args.k - 1) (s.args.x / 16), digits-length s.args.k s.args.x, s.pre.1.room, (rest c).before.before.if1.false)
+      (arith, w.next_is, wrote-length w, digits-length (s.args.k - 1) (s.args.x / 16), digits-length s.args.k s.args.x, s.pre.1.room, (rest c).before.before.if1.false)
 
 -- ---- needs
 
@@ -56,7 +56,7 @@ put-digits-returns : (t : ℕ) → put-digits-lts.Need-returns (claims t) (put-d
 put-digits-returns t c =
     let a = c.before.before.args in
     let e : a.k ≡ 0 = c.if1.true in
-    wrote_as (ap (λ (k : ℕ). hexDigits k a.x) e ∙ none a.x) (wrote_none a.buf.now a.at)
+    wrote_as (ap (λ (k : ℕ). hex_digits k a.x) e ∙ none a.x) (wrote_none a.buf.now a.at)
 
 put-digits-sub-put-digits : (t : ℕ) → put-digits-lts.Need-overflow-sub-put-digits (claims t) (put-digits-at t) put-digits.Post
 put-digits-sub-put-digits t c = omega (arith, c.if1.false)

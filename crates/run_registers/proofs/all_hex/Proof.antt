@@ -4,13 +4,13 @@ use native.Mathlib.Omega.{arith}
 use borrow.Author.Rules.{rules}
 use Prim.Native.Nat.{ℕ, ◌-◌, ◌≤◌}
 use mathlib.Core.Path.{subst}
-use Rattle.run_registers.specs.Digits.{allHex}
+use Rattle.run_registers.specs.Digits.{all_hex}
 use Rattle.run_registers.proofs.Digits.{all-next, all_none}
 use Rattle.run_registers.proofs.all_hex.Statement.{statement}
 use Rattle.run_registers.proofs.all_hex.Tie as tie
 
 abbrev invariant-loop : tie.invariant-loop
-invariant-loop bytes at all₀ j₀ all j = (all ≡ allHex bytes at j) × (j ≤ 32)
+invariant-loop bytes at all₀ j₀ all j = (all ≡ all_hex bytes at j) × (j ≤ 32)
 
 abbrev decreases-loop : tie.decreases-loop
 decreases-loop bytes at all₀ j₀ all j = 32 - j
@@ -50,7 +50,7 @@ returns c =
     let l = c.before in
     let a = (entry l).args in
     let e : l.loop.j ≡ 32 = omega (arith, l.loop.invariant.1, c.loop-test.false) in
-    subst (λ (j : ℕ). l.loop.all ≡ allHex a.bytes.now a.at j) e l.loop.invariant.0
+    subst (λ (j : ℕ). l.loop.all ≡ all_hex a.bytes.now a.at j) e l.loop.invariant.0
 
 pub all-hex-spec : {M : Type 1} → statement M
 all-hex-spec =

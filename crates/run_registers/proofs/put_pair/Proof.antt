@@ -41,7 +41,7 @@ returns : tie.Need-returns
 returns c =
     let low = c.before.word-at.ensures in
     let high = c.word-at2.ensures in
-    record { next-is = refl; after_is = rw (low, high) (simp towards_suc) }
+    record { next_is = refl; after_is = rw (low, high) (simp towards_suc) }
 
 pub put-pair-spec : {M : Type 1} → statement M
 put-pair-spec =

@@ -23,7 +23,7 @@ put-digits-requires-2 : tie.Need-put-digits-requires-2
 put-digits-requires-2 c κs =
     let a = (entry (high-done c)).args in
     let w = (high-done c).put-digits.ensures in
-    record { room = omega (arith, digits-length 16 a.high, digits-length 16 a.low, w.next-is, wrote-length w) }
+    record { room = omega (arith, digits-length 16 a.high, digits-length 16 a.low, w.next_is, wrote-length w) }
 
 same_length : tie.Need-same-length
 same_length c = search rules

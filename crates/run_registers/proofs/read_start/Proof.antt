@@ -47,7 +47,7 @@ loop-holds : tie.Need-loop-init invariant-loop decreases-loop
 loop-holds c = reading-none c.before.args.bytes.now c.before.args.words.now
 
 gap-end-requires : tie.Need-gap-end-requires invariant-loop decreases-loop
-gap-end-requires c κs = c.before.loop.invariant.next-in
+gap-end-requires c κs = c.before.loop.invariant.next_in
 
 is-register-requires : tie.Need-is-register-requires invariant-loop decreases-loop
 is-register-requires c κs = c.gap-end.ensures.1
@@ -91,7 +91,7 @@ loop-again c =
     reading-more s.bytes.now s.words.now (top b).loop.inv (gap b).gap-end.result (gap b).gap-end.ensures.0 (turn b).loop-test.taken (there (found c)) c.put-pair.ensures
 
 line-after-requires : tie.Need-line-after-requires invariant-loop decreases-loop
-line-after-requires c κs = c.before.loop.invariant.next-in
+line-after-requires c κs = c.before.loop.invariant.next_in
 
 returns-2 : tie.Need-returns-2 invariant-loop decreases-loop
 returns-2 c =

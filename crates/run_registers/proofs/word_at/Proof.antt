@@ -4,13 +4,13 @@ use native.Mathlib.Omega.{arith}
 use borrow.Author.Rules.{rules}
 use Prim.Native.Nat.{ℕ, ◌-◌, ◌≤◌, ◌<◌}
 use mathlib.Core.Path.{subst}
-use Rattle.run_registers.specs.Digits.{hexAt}
+use Rattle.run_registers.specs.Digits.{hex_at}
 use Rattle.run_registers.proofs.Digits.{top, top-word, top-first, top-next, hex-none, hex-next}
 use Rattle.run_registers.proofs.word_at.Statement.{statement}
 use Rattle.run_registers.proofs.word_at.Tie as tie
 
 abbrev invariant-loop : tie.invariant-loop
-invariant-loop bytes at word₀ j₀ word j = (word ≡ hexAt bytes at j) × (word < top j) × (j ≤ 16)
+invariant-loop bytes at word₀ j₀ word j = (word ≡ hex_at bytes at j) × (word < top j) × (j ≤ 16)
 
 abbrev decreases-loop : tie.decreases-loop
 decreases-loop bytes at word₀ j₀ word j = 16 - j
@@ -62,7 +62,7 @@ returns c =
     let l = c.before in
     let a = (entry l).args in
     let e : l.loop.j ≡ 16 = omega (arith, l.loop.invariant.2, c.loop-test.false) in
-    subst (λ (j : ℕ). l.loop.word ≡ hexAt a.bytes.now a.at j) e l.loop.invariant.0
+    subst (λ (j : ℕ). l.loop.word ≡ hex_at a.bytes.now a.at j) e l.loop.invariant.0
 
 pub word-at-spec : {M : Type 1} → statement M
 word-at-spec =

@@ -3,7 +3,7 @@ use native.Mathlib.Omega.{arith}
 use mathlib.Core.Bool.{true}
 use mathlib.Core.Path.{◌≡◌, sym, subst, ◌∙◌}
 use Prim.Native.Nat.{ℕ, ◌+◌, ◌*◌, ◌≤◌}
-use Rattle.lower_kinds.specs.Sources.{usesSecond}
+use Rattle.lower_kinds.specs.Sources.{uses_second}
 use Rattle.lower_kinds.proofs.Bits.{source-least}
 use Rattle.saturation_at.proofs.At.{at-two, at_one}
 use borrow.Author.Rules.{rules}
@@ -28,7 +28,7 @@ first c = c.before.before.before
 abbrev bits : tie.After-uses-second → tie.After-source-bits
 bits c = (first c).before.before
 
-used : (c : tie.Then1) → usesSecond (entry (bits c.before)).args.kind ≡ true
+used : (c : tie.Then1) → uses_second (entry (bits c.before)).args.kind ≡ true
 used c = sym c.before.uses-second.ensures ∙ c.if1.true
 
 abbrev two : tie.After-extract-lane2 → tie.Then1

@@ -2,18 +2,18 @@
 use native.Mathlib.Omega.{arith}
 use Prim.Native.Nat.{◌-◌}
 use mathlib.Core.List.{[]}
-use Rattle.lower.specs.Builds.{read, readIf}
+use Rattle.lower.specs.Builds.{read, read_if}
 use Rattle.lower.proofs.Loop.{Turning, SoFar, begun, so_far, first-asks, lane-asks, concat-asks, again, whole}
-use Rattle.lower_neon.specs.Family.{readsSecond, readsOld}
+use Rattle.lower_neon.specs.Family.{reads_second, reads_old}
 use Rattle.lower_neon.proofs.Sources.{lanes-le}
-use Rattle.saturation_bits.specs.Lanes.{laneAt}
+use Rattle.saturation_bits.specs.Lanes.{lane_at}
 use Rattle.saturation_bits.proofs.lane_bits_of.Statement.{statement}
 use Rattle.saturation_bits.proofs.lane_bits_of.Tie as tie
 
 abbrev invariant-loop : tie.invariant-loop
 invariant-loop pool₀ count shape first second d lanes acc₀ i₀ pool acc i =
-    Turning count 38 1 shape.lanes (readIf (readsOld shape.op) d 128) (read first 128) (readIf (readsSecond shape.op) second 128)
-    (laneAt shape) [] pool₀ acc₀ pool acc i
+    Turning count 38 1 shape.lanes (read_if (reads_old shape.op) d 128) (read first 128) (read_if (reads_second shape.op) second 128)
+    (lane_at shape) [] pool₀ acc₀ pool acc i
 
 abbrev decreases-loop : tie.decreases-loop
 decreases-loop pool₀ count shape first second d lanes acc₀ i₀ pool acc i = shape.lanes - i

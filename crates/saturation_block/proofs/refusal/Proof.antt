@@ -2,11 +2,11 @@
 use mathlib.Core.Path.{◌≡◌, sym, ap, subst, ◌∙◌}
 use Prim.Native.Nat.{ℕ, ◌/◌}
 use lib.ListN.{length}
-use Rattle.neon.specs.Refusal.{refusalBy}
+use Rattle.neon.specs.Refusal.{refusal_by}
 use Rattle.pool.specs.Node.{places}
-use Rattle.block_check.specs.Records.{recordsOf, Refuses}
+use Rattle.block_check.specs.Records.{records_of, Refuses}
 use Rattle.block_check.proofs.Refusals.{from-length}
-use Rattle.saturation_block.specs.Size.{flagSize, flagRefusal}
+use Rattle.saturation_block.specs.Size.{flag_size, flag_refusal}
 use borrow.Author.Rules.{rules}
 use Rattle.saturation_block.proofs.refusal.Statement.{statement}
 use Rattle.saturation_block.proofs.refusal.Tie as tie
@@ -18,14 +18,14 @@ refusal-by-requires : tie.Need-refusal-by-requires
 refusal-by-requires c κs = search rules
 
 returns : tie.Need-returns
-unfolding flagRefusal
+unfolding flag_refusal
 returns c =
     let sized = c.before in
     let a = sized.before.before.before.args in
     let flat = a.records.now in
-    let n : sized.size_number.result ≡ flagSize (places a.pool.now) (length (recordsOf flat)) =
-    sized.size_number.ensures ∙ ap (flagSize (places a.pool.now)) (sym (from-length flat 0 (length flat / 6))) in
-    subst (λ (k : ℕ). Refuses c.refusal-by.result (refusalBy k (recordsOf flat))) n c.refusal-by.ensures
+    let n : sized.size_number.result ≡ flag_size (places a.pool.now) (length (records_of flat)) =
+    sized.size_number.ensures ∙ ap (flag_size (places a.pool.now)) (sym (from-length flat 0 (length flat / 6))) in
+    subst (λ (k : ℕ). Refuses c.refusal-by.result (refusal_by k (records_of flat))) n c.refusal-by.ensures
 
 pub refusal-spec : {M : Type 1} → statement M
 refusal-spec = tie.close (tie.spec size-number-requires refusal-by-requires returns)

@@ -1,4 +1,4 @@
--- size_number: the two tests are those of flagSize.
+-- size_number: the two tests are those of flag_size.
 use native.Mathlib.Omega.{arith}
 use Rattle.saturation_block.proofs.Done.{too_long, no_room, has_room}
 use borrow.Author.Rules.{rules}

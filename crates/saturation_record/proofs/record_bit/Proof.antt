@@ -1,6 +1,6 @@
 -- record_bit: a bit for an operation that can saturate, else the bit before.
 use mathlib.Core.Path.{refl, sym, ◌∙◌}
-use Rattle.neon.specs.Op.{opAt, arrangementAt}
+use Rattle.neon.specs.Op.{op_at, arrangement_at}
 use Rattle.neon.specs.Refusal.{Formed}
 use Rattle.neon.proofs.Legal.{formed}
 use Rattle.lower_neon.proofs.Rows.{row}
@@ -38,8 +38,8 @@ instruction-bit-requires c κs =
     let l-saturable = l-if1.before in
     let st = entry l-saturable in
     let f = form st in
-    let o = opAt st.args.operation in
-    let v = arrangementAt st.args.arrangement in
+    let o = op_at st.args.operation in
+    let v = arrangement_at st.args.arrangement in
     let q = form-ready st.args.count st.args.first st.args.second st.args.d o v st.args.i (shaped l-saturable).shape.ensures
     (row o v st.args.i f.row f.low f.high) st.pre.1.1.1 (λ u. st.pre.1.1.2) (λ u. st.pre.1.1.0) in
     (st.pre.0, ((q.0.0, q.0.1, q.0.2, st.pre.1.1.3), (q.1.0, q.1.1, q.1.2, q.1.3, q.1.4, sym l-saturable.saturable.ensures ∙ l-if1.if1.true)))

@@ -1,6 +1,6 @@
 -- saturable_kind: a kind saturates if it has a range.
 use mathlib.Core.Path.{ap, ◌∙◌}
-use Rattle.saturation.specs.Bits.{saturableTo}
+use Rattle.saturation.specs.Bits.{saturable_to}
 use borrow.Author.Rules.{rules}
 use Rattle.saturation_record.proofs.saturable_kind.Statement.{statement}
 use Rattle.saturation_record.proofs.saturable_kind.Tie as tie
@@ -13,7 +13,7 @@ clamps-requires c κs = search rules
 
 returns : tie.Need-returns
 returns c =
-    c.clamps.ensures ∙ ap saturableTo c.before.kind-to.ensures
+    c.clamps.ensures ∙ ap saturable_to c.before.kind-to.ensures
 
 pub saturable-kind-spec : {M : Type 1} → statement M
 saturable-kind-spec = tie.close (tie.spec kind-to-requires clamps-requires returns)

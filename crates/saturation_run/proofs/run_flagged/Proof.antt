@@ -3,9 +3,9 @@ use native.Mathlib.Omega.{arith}
 use mathlib.Core.Path.{◌≡◌, refl}
 use Prim.Native.Nat.{◌-◌, ◌/◌, ◌≤◌, ◌<◌}
 use lib.ListN.{length}
-use Rattle.saturation_step.specs.Step.{flagReserve}
+use Rattle.saturation_step.specs.Step.{flag_reserve}
 use Rattle.pool.specs.Growth.{Room}
-use Rattle.block_check.specs.Records.{recordsFrom}
+use Rattle.block_check.specs.Records.{records_from}
 use Rattle.block_check.proofs.Refusals.{from-length, legal-here}
 use Rattle.saturation_run.specs.Run.{FlagRuns}
 use Rattle.saturation_run.proofs.Running.{runs_none, runs-next, runs-all}
@@ -13,7 +13,7 @@ use Rattle.saturation_run.proofs.run_flagged.Statement.{statement}
 use Rattle.saturation_run.proofs.run_flagged.Tie as tie
 
 abbrev invariant-loop : tie.invariant-loop
-invariant-loop pool₀ records count at₀ j₀ pool at j = (count ≡ length records / 6) × (j ≤ count) × FlagRuns pool₀ at₀ pool at (recordsFrom records 0 j)
+invariant-loop pool₀ records count at₀ j₀ pool at j = (count ≡ length records / 6) × (j ≤ count) × FlagRuns pool₀ at₀ pool at (records_from records 0 j)
 
 abbrev decreases-loop : tie.decreases-loop
 decreases-loop pool₀ records count at₀ j₀ pool at j = count - j
@@ -25,14 +25,14 @@ entry c = c.before.before.before
 in-records : (c : tie.In-loop invariant-loop decreases-loop) → c.before.loop.j < length (entry c.before).args.records.now / 6
 in-records c = omega (arith, c.before.loop.invariant.0, c.loop-test.true)
 
-room : (c : tie.In-loop invariant-loop decreases-loop) → let l = c.before.loop in Room l.pool l.at.map.count flagReserve
+room : (c : tie.In-loop invariant-loop decreases-loop) → let l = c.before.loop in Room l.pool l.at.map.count flag_reserve
 room c =
     let l = c.before.loop in
     let s = entry c.before in
     omega (arith, s.pre.0, l.invariant.2.long, l.invariant.2.most, from-length s.args.records.now 0 l.j, in-records c)
 
 loop-holds : tie.Need-loop-init invariant-loop decreases-loop
-unfolding recordsFrom
+unfolding records_from
 loop-holds c = (refl, omega arith, runs_none c.before.before.requires.1.0 c.before.before.requires.1.1.0)
 
 record-at-requires : tie.Need-record-at-requires invariant-loop decreases-loop
@@ -44,7 +44,7 @@ flag-record-requires c κs =
     let t = r.before in
     let s = entry t.before in
     let runs = t.before.loop.invariant.2 in
-    (room t, (runs.map-ok, (runs.under, rw r.record-at.ensures (legal-here s.args.records.now _ s.pre.1.1.1 (in-records t)))))
+    (room t, (runs.map_ok, (runs.under, rw r.record-at.ensures (legal-here s.args.records.now _ s.pre.1.1.1 (in-records t)))))
 
 abbrev turn : tie.After-slice-known2 invariant-loop decreases-loop → tie.In-loop invariant-loop decreases-loop
 turn c = c.before.before.before.before.before.before.before

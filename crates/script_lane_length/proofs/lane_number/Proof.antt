@@ -2,8 +2,8 @@
 use mathlib.Core.Bool.{false}
 use mathlib.Core.Path.{◌≡◌, sym, ◌∙◌}
 use native.Mathlib.Omega.{arith}
-use Rattle.script_length.specs.Answer.{scriptNumber}
-use Rattle.script_lane_length.specs.Answer.{isCut, laneNumber}
+use Rattle.script_length.specs.Answer.{script_number}
+use Rattle.script_lane_length.specs.Answer.{is_cut, lane_number}
 use Rattle.script_lane_length.proofs.Answers.{no-cut-reversed, no-cut-above, bad-nodes, bad-cut, good-all}
 use borrow.Author.Rules.{rules}
 use Rattle.script_lane_length.proofs.lane_number.Statement.{statement}
@@ -21,10 +21,10 @@ passed c = c.before.before
 
 -- ---- pool and nodes are not refused
 
-accepted : (c : tie.Else1) → let a = (start c).args in scriptNumber a.pool.now a.count a.a.0 a.b.0 0 ≡ 0
+accepted : (c : tie.Else1) → let a = (start c).args in script_number a.pool.now a.count a.a.0 a.b.0 0 ≡ 0
 accepted c = omega (arith, c.before.script-number.ensures, c.if1.false)
 
-no_cut : (c : tie.Else1) → let a = (start c).args in isCut a.hi.0 a.lo.0 ≡ false → 5 ≡ laneNumber a.pool.now a.count a.a.0 a.b.0 a.hi.0 a.lo.0 0
+no_cut : (c : tie.Else1) → let a = (start c).args in is_cut a.hi.0 a.lo.0 ≡ false → 5 ≡ lane_number a.pool.now a.count a.a.0 a.b.0 a.hi.0 a.lo.0 0
 no_cut c f = let a = (start c).args in sym (bad-cut a.pool.now a.count a.a.0 a.b.0 a.hi.0 a.lo.0 0 (accepted c) f)
 
 -- ---- needs

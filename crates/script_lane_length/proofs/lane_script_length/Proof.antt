@@ -3,7 +3,7 @@ use mathlib.Core.Path.{◌≡◌}
 use native.Mathlib.Omega.{arith}
 use Rattle.pool_check.proofs.Passed.{few, below}
 use Rattle.script_length.proofs.Answers.{all_named}
-use Rattle.script_lane_length.specs.Answer.{laneNumber}
+use Rattle.script_lane_length.specs.Answer.{lane_number}
 use Rattle.script_lane_length.proofs.Answers.{fine, unmeasured, measured}
 use borrow.Author.Rules.{rules}
 use Rattle.script_lane_length.proofs.lane_script_length.Statement.{statement}
@@ -13,7 +13,7 @@ abbrev entry : tie.After-lane-number → tie.Start
 entry c = c.before.before
 
 -- no refusal applies
-accepted : (c : tie.Else1) → let a = (entry c.before).args in laneNumber a.pool.now a.count a.a a.b a.hi a.lo 0 ≡ 0
+accepted : (c : tie.Else1) → let a = (entry c.before).args in lane_number a.pool.now a.count a.a a.b a.hi a.lo 0 ≡ 0
 accepted c = omega (arith, c.before.lane-number.ensures, c.if1.false)
 
 lane-number-requires : tie.Need-lane-number-requires

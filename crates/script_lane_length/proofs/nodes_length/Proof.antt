@@ -4,13 +4,13 @@ use native.Mathlib.Omega.{arith}
 use Prim.Native.Nat.{ℕ, ◌-◌, ◌*◌, ◌≤◌}
 use lib.ListN.{length}
 use Rattle.text_series.specs.Series.{up_to}
-use Rattle.script_lane_text.specs.Lines.{linesAt}
+use Rattle.script_lane_text.specs.Lines.{lines_at}
 use Rattle.script_lane_length.proofs.Sizes.{next-lines, no_lines}
 use Rattle.script_lane_length.proofs.nodes_length.Statement.{statement}
 use Rattle.script_lane_length.proofs.nodes_length.Tie as tie
 
 abbrev invariant-loop : tie.invariant-loop
-invariant-loop p count n₀ sum₀ n sum = (sum ≡ length (up_to n (linesAt p))) × (sum ≤ 192 * n) × (n ≤ count)
+invariant-loop p count n₀ sum₀ n sum = (sum ≡ length (up_to n (lines_at p))) × (sum ≤ 192 * n) × (n ≤ count)
 
 abbrev decreases-loop : tie.decreases-loop
 decreases-loop p count n₀ sum₀ n sum = count - n
@@ -50,7 +50,7 @@ returns c =
     let l = c.before.loop in
     let a = (entry c.before).args in
     let e : l.n ≡ a.count = omega (arith, l.invariant.2, c.loop-test.false) in
-    (l.invariant.0 ∙ ap (λ (j : ℕ). length (up_to j (linesAt a.p.now))) e, omega (arith, l.invariant.1, e))
+    (l.invariant.0 ∙ ap (λ (j : ℕ). length (up_to j (lines_at a.p.now))) e, omega (arith, l.invariant.1, e))
 
 pub nodes-length-spec : {M : Type 1} → statement M
 nodes-length-spec =

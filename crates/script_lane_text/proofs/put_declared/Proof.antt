@@ -4,7 +4,7 @@ use Prim.Native.Nat.{ℕ}
 use Rattle.terms.specs.Display.{bytes}
 use Rattle.text_digits.specs.Writing.{Room}
 use Rattle.script_meaning.specs.Sexp.{show}
-use Rattle.script_meaning.specs.Script.{nodeName, sortBy}
+use Rattle.script_meaning.specs.Script.{node_name, sort_by}
 use Rattle.script_text.proofs.Parts.{together, left}
 use Rattle.text_digits.proofs.Laws.{room-front, room-step, room_as, wrote_then, wrote_as}
 use Rattle.script_lane_text.proofs.Spelling.{constant-is}
@@ -41,7 +41,7 @@ before-5 c = c.before.before.before.before.before
 -- ---- the texts, and room for those that are left
 
 abbrev texts : tie.Start → List (List ℕ)
-texts s = bytes "(declare-const " ∷ nodeName s.args.n.0 ∷ bytes " " ∷ show (sortBy s.args.width) ∷ bytes ")\n" ∷ []
+texts s = bytes "(declare-const " ∷ node_name s.args.n.0 ∷ bytes " " ∷ show (sort_by s.args.width) ∷ bytes ")\n" ∷ []
 
 room : (s : tie.Start) → Room s.args.buf.now s.args.at (together (texts s))
 room s = room_as (constant-is s.args.n.0 s.args.width) s.requires

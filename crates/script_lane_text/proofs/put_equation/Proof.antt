@@ -4,7 +4,7 @@ use Prim.Native.Nat.{ℕ}
 use Rattle.terms.specs.Display.{bytes}
 use Rattle.text_digits.specs.Writing.{Room}
 use Rattle.script_meaning.specs.Sexp.{show}
-use Rattle.script_meaning.specs.Script.{nodeName, termOf}
+use Rattle.script_meaning.specs.Script.{node_name, term_of}
 use Rattle.script_text.proofs.Parts.{together, left}
 use Rattle.text_digits.proofs.Laws.{room-front, room-step, room_as, wrote_then, wrote_as}
 use Rattle.script_lane_text.proofs.Spelling.{equation-is}
@@ -41,7 +41,7 @@ before-5 c = c.before.before.before.before.before
 -- ---- the texts, and room for those that are left
 
 abbrev texts : tie.Start → List (List ℕ)
-texts s = bytes "(assert (= " ∷ nodeName s.args.n.0 ∷ bytes " " ∷ show (termOf s.args.p.now s.args.n.0) ∷ bytes "))\n" ∷ []
+texts s = bytes "(assert (= " ∷ node_name s.args.n.0 ∷ bytes " " ∷ show (term_of s.args.p.now s.args.n.0) ∷ bytes "))\n" ∷ []
 
 room : (s : tie.Start) → Room s.args.buf.now s.args.at (together (texts s))
 room s = room_as (equation-is s.args.p.now s.args.n.0) s.requires.1

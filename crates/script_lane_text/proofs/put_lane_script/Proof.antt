@@ -4,8 +4,8 @@ use Prim.Native.Nat.{ℕ}
 use Rattle.terms.specs.Display.{bytes}
 use Rattle.text_digits.specs.Writing.{Room}
 use Rattle.text_series.specs.Series.{up_to}
-use Rattle.script_text.specs.Lines.{declarationLine}
-use Rattle.script_lane_text.specs.Lines.{linesAt, lane_lines}
+use Rattle.script_text.specs.Lines.{declaration_line}
+use Rattle.script_lane_text.specs.Lines.{lines_at, lane_lines}
 use Rattle.script_text.proofs.Parts.{together, left}
 use Rattle.text_digits.proofs.Laws.{room-front, room-step, room_as, wrote_then, wrote_as}
 use Rattle.script_lane_text.proofs.Spelling.{script-lines}
@@ -38,7 +38,7 @@ before-4 c = c.before.before.before.before
 abbrev texts : tie.Start → List (List ℕ)
 texts s =
     let a = s.args in
-    bytes "(set-logic QF_BV)\n" ∷ up_to 32 declarationLine ∷ up_to a.count (linesAt a.p.now) ∷ lane_lines a.p.now a.x.0 a.y.0 a.hi.0 a.lo.0 ∷ []
+    bytes "(set-logic QF_BV)\n" ∷ up_to 32 declaration_line ∷ up_to a.count (lines_at a.p.now) ∷ lane_lines a.p.now a.x.0 a.y.0 a.hi.0 a.lo.0 ∷ []
 
 room : (s : tie.Start) → Room s.args.buf.now s.args.at (together (texts s))
 room s = room_as (script-lines s.args.p.now s.args.count s.args.x.0 s.args.y.0 s.args.hi.0 s.args.lo.0) s.requires.1

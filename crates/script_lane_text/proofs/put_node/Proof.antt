@@ -4,7 +4,7 @@ use mathlib.Core.Path.{◌≡◌, sym, ◌∙◌}
 use mathlib.Core.List.{◌++◌}
 use Rattle.script_text.proofs.Nodes.{kind-above}
 use Rattle.script_text.proofs.Spelling.{above}
-use Rattle.script_lane_text.specs.Lines.{constantLine, equationLine, linesAt}
+use Rattle.script_lane_text.specs.Lines.{constant_line, equation_line, lines_at}
 use Rattle.script_lane_text.proofs.Spelling.{no_lines, lines-with}
 use borrow.Author.Rules.{rules}
 use Rattle.script_lane_text.proofs.put_node.Statement.{statement}
@@ -23,7 +23,7 @@ to-width c = c.before.before
 
 -- its two lines
 lines : (c : tie.After-width-of) → let a = (entry (to-kind c)).args in
-    linesAt a.p.now a.n.0 ≡ constantLine a.n.0 c.width_of_lem.result ++ equationLine a.p.now a.n.0
+    lines_at a.p.now a.n.0 ≡ constant_line a.n.0 c.width_of_lem.result ++ equation_line a.p.now a.n.0
 lines c =
     let k = to-kind c in
     let a = (entry k).args in

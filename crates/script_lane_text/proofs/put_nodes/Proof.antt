@@ -7,12 +7,12 @@ use Rattle.text_digits.specs.Writing.{Wrote}
 use Rattle.text_digits.proofs.Laws.{wrote-length}
 use Rattle.text_series.specs.Series.{up_to}
 use Rattle.text_series.proofs.Texts.{room_next, wrote-next, wrote-first}
-use Rattle.script_lane_text.specs.Lines.{linesAt}
+use Rattle.script_lane_text.specs.Lines.{lines_at}
 use Rattle.script_lane_text.proofs.put_nodes.Statement.{statement}
 use Rattle.script_lane_text.proofs.put_nodes.Tie as tie
 
 abbrev invariant-loop : tie.invariant-loop
-invariant-loop p count buf₀ at n₀ end₀ buf n end = Wrote buf₀ at (up_to n (linesAt p)) end buf × (n ≤ count) × (length buf ≡ length buf₀)
+invariant-loop p count buf₀ at n₀ end₀ buf n end = Wrote buf₀ at (up_to n (lines_at p)) end buf × (n ≤ count) × (length buf ≡ length buf₀)
 
 abbrev decreases-loop : tie.decreases-loop
 decreases-loop p count buf₀ at n₀ end₀ buf n end = count - n
@@ -25,14 +25,14 @@ turn p = p.before.before
 
 loop-holds : tie.Need-loop-init invariant-loop decreases-loop
 loop-holds c =
-    let st = c.before.before in (wrote-first (linesAt st.args.p.now) st.args.buf.now st.args.at, omega arith, refl)
+    let st = c.before.before in (wrote-first (lines_at st.args.p.now) st.args.buf.now st.args.at, omega arith, refl)
 
 put-node-requires : tie.Need-put-node-requires invariant-loop decreases-loop
 put-node-requires c κs =
     let t = c.before in
     let s = entry t.before in
     let l = t.before.loop in
-    (s.pre.0 l.n t.loop-test.true, room_next (linesAt s.args.p.now) s.args.count l.n t.loop-test.true s.pre.1 l.invariant.0)
+    (s.pre.0 l.n t.loop-test.true, room_next (lines_at s.args.p.now) s.args.count l.n t.loop-test.true s.pre.1 l.invariant.0)
 
 add-n : tie.Need-overflow-add-n invariant-loop decreases-loop
 add-n c = omega (arith, (turn c.before.before).loop-test.taken)
@@ -46,7 +46,7 @@ loop-again c =
     let t = turn p in
     let o = t.before.loop in
     let w = p.put-node.ensures in
-    (wrote-next (linesAt (entry t.before).args.p.now) o.n o.inv.0 w, omega (arith, t.loop-test.taken), wrote-length w ∙ o.inv.2)
+    (wrote-next (lines_at (entry t.before).args.p.now) o.n o.inv.0 w, omega (arith, t.loop-test.taken), wrote-length w ∙ o.inv.2)
 
 same_length : tie.Need-same-length invariant-loop decreases-loop
 same_length c =
@@ -57,7 +57,7 @@ returns c =
     let a = (entry c.before).args in
     let l = c.before.loop in
     let e : l.n ≡ a.count = omega (arith, l.invariant.1, c.loop-test.false) in
-    subst (λ (j : ℕ). Wrote a.buf.now a.at (up_to j (linesAt a.p.now)) l.end l.buf) e l.invariant.0
+    subst (λ (j : ℕ). Wrote a.buf.now a.at (up_to j (lines_at a.p.now)) l.end l.buf) e l.invariant.0
 
 pub put-nodes-spec : {M : Type 1} → statement M
 put-nodes-spec =

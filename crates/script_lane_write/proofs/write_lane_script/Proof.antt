@@ -5,7 +5,7 @@ use native.Mathlib.Omega.{arith}
 use lib.ListN.{length}
 use Rattle.pool_check.proofs.Passed.{few, below}
 use Rattle.script_length.proofs.Answers.{all_named}
-use Rattle.script_lane_meaning.specs.LaneScript.{laneScriptOf}
+use Rattle.script_lane_meaning.specs.LaneScript.{lane_script_of}
 use Rattle.script_lane_length.proofs.Answers.{Fine, fine}
 use Rattle.script_lane_write.proofs.Answers.{short, fits, first-number, refused, written}
 use borrow.Author.Rules.{rules}
@@ -30,7 +30,7 @@ none c =
     fine a.pool.now a.count a.a a.b a.hi a.lo 0 (omega (arith, c.before.lane-number.ensures, c.if1.false))
 
 -- the whole script fits the buffer
-room : (c : tie.Else2) → let a = (start c.before).args in length (laneScriptOf a.pool.now a.count a.a a.b a.hi a.lo) ≤ length a.buffer.now
+room : (c : tie.Else2) → let a = (start c.before).args in length (lane_script_of a.pool.now a.count a.a a.b a.hi a.lo) ≤ length a.buffer.now
 room c = omega (arith, c.before.lane-measure.ensures, c.if2.false)
 
 -- ---- needs

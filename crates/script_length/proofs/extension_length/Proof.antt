@@ -1,7 +1,7 @@
 -- `extension_length` gives the length of ((_ f by) a), f the function of the kind.
 use native.Mathlib.Omega.{arith}
 use Rattle.script_length.proofs.Sizes.{size-extension}
-use Rattle.script_meaning.specs.Script.{name_of, functionOf}
+use Rattle.script_meaning.specs.Script.{name_of, function_of}
 use Rattle.pool.specs.Node.{kind_at}
 use borrow.Author.Rules.{rules}
 use Rattle.script_length.proofs.extension_length.Statement.{statement}
@@ -36,7 +36,7 @@ returns c =
         c.name-length.ensures.0,
         at-number-length.number-length.ensures.0,
         at-function-length.function-length.ensures.0,
-        size-extension (functionOf
+        size-extension (function_of
             (kind_at a.k)) (name_of a.p.now a.a.0) a.by,
       ),
       omega

@@ -4,7 +4,7 @@ use lib.ListN.{length}
 use Rattle.terms.specs.Display.{decimal}
 use mathlib.Core.Path.{◌≡◌, refl, sym, ap, ◌∙◌}
 use native.Mathlib.Omega.{arith}
-use Rattle.pool.specs.Node.{kindNumber}
+use Rattle.pool.specs.Node.{kind_number}
 use Rattle.script_length.proofs.Sizes.{size-register, size-node}
 use Rattle.text_parts.proofs.Operands.{register-small}
 use borrow.Author.Rules.{rules}
@@ -15,7 +15,7 @@ abbrev entry : tie.After-kind-of → tie.Start
 entry c = c.before.before
 
 -- a Var
-var-is : (c : tie.Then1) → let a = (entry c.before).args in kindNumber a.p.now a.n.0 ≡ 1
+var-is : (c : tie.Then1) → let a = (entry c.before).args in kind_number a.p.now a.n.0 ≡ 1
 var-is c = sym c.before.kind-of.ensures ∙ c.if1.true
 
 kind-of-requires : tie.Need-kind-of-requires

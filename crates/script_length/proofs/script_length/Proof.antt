@@ -2,7 +2,7 @@
 use native.Mathlib.Omega.{arith}
 use mathlib.Core.Path.{◌≡◌}
 use Rattle.pool_check.proofs.Passed.{few, below}
-use Rattle.script_length.specs.Answer.{scriptNumber}
+use Rattle.script_length.specs.Answer.{script_number}
 use Rattle.script_length.proofs.Answers.{good, all_named, unmeasured, measured}
 use borrow.Author.Rules.{rules}
 use Rattle.script_length.proofs.script_length.Statement.{statement}
@@ -12,7 +12,7 @@ abbrev entry : tie.After-script-number → tie.Start
 entry c = c.before.before
 
 -- no refusal applies
-accepted : (c : tie.Else1) → let a = (entry c.before).args in scriptNumber a.pool.now a.count a.a a.b 0 ≡ 0
+accepted : (c : tie.Else1) → let a = (entry c.before).args in script_number a.pool.now a.count a.a a.b 0 ≡ 0
 accepted c = omega (arith, c.before.script-number.ensures, c.if1.false)
 
 script-number-requires : tie.Need-script-number-requires

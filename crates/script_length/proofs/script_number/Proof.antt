@@ -1,10 +1,10 @@
--- `script_number` gives `scriptNumber`: 1, then 5 for either node.
+-- `script_number` gives `script_number`: 1, then 5 for either node.
 use mathlib.Core.Bool.{true}
 use mathlib.Core.Path.{◌≡◌, sym, ◌∙◌}
 use borrow.Author.Tests.{not-true, not-false}
 use Prim.Native.Nat.{◌*◌, ◌≤◌}
 use lib.ListN.{length}
-use Rattle.pool.specs.Rules.{poolOk, ofWidth}
+use Rattle.pool.specs.Rules.{pool_ok, of_width}
 use Rattle.pool_check.proofs.Passed.{words-for}
 use Rattle.script_length.proofs.Answers.{bad-pool, bad-first, bad-second, good-nodes}
 use borrow.Author.Rules.{rules}
@@ -24,14 +24,14 @@ abbrev to-first : tie.After-of-width2 → tie.After-of-width
 to-first c = c.before.before
 
 -- the pool is valid
-valid : (c : tie.Else1) → let a = (entry c.before).args in poolOk a.pool.now a.count ≡ true
+valid : (c : tie.Else1) → let a = (entry c.before).args in pool_ok a.pool.now a.count ≡ true
 valid c = sym c.before.pool-check.ensures ∙ not-false _ c.if1.false
 
 words : (c : tie.Else1) → let a = (entry c.before).args in 4 * a.count ≤ length a.pool.now
 words c = let a = (entry c.before).args in words-for a.pool.now a.count (valid c)
 
 -- and the first node one of it
-first : (c : tie.Else2) → let a = (start c.before).args in ofWidth a.pool.now a.count a.a.0 128 ≡ true
+first : (c : tie.Else2) → let a = (start c.before).args in of_width a.pool.now a.count a.a.0 128 ≡ true
 first c = sym c.before.of_width.ensures ∙ not-false _ c.if2.false
 
 -- ---- needs

@@ -7,7 +7,7 @@ use lib.ListN.{length}
 use Rattle.terms.specs.Display.{bytes}
 use Rattle.pool.specs.Node.{kind_at, width_at, word_at, wide}
 use Rattle.script_meaning.specs.Sexp.{Sexp, show}
-use Rattle.script_meaning.specs.Script.{name_of, functionOf, apply1, apply2, apply3, index1, index2}
+use Rattle.script_meaning.specs.Script.{name_of, function_of, apply1, apply2, apply3, index1, index2}
 use Rattle.script_text.proofs.Nodes.{constant, three-of, cut_of, two-of, extension-of, extension-term, kind-below}
 use Rattle.text_parts.proofs.Operands.{range_small, width_small}
 use Rattle.script_length.proofs.Sizes.{named-as, size-constant}
@@ -155,7 +155,7 @@ returns-4 c =
     let s = two-entry both in
     let l = from-three both in
     let t = two-of (ws s) (n s) s.pre.0.ready (k s) s.pre.1 l (two both).if4.true (two both).before.before.if2.false (two both).before.if3.false in (
-      c.two-length.ensures.0 ∙ (λ j. length (show (apply2 (functionOf (kind_at (k s))) (name_of (ws s) (both.before.first3.ensures j)) (name_of (ws s)
+      c.two-length.ensures.0 ∙ (λ j. length (show (apply2 (function_of (kind_at (k s))) (name_of (ws s) (both.before.first3.ensures j)) (name_of (ws s)
           (both.second2.ensures j))))) ∙ sym (ap (λ (u : Sexp). length (show u)) t.term_is),
       c.two-length.ensures.1,
     )
@@ -200,7 +200,7 @@ returns-5 c =
     let s = extension-entry f in
     let e = operand.before.width-of3.ensures.0 ∙ ap (width_at (ws s)) f.first4.ensures in
     let g = (widened f).width-of2.ensures.0 in (
-      c.extension-length.ensures.0 ∙ (λ j. length (show (apply1 (index1 (functionOf (kind_at (k s))) (g j - e j)) (name_of (ws s) (operand.first5.ensures j))))) ∙ sym (ap
+      c.extension-length.ensures.0 ∙ (λ j. length (show (apply1 (index1 (function_of (kind_at (k s))) (g j - e j)) (name_of (ws s) (operand.first5.ensures j))))) ∙ sym (ap
           (λ (u : Sexp). length (show u)) (extension-term (ws s) (n s) s.pre.0.ready (k s) s.pre.1 (extension f).if4.false)),
       c.extension-length.ensures.1,
     )

@@ -1,7 +1,7 @@
 -- `two_length` gives the length of (f a b), f the function of the kind.
 use native.Mathlib.Omega.{arith}
 use Rattle.script_length.proofs.Sizes.{size-2}
-use Rattle.script_meaning.specs.Script.{name_of, functionOf}
+use Rattle.script_meaning.specs.Script.{name_of, function_of}
 use Rattle.pool.specs.Node.{kind_at}
 use borrow.Author.Rules.{rules}
 use Rattle.script_length.proofs.two_length.Statement.{statement}
@@ -36,7 +36,7 @@ returns c =
         c.name-length2.ensures.0,
         at-name-length.name-length.ensures.0,
         at-function-length.function-length.ensures.0,
-        size-2 (functionOf (kind_at
+        size-2 (function_of (kind_at
             a.k)) (name_of a.p.now a.a.0) (name_of a.p.now a.b.0),
       ),
       omega

@@ -3,7 +3,7 @@ use mathlib.Core.Path.{refl}
 use Prim.Native.Nat.{◌*◌, ◌≤◌}
 use native.Mathlib.Omega.{arith}
 use lib.ListN.{length-take}
-use Rattle.script_lines.proofs.Asks.{within, given-refused, no-registers, long-input, lines-refused, lines_fit, block_refused, pool-kept, given-asked}
+use Rattle.script_lines.proofs.Asks.{within, given-refused, no-registers, long-input, lines-refused, lines_fit, block_refused, pool_kept, given-asked}
 use borrow.Author.Rules.{rules}
 use Rattle.script_lines.proofs.script_text.Statement.{statement}
 use Rattle.script_lines.proofs.script_text.Tie as tie
@@ -115,7 +115,7 @@ returns-4 c =
     given-refused a.input.now a.a a.b a.pool.now a.out.now _ _ u.if4.true
     (block_refused a.input.now a.a a.b a.pool.now a.out.now p.0 p.1 s r.result refl r.ensures t.if3.left k.lower_block.result k.lower_block.ensures)
     c.refused4.result c.refused4.ensures
-    (pool-kept a.input.now a.a a.b a.pool.now a.out.now p.0 p.1 s r.result refl r.ensures t.if3.left k.lower_block.result k.lower_block.ensures
+    (pool_kept a.input.now a.a a.b a.pool.now a.out.now p.0 p.1 s r.result refl r.ensures t.if3.left k.lower_block.result k.lower_block.ensures
     u.if4.true)
 
 get-requires : tie.Need-get-requires

@@ -3,7 +3,7 @@ use mathlib.Core.List.{List, [], ◌∷◌}
 use Rattle.terms.specs.Display.{bytes}
 use Rattle.text_digits.specs.Writing.{Room}
 use Rattle.script_meaning.specs.Sexp.{show}
-use Rattle.script_meaning.specs.Script.{nodeName, sortBy, termOf}
+use Rattle.script_meaning.specs.Script.{node_name, sort_by, term_of}
 use Rattle.script_text.specs.Lines.{line_at}
 use Rattle.script_text.proofs.Parts.{together, left}
 use Rattle.text_digits.proofs.Laws.{room-front, room-step, room_as, wrote_none, wrote_then, wrote_as}
@@ -75,7 +75,7 @@ before-7 c = c.before.before.before.before.before
 abbrev texts : tie.After-width-of → List (List ℕ)
 texts s =
     let a = (entry s).args in
-    bytes "(define-fun " ∷ nodeName a.n.0 ∷ bytes " () " ∷ show (sortBy s.width_of_lem.result) ∷ bytes " " ∷ show (termOf a.p.now a.n.0) ∷ bytes ")\n" ∷ []
+    bytes "(define-fun " ∷ node_name a.n.0 ∷ bytes " () " ∷ show (sort_by s.width_of_lem.result) ∷ bytes " " ∷ show (term_of a.p.now a.n.0) ∷ bytes ")\n" ∷ []
 
 spelled : (s : tie.After-width-of) → line_at (entry s).args.p.now (entry s).args.n.0 ≡ together (texts s)
 spelled s =

@@ -3,7 +3,7 @@ use mathlib.Core.Path.{sym}
 use Prim.Native.Nat.{◌≤◌}
 use native.Mathlib.Omega.{arith}
 use lib.ListN.{length}
-use Rattle.script_meaning.specs.Script.{scriptOf}
+use Rattle.script_meaning.specs.Script.{script_of}
 use Rattle.script_write.proofs.Answers.{short, fits, first-number, refused, written}
 use Rattle.pool_check.proofs.Passed.{few, below}
 use Rattle.script_length.proofs.Answers.{Good, good, all_named}
@@ -26,7 +26,7 @@ none c =
     good a.pool.now a.count a.a a.b 0 (omega (arith, c.before.script-number.ensures, c.if1.false))
 
 -- the whole script fits the buffer
-room : (c : tie.Else2) → let a = (start c.before).args in length (scriptOf a.pool.now a.count a.a a.b) ≤ length a.buffer.now
+room : (c : tie.Else2) → let a = (start c.before).args in length (script_of a.pool.now a.count a.a a.b) ≤ length a.buffer.now
 room c = omega (arith, c.before.measure.ensures, c.if2.false)
 
 -- ---- needs

@@ -15,7 +15,7 @@ returns c =
     let b = c.before in
     let w = b.before in
     record {
-      next-is = w.write-node.ensures.1;
+      next_is = w.write-node.ensures.1;
       after_is = b.buffer.given.1.0 (sym (ap (λ x. x.ghost_name) w.write-node.ensures.0)) ∙ ap (λ x. x.now) w.write-node.ensures.0;
     }
 

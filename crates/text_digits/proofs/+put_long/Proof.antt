@@ -72,7 +72,7 @@ module _ (t : ℕ) where
 
   after : (c : Tens) → c.put-long.result + 1 ≤ length c.put-long.new.1.0
   unfolding decimal
-  after c = let w = c.put-long.ensures in omega (arith, longer (to-split c), (start (to-split c)).pre.1.1, w.next-is, wrote-length w)
+  after c = let w = c.put-long.ensures in omega (arith, longer (to-split c), (start (to-split c)).pre.1.1, w.next_is, wrote-length w)
 
   -- ---- the needs
 

@@ -94,7 +94,7 @@ module _ (t : ℕ) where
 
   after : (c : Front) → c.put-sixteens.result + 1 ≤ length c.put-sixteens.new.1.1.0
   unfolding hexadecimal
-  after c = let w = c.put-sixteens.ensures in omega (arith, longer (start-front c), (start-front c).requires.1.1, w.next-is, wrote-length w)
+  after c = let w = c.put-sixteens.ensures in omega (arith, longer (start-front c), (start-front c).requires.1.1, w.next_is, wrote-length w)
 
   -- ---- the needs
 

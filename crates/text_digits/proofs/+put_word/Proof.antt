@@ -118,7 +118,7 @@ module _ (t : ℕ) where
       let p = c.before.before.before in
       let e = p.before.before in
       let w = p.put-word.ensures in
-      (omega arith, omega (arith, longer e, (entry e.before).pre.1, w.next-is, wrote-length w))
+      (omega arith, omega (arith, longer e, (entry e.before).pre.1, w.next_is, wrote-length w))
 
   same-length-3 : put-word-lts.Need-same-length-3 (claims t) (put-word-at t) put-word.Post
   same-length-3 c = let l = c.before.before in wrote-length (wrote_then (front l).put-word.ensures l.put-byte2.ensures)

@@ -2,104 +2,104 @@
 use mathlib.Core.Path.{◌≡◌}
 use Prim.Native.Nat.{ℕ, zero, suc, ◌≤◌, ◌<◌}
 use native.Mathlib.Omega.{arith}
-use Rattle.text_digits.specs.Pairs.{fourPairs}
+use Rattle.text_digits.specs.Pairs.{four_pairs}
 use Rattle.text_digits.proofs.pairs.Statement.{statement}
 use Rattle.text_digits.proofs.pairs.Tie as tie
 
 returns : tie.Need-returns
-unfolding fourPairs
+unfolding four_pairs
 returns c = rw c.match.keys1
 
 returns-2 : tie.Need-returns-2
-unfolding fourPairs
+unfolding four_pairs
 returns-2 c = rw c.match.keys2
 
 returns-3 : tie.Need-returns-3
-unfolding fourPairs
+unfolding four_pairs
 returns-3 c = rw c.match.keys3
 
 returns-4 : tie.Need-returns-4
-unfolding fourPairs
+unfolding four_pairs
 returns-4 c = rw c.match.keys4
 
 returns-5 : tie.Need-returns-5
-unfolding fourPairs
+unfolding four_pairs
 returns-5 c = rw c.match.keys5
 
 returns-6 : tie.Need-returns-6
-unfolding fourPairs
+unfolding four_pairs
 returns-6 c = rw c.match.keys6
 
 returns-7 : tie.Need-returns-7
-unfolding fourPairs
+unfolding four_pairs
 returns-7 c = rw c.match.keys7
 
 returns-8 : tie.Need-returns-8
-unfolding fourPairs
+unfolding four_pairs
 returns-8 c = rw c.match.keys8
 
 returns-9 : tie.Need-returns-9
-unfolding fourPairs
+unfolding four_pairs
 returns-9 c = rw c.match.keys9
 
 returns-10 : tie.Need-returns-10
-unfolding fourPairs
+unfolding four_pairs
 returns-10 c = rw c.match.keys10
 
 returns-11 : tie.Need-returns-11
-unfolding fourPairs
+unfolding four_pairs
 returns-11 c = rw c.match.keys11
 
 returns-12 : tie.Need-returns-12
-unfolding fourPairs
+unfolding four_pairs
 returns-12 c = rw c.match.keys12
 
 returns-13 : tie.Need-returns-13
-unfolding fourPairs
+unfolding four_pairs
 returns-13 c = rw c.match.keys13
 
 returns-14 : tie.Need-returns-14
-unfolding fourPairs
+unfolding four_pairs
 returns-14 c = rw c.match.keys14
 
 returns-15 : tie.Need-returns-15
-unfolding fourPairs
+unfolding four_pairs
 returns-15 c = rw c.match.keys15
 
 returns-16 : tie.Need-returns-16
-unfolding fourPairs
+unfolding four_pairs
 returns-16 c = rw c.match.keys16
 
 returns-17 : tie.Need-returns-17
-unfolding fourPairs
+unfolding four_pairs
 returns-17 c = rw c.match.keys17
 
 returns-18 : tie.Need-returns-18
-unfolding fourPairs
+unfolding four_pairs
 returns-18 c = rw c.match.keys18
 
 returns-19 : tie.Need-returns-19
-unfolding fourPairs
+unfolding four_pairs
 returns-19 c = rw c.match.keys19
 
 returns-20 : tie.Need-returns-20
-unfolding fourPairs
+unfolding four_pairs
 returns-20 c = rw c.match.keys20
 
 returns-21 : tie.Need-returns-21
-unfolding fourPairs
+unfolding four_pairs
 returns-21 c = rw c.match.keys21
 
 returns-22 : tie.Need-returns-22
-unfolding fourPairs
+unfolding four_pairs
 returns-22 c = rw c.match.keys22
 
 returns-23 : tie.Need-returns-23
-unfolding fourPairs
+unfolding four_pairs
 returns-23 c = rw c.match.keys23
 
 returns-24 : tie.Need-returns-24
-unfolding fourPairs
+unfolding four_pairs
 returns-24 c = rw c.match.keys24
 
 -- past the arms below i
@@ -115,7 +115,7 @@ none : {k : ℕ} → k < 25 → 25 ≤ k → ⊥
 none l h = omega arith
 
 returns-25 : tie.Need-returns-25
-unfolding fourPairs
+unfolding four_pairs
 returns-25 c = rw c.match.keys25
 
 returns-26 : tie.Need-returns-26

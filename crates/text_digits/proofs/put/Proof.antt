@@ -26,7 +26,7 @@ inside : (c : tie.In-loop invariant-loop decreases-loop) → c.before.loop.i < l
 inside c =
     let l = c.before.loop in
     let s = entry c.before in
-    omega (arith, l.invariant.0.next-is, length-take-le l.j s.args.s.now l.invariant.1.0, s.pre, c.loop-test.true)
+    omega (arith, l.invariant.0.next_is, length-take-le l.j s.args.s.now l.invariant.1.0, s.pre, c.loop-test.true)
 
 loop-holds : tie.Need-loop-init invariant-loop decreases-loop
 loop-holds c = (wrote_none _ _, omega arith)

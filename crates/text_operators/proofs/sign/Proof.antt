@@ -2,32 +2,32 @@
 use mathlib.Core.Path.{◌≡◌}
 use native.Mathlib.Omega.{arith}
 use Rattle.pool.specs.Node.{kind_at, kinds}
-use Rattle.text_operators.specs.Between.{betweenText}
+use Rattle.text_operators.specs.Between.{between_text}
 use Rattle.text_operators.proofs.sign.Statement.{statement}
 use Rattle.text_operators.proofs.sign.Tie as tie
 
 returns : tie.Need-returns
-unfolding betweenText kind_at kinds
+unfolding between_text kind_at kinds
 returns c = rw c.match.keys1
 
 returns-2 : tie.Need-returns-2
-unfolding betweenText kind_at kinds
+unfolding between_text kind_at kinds
 returns-2 c = rw c.match.keys2
 
 returns-3 : tie.Need-returns-3
-unfolding betweenText kind_at kinds
+unfolding between_text kind_at kinds
 returns-3 c = rw c.match.keys3
 
 returns-4 : tie.Need-returns-4
-unfolding betweenText kind_at kinds
+unfolding between_text kind_at kinds
 returns-4 c = rw c.match.keys4
 
 returns-5 : tie.Need-returns-5
-unfolding betweenText kind_at kinds
+unfolding between_text kind_at kinds
 returns-5 c = rw c.match.keys5
 
 returns-6 : tie.Need-returns-6
-unfolding betweenText kind_at kinds
+unfolding between_text kind_at kinds
 returns-6 c = let e : c.before.args.k ≡ 8 = omega arith in rw e
 
 pub sign-spec : {M : Type 1} → statement M

@@ -4,7 +4,7 @@ use mathlib.Core.Path.{◌≡◌}
 use Rattle.terms.specs.Display.{bytes, decimal}
 use Rattle.text_digits.specs.Writing.{Room}
 use Rattle.text_digits.proofs.Laws.{room-front, room-step, room_as, wrote_then, wrote_as}
-use Rattle.text_parts.specs.Text.{endText, rangeText, widthText}
+use Rattle.text_parts.specs.Text.{end_text, range_text, width_text}
 use Rattle.text_parts.proofs.Operands.{is-single, from-18, to-nineteen}
 use Rattle.text_parts.proofs.Tree.{end-range, end-width}
 use borrow.Author.Rules.{rules}
@@ -15,13 +15,13 @@ use Rattle.text_parts.proofs.put_end.Tie as tie
 abbrev start-range : tie.After-cut-lo → tie.Start
 start-range c = c.before.before.before.before.before
 
-range-is : (c : tie.After-cut-lo) → let a = (start-range c).args in endText a.p.now a.n.0 ≡ rangeText c.before.cut-hi.result.0 c.cut-lo.result.0
+range-is : (c : tie.After-cut-lo) → let a = (start-range c).args in end_text a.p.now a.n.0 ≡ range_text c.before.cut-hi.result.0 c.cut-lo.result.0
 range-is c =
     let l = c.before in
     let s = start-range c in
     end-range s.args.p.now s.args.n.0 s.pre.0.1 l.before.if1.true l.cut-hi.ensures c.cut-lo.ensures
 
-range-room : (c : tie.After-cut-lo) → let a = (start-range c).args in Room a.buf.now a.at (rangeText c.before.cut-hi.result.0 c.cut-lo.result.0)
+range-room : (c : tie.After-cut-lo) → let a = (start-range c).args in Room a.buf.now a.at (range_text c.before.cut-hi.result.0 c.cut-lo.result.0)
 range-room c = room_as (range-is c) (start-range c).requires.1
 
 -- the high bit is written
@@ -40,7 +40,7 @@ high-written c = c.before.before.before.before
 abbrev start-width : tie.After-width-of → tie.Start
 start-width c = c.before.before.before.before
 
-width_is : (c : tie.After-width-of) → let a = (start-width c).args in endText a.p.now a.n.0 ≡ widthText c.width_of_lem.result
+width_is : (c : tie.After-width-of) → let a = (start-width c).args in end_text a.p.now a.n.0 ≡ width_text c.width_of_lem.result
 width_is c =
     let s = start-width c in
     let a = s.args in

@@ -4,7 +4,7 @@ use Prim.Native.Nat.{ℕ, ◌≤◌, ◌<◌}
 use native.Mathlib.Omega.{arith}
 use Rattle.pool.specs.Node.{kind_at, kinds}
 use Rattle.terms.specs.Display.{bytes}
-use Rattle.text_parts.specs.Text.{openText}
+use Rattle.text_parts.specs.Text.{open_text}
 use Rattle.text_digits.proofs.Laws.{room_as, wrote_none, wrote_as}
 use Rattle.text_parts.proofs.Tree.{bracket}
 use borrow.Author.Rules.{rules}
@@ -23,7 +23,7 @@ signed {k} l h e r = go r.0.0.1 r.0.1 r.1
 abbrev operator-entry : tie.Then1 → tie.Start
 operator-entry c = c.before.before
 
-opens : (c : tie.Then1) → openText (operator-entry c).args.k ≡ bytes "("
+opens : (c : tie.Then1) → open_text (operator-entry c).args.k ≡ bytes "("
 opens c = bracket (operator-entry c).requires.0 c.if1.true
 
 abbrev entry : tie.Else2 → tie.Start
@@ -34,7 +34,7 @@ last c = signed (entry c.before).requires.1 c.before.before.if1.false c.before.i
 
 -- each arm's key is the kind whose text is due
 pub put-open-spec : {M : Type 1} → statement M
-unfolding openText kind_at kinds
+unfolding open_text kind_at kinds
 put-open-spec =
     tie.close
     (tie.spec
@@ -44,18 +44,18 @@ put-open-spec =
     (λ c. wrote_as (opens c.before.before.before.before.before) c.before.before.put.ensures)
     (λ c. let st = c.before.before.before in rw c.if2.true (wrote_none st.args.buf.now st.args.at))
     (λ c. search rules)
-    (λ c κs. room_as (ap openText c.before.before.match.keys1) (entry c.before.before.before).requires.2)
+    (λ c κs. room_as (ap open_text c.before.before.match.keys1) (entry c.before.before.before).requires.2)
     (λ c. search rules)
-    (λ c κs. room_as (ap openText c.before.before.match.keys2) (entry c.before.before.before).requires.2)
+    (λ c κs. room_as (ap open_text c.before.before.match.keys2) (entry c.before.before.before).requires.2)
     (λ c. search rules)
-    (λ c κs. room_as (ap openText c.before.before.match.keys3) (entry c.before.before.before).requires.2)
+    (λ c κs. room_as (ap open_text c.before.before.match.keys3) (entry c.before.before.before).requires.2)
     (λ c. search rules)
-    (λ c κs. room_as (ap openText (last c.before.before)) (entry c.before.before.before).requires.2)
+    (λ c κs. room_as (ap open_text (last c.before.before)) (entry c.before.before.before).requires.2)
     (λ c. search rules)
-    (λ c. wrote_as (ap openText c.before.before.before.before.before.match.keys1) c.before.before.put2.ensures)
+    (λ c. wrote_as (ap open_text c.before.before.before.before.before.match.keys1) c.before.before.put2.ensures)
     (λ c. search rules)
-    (λ c. wrote_as (ap openText c.before.before.before.before.before.match.keys2) c.before.before.put3.ensures)
+    (λ c. wrote_as (ap open_text c.before.before.before.before.before.match.keys2) c.before.before.put3.ensures)
     (λ c. search rules)
-    (λ c. wrote_as (ap openText c.before.before.before.before.before.match.keys3) c.before.before.put4.ensures)
+    (λ c. wrote_as (ap open_text c.before.before.before.before.before.match.keys3) c.before.before.put4.ensures)
     (λ c. search rules)
-    (λ c. wrote_as (ap openText (last c.before.before.before.before.before)) c.before.before.put5.ensures))
+    (λ c. wrote_as (ap open_text (last c.before.before.before.before.before)) c.before.before.put5.ensures))

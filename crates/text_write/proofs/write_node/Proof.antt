@@ -18,8 +18,8 @@ write-term-requires c κs = search rules
 returns : tie.Need-returns
 returns c =
     ⊎_elim
-    (λ w. (w.5 ∙ behind-whole w.3.ensures, w.4 ∙ w.3.ensures.wrote.next-is))
-    (λ w. (w.5 ∙ behind-whole w.3.ensures, w.4 ∙ w.3.ensures.wrote.next-is))
+    (λ w. (w.5 ∙ behind-whole w.3.ensures, w.4 ∙ w.3.ensures.wrote.next_is))
+    (λ w. (w.5 ∙ behind-whole w.3.ensures, w.4 ∙ w.3.ensures.wrote.next_is))
     c.if1.branch
 
 pub write-node-spec : {M : Type 1} → statement M

@@ -8,12 +8,12 @@ use borrow.Author.Rules.{rules}
 use borrow.Author.Tests.{not-true, not-false}
 use Rattle.neon.proofs.First.{one_more}
 use Rattle.words_encoding.specs.Decode.{decode}
-use Rattle.words_lists.specs.Words.{isRecord, isLegalWord}
+use Rattle.words_lists.specs.Words.{is_record, is_legal_word}
 use Rattle.words_lists.proofs.good_words.Statement.{statement}
 use Rattle.words_lists.proofs.good_words.Tie as tie
 
 abbrev invariant-loop : tie.invariant-loop
-invariant-loop bytes count j₀ j = (count ≡ length bytes / 4) × (j ≤ count) × ((i : ℕ) → i < j → isLegalWord bytes i ≡ true)
+invariant-loop bytes count j₀ j = (count ≡ length bytes / 4) × (j ≤ count) × ((i : ℕ) → i < j → is_legal_word bytes i ≡ true)
 
 abbrev decreases-loop : tie.decreases-loop
 decreases-loop bytes count j₀ j = count - j
@@ -30,8 +30,8 @@ abbrev top : tie.After-is-record invariant-loop decreases-loop → tie.At-loop i
 top r = (turn r).before
 
 -- the word of a turn is tested
-tested : (r : tie.After-is-record invariant-loop decreases-loop) → let l = top r in isLegalWord (entry l).args.bytes.now l.loop.j ≡ r.is-record.result
-tested r = ap (λ (x : ℕ). isRecord (decode x)) (sym r.before.word-at.ensures) ∙ sym r.is-record.ensures
+tested : (r : tie.After-is-record invariant-loop decreases-loop) → let l = top r in is_legal_word (entry l).args.bytes.now l.loop.j ≡ r.is-record.result
+tested r = ap (λ (x : ℕ). is_record (decode x)) (sym r.before.word-at.ensures) ∙ sym r.is-record.ensures
 
 -- ---- needs
 
@@ -73,7 +73,7 @@ loop-again c =
     let good = tested c.before ∙ not-false c.before.is-record.result c.if1.false in (
       l.loop.inv.0,
       omega (arith, (turn c.before).loop-test.taken),
-      one_more (isLegalWord bs) l.loop.j l.loop.inv.2 good,
+      one_more (is_legal_word bs) l.loop.j l.loop.inv.2 good,
     )
 
 returns-2 : tie.Need-returns-2 invariant-loop decreases-loop

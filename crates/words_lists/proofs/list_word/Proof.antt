@@ -65,7 +65,7 @@ returns-2 c =
     let q = c.before.before in
     let r = q.before.before.before in
     let w = q.put-line.ensures in
-    (wrote_as (ap listed (is r)) w, omega (arith, w.next-is, line-length (form r) (legal r)))
+    (wrote_as (ap listed (is r)) w, omega (arith, w.next_is, line-length (form r) (legal r)))
 
 pub list-word-spec : {M : Type 1} → statement M
 list-word-spec = tie.close (tie.spec decode-word-requires enum-known-r enum_told returns put-line-requires same_length returns-2)

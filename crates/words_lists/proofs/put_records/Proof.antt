@@ -9,7 +9,7 @@ use Rattle.text_digits.proofs.Laws.{wrote-length, wrote_as, room_as}
 use Rattle.words_encoding.specs.Decode.{decode}
 use Rattle.text_series.specs.Series.{up_to}
 use Rattle.text_series.proofs.Texts.{room_next, wrote-next, wrote-first}
-use Rattle.words_lists.specs.Words.{word_at, flat, recordsIn}
+use Rattle.words_lists.specs.Words.{word_at, flat, records_in}
 use Rattle.words_lists.proofs.put_records.Statement.{statement}
 use Rattle.words_lists.proofs.put_records.Tie as tie
 
@@ -40,7 +40,7 @@ word-at-requires : tie.Need-word-at-requires invariant-loop decreases-loop
 word-at-requires c κs = omega (arith, in_words c)
 
 put-record-requires : tie.Need-put-record-requires invariant-loop decreases-loop
-unfolding recordsIn
+unfolding records_in
 put-record-requires c κs =
     let w = c.before in
     let l = w.before.before in
@@ -71,7 +71,7 @@ same_length c =
     c.before.loop.invariant.3
 
 returns : tie.Need-returns invariant-loop decreases-loop
-unfolding recordsIn
+unfolding records_in
 returns c =
     let l = c.before.loop in
     let a = (entry c.before).args in

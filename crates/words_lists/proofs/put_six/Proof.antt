@@ -71,7 +71,7 @@ same_length c = search rules
 
 returns : tie.Need-returns
 returns c =
-    record { next-is = refl; after_is = simp towards_suc }
+    record { next_is = refl; after_is = simp towards_suc }
 
 pub put-six-spec : {M : Type 1} → statement M
 put-six-spec =

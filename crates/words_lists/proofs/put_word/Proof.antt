@@ -51,7 +51,7 @@ same_length c = search rules
 
 returns : tie.Need-returns
 returns c =
-    record { next-is = refl; after_is = simp towards_suc }
+    record { next_is = refl; after_is = simp towards_suc }
 
 pub put-word-spec : {M : Type 1} → statement M
 put-word-spec =

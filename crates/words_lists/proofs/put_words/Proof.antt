@@ -8,7 +8,7 @@ use Rattle.neon.specs.declared.Instruction.{Instruction}
 use Rattle.neon.specs.Refusal.{Legal}
 use Rattle.text_digits.specs.Writing.{Wrote}
 use Rattle.text_digits.proofs.Laws.{wrote-length, wrote_as}
-use Rattle.block_record_check.specs.Record.{recordAt}
+use Rattle.block_record_check.specs.Record.{record_at}
 use Rattle.words_encoding.specs.Word.{encode}
 use Rattle.text_series.specs.Series.{up_to}
 use Rattle.text_series.proofs.Texts.{room_next, wrote-next, wrote-first}
@@ -17,7 +17,7 @@ use Rattle.words_lists.proofs.put_words.Statement.{statement}
 use Rattle.words_lists.proofs.put_words.Tie as tie
 
 abbrev rows : List ℕ → ℕ → List ℕ
-rows fs j = word_bytes (encode (recordAt fs j))
+rows fs j = word_bytes (encode (record_at fs j))
 
 abbrev invariant-loop : tie.invariant-loop
 invariant-loop records bytes₀ count j₀ end₀ bytes j end =

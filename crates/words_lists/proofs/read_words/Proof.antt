@@ -3,7 +3,7 @@ use mathlib.Core.Path.{◌≡◌}
 use Prim.Native.Nat.{◌*◌}
 use native.Mathlib.Omega.{arith}
 use lib.ListN.{length}
-use Rattle.words_lists.specs.Words.{wholeWords, recordsIn}
+use Rattle.words_lists.specs.Words.{whole_words, records_in}
 use Rattle.words_lists.proofs.Answers.{bad-word, broken-word, short-list, no-refusal, records-length, refused, written}
 use borrow.Author.Rules.{rules}
 use Rattle.words_lists.proofs.read_words.Statement.{statement}
@@ -24,7 +24,7 @@ abbrev good : tie.Else3 → tie.Else1
 good t = t.before.before
 
 -- the records of the words, six numbers each
-size : (e : tie.Else1) → let bs = (start e).args.bytes.now in length (recordsIn bs) ≡ 6 * wholeWords bs
+size : (e : tie.Else1) → let bs = (start e).args.bytes.now in length (records_in bs) ≡ 6 * whole_words bs
 size e =
     let w = (counted e).good-words in
     records-length (start e).args.bytes.now w.result w.ensures e.if1.false

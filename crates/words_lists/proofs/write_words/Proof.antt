@@ -2,8 +2,8 @@
 use mathlib.Core.Path.{◌≡◌}
 use native.Mathlib.Omega.{arith}
 use lib.ListN.{length}
-use Rattle.neon.specs.Refusal.{recordsRefusal}
-use Rattle.block_check.specs.Records.{recordsOf}
+use Rattle.neon.specs.Refusal.{records_refusal}
+use Rattle.block_check.specs.Records.{records_of}
 use Rattle.words_lists.proofs.Answers.{words-length, all-good, short-bytes, all_fit, record-refused, bytes-refused, words-written}
 use borrow.Author.Rules.{rules}
 use Rattle.words_lists.proofs.write_words.Statement.{statement}
@@ -16,7 +16,7 @@ entry c = c.before.before.before
 abbrev start : tie.Else1 → tie.Start
 start e = entry e.before
 
-none : (e : tie.Else1) → (recordsRefusal 0 (recordsOf (start e).args.records.now)).number ≡ 0
+none : (e : tie.Else1) → (records_refusal 0 (records_of (start e).args.records.now)).number ≡ 0
 none e = omega (arith, e.before.records-refusal.ensures.0, e.if1.false)
 
 records-refusal-requires : tie.Need-records-refusal-requires

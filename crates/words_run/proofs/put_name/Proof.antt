@@ -18,7 +18,7 @@ abbrev begun : tie.After-put-decimal → tie.After-put
 begun c = c.before.before.before.before
 
 from_front : (c : tie.After-put) → let a = (entry c).args in (c.put.result ≡ a.at + 12) × (length c.put.new.1.0 ≡ length a.out.now)
-from_front c = let w = c.put.ensures in (omega (arith, w.next-is), wrote-length w)
+from_front c = let w = c.put.ensures in (omega (arith, w.next_is), wrote-length w)
 
 from-middle : (c : tie.After-put-decimal) → let a = (entry (begun c)).args in
     (c.put-decimal.result ≤ a.at + 32) × (length c.put-decimal.new.1.0 ≡ length a.out.now)
@@ -26,7 +26,7 @@ from-middle c =
     let w = c.put-decimal.ensures in
     let f = from_front (begun c) in
     let s = entry (begun c) in
-    (omega (arith, f.0, w.next-is, word-short s.args.j (omega arith)), omega (arith, f.1, wrote-length w))
+    (omega (arith, f.0, w.next_is, word-short s.args.j (omega arith)), omega (arith, f.1, wrote-length w))
 
 -- ---- needs
 
@@ -60,7 +60,7 @@ returns c =
     let e = c.before.before in
     let d = e.before.before.before.before.before in
     let b = begun d in
-    (wrote_then b.put.ensures (wrote_then d.put-decimal.ensures e.put2.ensures), omega (arith, (from-middle d).0, e.put2.ensures.next-is))
+    (wrote_then b.put.ensures (wrote_then d.put-decimal.ensures e.put2.ensures), omega (arith, (from-middle d).0, e.put2.ensures.next_is))
 
 pub put-name-spec : {M : Type 1} → statement M
 put-name-spec =

@@ -11,14 +11,14 @@ use Rattle.text_digits.specs.Writing.{Wrote}
 use Rattle.text_digits.proofs.Laws.{wrote-length}
 use Rattle.text_series.specs.Series.{up_to}
 use Rattle.text_series.proofs.Texts.{wrote-first, wrote-row}
-use Rattle.words_run.specs.Rows.{wordCount, row}
+use Rattle.words_run.specs.Rows.{word_count, row}
 use borrow.Author.Rules.{rules}
 use Rattle.words_run.proofs.put_rows.Statement.{statement}
 use Rattle.words_run.proofs.put_rows.Tie as tie
 
 abbrev invariant-loop : tie.invariant-loop
 invariant-loop refusals bytes from out₀ count next₀ output₀ out next output =
-    (count ≡ wordCount bytes) × (from ≤ next) × (from ≤ count → next ≤ count) × (length out ≡ length out₀)
+    (count ≡ word_count bytes) × (from ≤ next) × (from ≤ count → next ≤ count) × (length out ≡ length out₀)
     × Wrote out₀ 0 (up_to (next - from) (λ i. row refusals bytes (from + i))) output out × (output ≤ length out) × (next ≡ from → output ≡ 0)
 
 abbrev decreases-loop : tie.decreases-loop
@@ -76,7 +76,7 @@ returns c =
       after = i.1;
       inside = λ h. omega (arith, i.0, i.2 (omega (arith, h, i.0)));
       wrote = i.4;
-      output-in = i.5;
+      output_in = i.5;
       further = λ h k. some_written i.1 i.6 (omega (arith, k, i.3, c.if1.true));
       stops = λ h. omega (arith, i.3, i.5, c.if1.true);
     }
@@ -119,7 +119,7 @@ returns-2 c =
       after = i.1;
       inside = λ h. omega (arith, i.0, i.2 (omega (arith, h, i.0)));
       wrote = i.4;
-      output-in = i.5;
+      output_in = i.5;
       further = λ h k. omega (arith, h, i.0, c.loop-test.false);
       stops = λ h. absurd (omega (arith, h, i.0, c.loop-test.false));
     }

@@ -6,17 +6,17 @@ use borrow.Author.Rules.{rules}
 use borrow.Author.Tests.{not-true, not-false}
 use Rattle.text_digits.proofs.Laws.{wrote_then, wrote_none}
 use Rattle.words_encoding.specs.Decode.{decode}
-use Rattle.words_lists.specs.Words.{isRecord}
+use Rattle.words_lists.specs.Words.{is_record}
 use Rattle.words_run.proofs.put_word_row.Statement.{statement}
 use Rattle.words_run.proofs.put_word_row.Tie as tie
 
 abbrev entry : tie.After-is-record → tie.Start
 entry c = c.before.before
 
-foreign : (c : tie.Then1) → isRecord (decode (entry c.before).args.w) ≡ false
+foreign : (c : tie.Then1) → is_record (decode (entry c.before).args.w) ≡ false
 foreign c = let r = c.before.is-record in sym r.ensures ∙ not-true r.result c.if1.true
 
-legal : (c : tie.Else1) → isRecord (decode (entry c.before).args.w) ≡ true
+legal : (c : tie.Else1) → is_record (decode (entry c.before).args.w) ≡ true
 legal c = let r = c.before.is-record in sym r.ensures ∙ not-false r.result c.if1.false
 
 is-record-requires : tie.Need-is-record-requires

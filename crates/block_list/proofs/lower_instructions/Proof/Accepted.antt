@@ -32,11 +32,11 @@ use denote.Struct.Steps.{spelt}
 use denote.Struct.Laws as LL
 use denote.Triple.Call.{calls_at}
 use denote.Triple.Statement.{Contract, Triple}
-use Rattle.neon.specs.Refusal.{blockRefusal}
+use Rattle.neon.specs.Refusal.{block_refusal}
 use Rattle.block_map.specs.declared.RegisterMap.{RegisterMap}
-use Rattle.block_map.specs.Map.{firstMap}
+use Rattle.block_map.specs.Map.{first_map}
 use Rattle.block_check.specs.declared.Checked.{Checked}
-use Rattle.pool.specs.Node.{placesIn}
+use Rattle.pool.specs.Node.{places_in}
 use Rattle.block_check.specs.Records.{Refuses}
 use Rattle.block.specs.Block.{Started, Runs, Answered}
 use Rattle.block_map.specs.contracts.RegisterMap as T
@@ -88,7 +88,7 @@ module _ {M : Type 1} {𝓤 : Ura M} (𝓛 : Logic 𝓤) (at_mem : Memory → SP
 
   -- what refuses the block is what `block_refusal` said
   abbrev pub Told : Checked → Type 0
-  Told r = Refuses r (blockRefusal (placesIn (m c)) ys)
+  Told r = Refuses r (block_refusal (places_in (m c)) ys)
 
   module _ (s : Locals) where
     open s use {l₀, l₁, l₂, l₃, l₄, l₅, l₆, l₇, l₈, l₉, l₁₀, l₁₁, l₁₂, l₁₃, l₁₄}
@@ -118,7 +118,7 @@ module _ {M : Type 1} {𝓤 : Ura M} (𝓛 : Logic 𝓤) (at_mem : Memory → SP
     module _ (𝓣 : Tables 𝓤 H) (fm : FmC 𝓤 H 𝓛.laws 𝓣.C) (start-known : Triple 𝓤 (𝓣.C #block·start-pool) Starting)
         (run-known : Triple 𝓤 (𝓣.C #block-list·run-instructions) Running) (r : Checked) (e : Told r) (small : r.number ≤ 0) (fits : Fits r) where
       -- the pool is started at ps and the map is h: the records run
-      runs_on : (ps : List ℕ) (h : RegisterMap) → length ps ≡ m c → Started ps₀ ps 32 → h ≡ firstMap
+      runs_on : (ps : List ℕ) (h : RegisterMap) → length ps ≡ m c → Started ps₀ ps 32 → h ≡ first_map
           → Sq 𝓛 (Owned c ps h (Rest (holds refused l₄ (mach r) Params))) (runs 𝓣.C 𝓣.Λ En code.Mir.t-9 (at_ret En Done))
       runs_on ps h l s z =
           assigns ! (addr ! (from ! (fld ! refl (hop ! (look_in ! 32 (sub ! 0 refl (whole !))) (stop !))))) (from ! (stop !)) (init ! 10 refl (tt, tt)) $
@@ -165,7 +165,7 @@ module _ {M : Type 1} {𝓤 : Ura M} (𝓛 : Logic 𝓤) (at_mem : Memory → SP
           calls_at ! fm Starting start-known (to_start 𝓛 at_mem ran c bounds ν δ) (and_then ! (load ! (from ! (stop !)) (look ! 14 refl)) (no_more !)) (λ v.
           use1 𝓛 (later (some (λ (g : RegisterMap). ((‵ (flft (ν ∷ []) full_share) ⊛ ‵ ftrue) ⊛ ‵ (S.own g (v ∷ []))) ⊛ raw (Begun 𝓛 at_mem ran c bounds ν δ g)))) (id⊢ 𝓤 _) $ await ! tt $
           pick ! (λ g. split ! $ move ! (1 ∷ []) $ use1 𝓛 (begun 𝓛 at_mem ran c bounds ν δ g) (id⊢ 𝓤 _) $ pick ! (λ zs. split ! $
-          move ! (1 ∷ []) $ heard ! (Started ps₀ zs.0 32 × (g ≡ firstMap)) (λ d. fsplit ! $ fsplit ! $ move ! (1 ∷ []) $ feq_l ! (λ k. move ! (1 ∷ []) $ lose ! $
+          move ! (1 ∷ []) $ heard ! (Started ps₀ zs.0 32 × (g ≡ first_map)) (λ d. fsplit ! $ fsplit ! $ move ! (1 ∷ []) $ feq_l ! (λ k. move ! (1 ∷ []) $ lose ! $
           move ! (1 ∷ []) $ split ! $ split ! $ move ! (2 ∷ []) $ peeks ! S (Is S) (shows 𝓛 S) g (v ∷ []) (λ is.
           land ! (from ! (stop !)) (init ! 21 refl ((LL.lawful T.the_type T'.the_laws 𝓛).typed g _ is).0) $ move ! (1 ∷ []) $ lft_end ! tt $ move ! (0 ∷ 4 ∷ 3 ∷ []) $
           use3 𝓛 (later (‵ (Pool c zs.0 (m c)) ⊛ ‵ (flft κ q))) (slice_back u64 κ (ν ∷ []) q γ b o 𝓛 (named 0) (named 0) ps₀ δ zs.0 room k) $ await ! tt $ split ! $

@@ -28,12 +28,12 @@ use denote.Triple.Spec.{triple_of}
 use denote.Triple.Statement.{Contract}
 use denote.Triple.Walked.{says, Stays, stay_ref, stay_none_slice, stay_slice, walk_of, ends_at}
 use denote.Exit.{yes}
-use Rattle.neon.specs.Refusal.{reserve, AllLegal, blockRefusal}
+use Rattle.neon.specs.Refusal.{reserve, AllLegal, block_refusal}
 use Rattle.pool.specs.Growth.{Room as Places}
 use Rattle.block_map.specs.declared.RegisterMap.{RegisterMap}
-use Rattle.block_map.specs.Map.{firstMap, noMap}
+use Rattle.block_map.specs.Map.{first_map, no_map}
 use Rattle.block_check.specs.declared.Checked.{Checked}
-use Rattle.pool.specs.Node.{placesIn}
+use Rattle.pool.specs.Node.{places_in}
 use Rattle.block_check.specs.Records.{Refuses}
 use Rattle.block_record.specs.Step.{MapOk}
 use Rattle.block.specs.Block.{Started, Runs, Answered}
@@ -134,9 +134,9 @@ module _ {M : Type 1} {𝓤 : Ura M} (𝓛 : Logic 𝓤) (at_mem : Memory → SP
   abbrev pub Refusal : Checked → SProp 𝓤
   Refusal r = ensured 𝓛 block-refusal.ended (block-refusal.clauses 𝓛 at_mem ran) (κ₂, tt) (m c, (records c, tt)) tt r
 
-  pub refusing-told : (r : Checked) → ent 𝓤 (Refusal r) (fact 𝓤 (Refuses r (blockRefusal (placesIn (m c)) ys)))
+  pub refusing-told : (r : Checked) → ent 𝓤 (Refusal r) (fact 𝓤 (Refuses r (block_refusal (places_in (m c)) ys)))
   refusing-told r =
-      ex_e 𝓤 _ (λ ws. snd∗ 𝓤 (sem 𝓛 (lasts block-refusal.ended (κ₂, tt) (m c, (records c, tt)) ws)) (fact 𝓤 (Refuses r (blockRefusal (placesIn (m c)) ys))))
+      ex_e 𝓤 _ (λ ws. snd∗ 𝓤 (sem 𝓛 (lasts block-refusal.ended (κ₂, tt) (m c, (records c, tt)) ws)) (fact 𝓤 (Refuses r (block_refusal (places_in (m c)) ys))))
 
   abbrev pub to-no-map : (NoMap 𝓛 at_mem ran).Ghost
   to-no-map = ((tt, tt, tt, tt, tt), tt)
@@ -147,8 +147,8 @@ module _ {M : Type 1} {𝓤 : Ura M} (𝓛 : Logic 𝓤) (at_mem : Memory → SP
   abbrev pub Unmapped : RegisterMap → SProp 𝓤
   Unmapped g = ensured 𝓛 no-map.ended (no-map.clauses 𝓛 at_mem ran) tt tt tt g
 
-  pub no-map-told : (g : RegisterMap) → ent 𝓤 (Unmapped g) (fact 𝓤 (g ≡ noMap))
-  no-map-told g = ex_e 𝓤 _ (λ ws. snd∗ 𝓤 (sem 𝓛 (lasts no-map.ended tt tt ws)) (fact 𝓤 (g ≡ noMap)))
+  pub no-map-told : (g : RegisterMap) → ent 𝓤 (Unmapped g) (fact 𝓤 (g ≡ no_map))
+  no-map-told g = ex_e 𝓤 _ (λ ws. snd∗ 𝓤 (sem 𝓛 (lasts no-map.ended tt tt ws)) (fact 𝓤 (g ≡ no_map)))
 
   -- `start_pool`, on the pool lent for ν
   module _ (ν : ℕ) (δ : GName) where
@@ -167,7 +167,7 @@ module _ {M : Type 1} {𝓤 : Ura M} (𝓛 : Logic 𝓤) (at_mem : Memory → SP
     abbrev pub begun : RegisterMap → Item 𝓤
     begun g =
         some (λ (zs : Lasts start-pool.ended (ν ∷ [], tt) (pool c δ ps₀, tt)).
-        ‵ (lasts start-pool.ended (ν ∷ [], tt) (pool c δ ps₀, tt) zs) ⊛ raw (fact 𝓤 (Started ps₀ zs.0 32 × (g ≡ firstMap))))
+        ‵ (lasts start-pool.ended (ν ∷ [], tt) (pool c δ ps₀, tt) zs) ⊛ raw (fact 𝓤 (Started ps₀ zs.0 32 × (g ≡ first_map))))
 
   -- `run_instructions`, on the pool at ps and the map at h, lent for ν and μ
   module _ (ν μ : ℕ) (δ ε : GName) (ps : List ℕ) (h : RegisterMap) where

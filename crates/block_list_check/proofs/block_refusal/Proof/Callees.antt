@@ -30,9 +30,9 @@ use denote.Triple.Statement.{Contract}
 use denote.Triple.Walked.{says, Stays, stay_none, stay_none_slice, walk_of, ends_at}
 use denote.Exit.{yes}
 use Rattle.neon.specs.declared.Instruction.{Instruction}
-use Rattle.neon.specs.Refusal.{recordNumber, sizeNumber, blockRefusal}
+use Rattle.neon.specs.Refusal.{record_number, size_number, block_refusal}
 use Rattle.block_check.specs.declared.Checked.{Checked}
-use Rattle.pool.specs.Node.{placesIn}
+use Rattle.pool.specs.Node.{places_in}
 use Rattle.block_check.specs.Records.{Refuses}
 use Rattle.neon.specs.contracts.Instruction as T₁
 use Rattle.block_check.specs.contracts.Checked as T
@@ -69,7 +69,7 @@ module _ (c : Called) where
   n = length ys
 
   abbrev pub p : ℕ
-  p = placesIn words
+  p = places_in words
 
   abbrev pub list : Val
   list = slice_val (b, o) n
@@ -118,7 +118,7 @@ module _ {M : Type 1} {𝓤 : Ura M} (𝓛 : Logic 𝓤) (at_mem : Memory → SP
   abbrev pub Post : Val → SProp 𝓤
   Post = (walk_of 𝓛 block-refusal.ended stayed (block-refusal.clauses 𝓛 at_mem ran)).post (((κ, tt), (q, tt), bounds, x c, at c), tt)
 
-  pub exits : (r k : ℕ) → Refuses (answer r k) (blockRefusal (p c) ys) → r < 2 ^ 64 → k < 2 ^ 64 → ent 𝓤 (⋆ 𝓛 (‵ (Own c) ∷ ‵ (flft κ q) ∷ [])) (Post (mach r k))
+  pub exits : (r k : ℕ) → Refuses (answer r k) (block_refusal (p c) ys) → r < 2 ^ 64 → k < 2 ^ 64 → ent 𝓤 (⋆ 𝓛 (‵ (Own c) ∷ ‵ (flft κ q) ∷ [])) (Post (mach r k))
   exits r k e fr fk =
       qed 𝓛 (‵ (Own c) ∷ ‵ (flft κ q) ∷ []) ∵
       suffices ! _
@@ -139,8 +139,8 @@ module _ {M : Type 1} {𝓤 : Ura M} (𝓛 : Logic 𝓤) (at_mem : Memory → SP
   abbrev pub Sized : ℕ → SProp 𝓤
   Sized r = ensured 𝓛 size_number.ended (size_number.clauses 𝓛 at_mem ran) tt (words, (n c, tt)) tt r
 
-  pub size-told : (r : ℕ) → ent 𝓤 (Sized r) (fact 𝓤 (r ≡ sizeNumber (p c) (n c)))
-  size-told r = ex_e 𝓤 _ (λ ws. snd∗ 𝓤 (sem 𝓛 (lasts size_number.ended tt (words, (n c, tt)) ws)) (fact 𝓤 (r ≡ sizeNumber (p c) (n c))))
+  pub size-told : (r : ℕ) → ent 𝓤 (Sized r) (fact 𝓤 (r ≡ size_number (p c) (n c)))
+  size-told r = ex_e 𝓤 _ (λ ws. snd∗ 𝓤 (sem 𝓛 (lasts size_number.ended tt (words, (n c, tt)) ws)) (fact 𝓤 (r ≡ size_number (p c) (n c))))
 
   abbrev pub to_number : Instruction → (Number 𝓛 at_mem ran).Ghost
   to_number d = ((tt, tt, tt, fields d, field-values d), tt)
@@ -151,5 +151,5 @@ module _ {M : Type 1} {𝓤 : Ura M} (𝓛 : Logic 𝓤) (at_mem : Memory → SP
   abbrev pub Numbered : Instruction → ℕ → SProp 𝓤
   Numbered d r = ensured 𝓛 record-number.ended (record-number.clauses 𝓛 at_mem ran) tt (fields d) tt r
 
-  pub number-told : (d : Instruction) (r : ℕ) → ent 𝓤 (Numbered d r) (fact 𝓤 (r ≡ recordNumber d))
-  number-told d r = ex_e 𝓤 _ (λ ws. snd∗ 𝓤 (sem 𝓛 (lasts record-number.ended tt (fields d) ws)) (fact 𝓤 (r ≡ recordNumber d)))
+  pub number-told : (d : Instruction) (r : ℕ) → ent 𝓤 (Numbered d r) (fact 𝓤 (r ≡ record_number d))
+  number-told d r = ex_e 𝓤 _ (λ ws. snd∗ 𝓤 (sem 𝓛 (lasts record-number.ended tt (fields d) ws)) (fact 𝓤 (r ≡ record_number d)))

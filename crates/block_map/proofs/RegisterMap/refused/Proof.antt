@@ -1,4 +1,4 @@
--- `RegisterMap::refused` meets its contract: it is `noMap`.
+-- `RegisterMap::refused` meets its contract: it is `no_map`.
 use borrow.Author.Rules.{rules}
 use Rattle.block_map.proofs.RegisterMap.refused.Statement.{statement}
 use Rattle.block_map.proofs.RegisterMap.refused.Tie as tie

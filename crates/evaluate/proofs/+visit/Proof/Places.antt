@@ -4,7 +4,7 @@ use mathlib.Core.List.{List}
 use mathlib.Core.Path.{◌≡◌, sym, ◌∙◌}
 use Prim.Native.Nat.{ℕ, ◌-◌, ◌<◌, ◌≤◌}
 use native.Mathlib.Omega.{arith}
-use Rattle.pool.specs.Node.{kindNumber}
+use Rattle.pool.specs.Node.{kind_number}
 use Rattle.text_parts.specs.Text.{single}
 use Rattle.text_parts.proofs.Operands.{Pair, is-single, is-pair}
 use Rattle.pool_fields.specs.Fields.{op_a, op_b}
@@ -78,7 +78,7 @@ module _ (t : ℕ) where
   abbrev pub leaf-entry : Leaf → Start
   leaf-entry c = start c.before
 
-  pub leaf-kind : (c : Leaf) → kindNumber (pool (leaf-entry c)) (node (leaf-entry c)) < 3
+  pub leaf-kind : (c : Leaf) → kind_number (pool (leaf-entry c)) (node (leaf-entry c)) < 3
   leaf-kind c = omega (arith, c.if2.true, c.before.kind-of.ensures)
 
   -- the first operand has its value
@@ -91,7 +91,7 @@ module _ (t : ℕ) where
   abbrev pub entry : First → Start
   entry c = start (read c)
 
-  pub kind-is : (c : First) → kind (read c) ≡ kindNumber (pool (entry c)) (node (entry c))
+  pub kind-is : (c : First) → kind (read c) ≡ kind_number (pool (entry c)) (node (entry c))
   kind-is c = (read c).kind-of.ensures
 
   pub some_left : (c : Read) → 0 < (start c).args.left

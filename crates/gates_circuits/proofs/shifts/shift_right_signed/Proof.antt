@@ -27,7 +27,7 @@ shift-requires : tie.Need-shift-requires
 shift-requires c κs =
     let s = c.before.before.before.before.before.before.before in
     let p = s.requires in
-    ((p.0, p.1, λ e. absurd (false≢true e), p.2, p.3.low-a (s.args.w - 1) (omega (arith, p.4))), p.3)
+    ((p.0, p.1, λ e. absurd (false≢true e), p.2, p.3.low_a (s.args.w - 1) (omega (arith, p.4))), p.3)
 
 same_length : tie.Need-same-length
 same_length c = search rules

@@ -3,7 +3,7 @@ use native.Mathlib.Omega.{arith}
 use mathlib.Core.List.{List}
 use mathlib.Core.Path.{◌≡◌, sym, ap, ◌∙◌}
 use Prim.Native.Nat.{ℕ, ◌+◌, ◌*◌, ◌≤◌, ◌<◌}
-use Rattle.pool.specs.Node.{kindNumber, width_at}
+use Rattle.pool.specs.Node.{kind_number, width_at}
 use Rattle.pool_fields.specs.Fields.{op_a, op_b, op_c}
 use Rattle.text_parts.specs.Text as nodes
 use Rattle.gates_pool.proofs.Rules.{most, Choice, ite-facts}

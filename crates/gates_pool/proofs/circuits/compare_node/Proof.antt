@@ -4,7 +4,7 @@ use mathlib.Core.List.{List}
 use mathlib.Core.Path.{◌≡◌, sym, ap, ◌∙◌}
 use Prim.Native.Nat.{ℕ, ◌+◌, ◌*◌, ◌≤◌, ◌<◌}
 use lib.ListN.{length-set}
-use Rattle.pool.specs.Node.{kindNumber, width_at}
+use Rattle.pool.specs.Node.{kind_number, width_at}
 use Rattle.pool_fields.specs.Fields.{op_a, op_b}
 use Rattle.text_parts.specs.Text as nodes
 use Rattle.gates_pool.proofs.Rules.{Compared, compare-facts}
@@ -31,10 +31,10 @@ module _ (c : tie.After-second) where
   abbrev node : nodes.Ready ws n
   node = entry.pre.0.placed.node
 
-  from-twelve : 12 ≤ kindNumber ws n
+  from-twelve : 12 ≤ kind_number ws n
   from-twelve = omega (arith, entry.pre.1, entry.pre.2)
 
-  below-fifteen : kindNumber ws n < 15
+  below-fifteen : kind_number ws n < 15
   below-fifteen = omega (arith, entry.pre.1, entry.pre.3)
 
   facts : Compared ws n node

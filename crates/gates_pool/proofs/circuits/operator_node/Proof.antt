@@ -3,7 +3,7 @@ use native.Mathlib.Omega.{arith}
 use mathlib.Core.List.{List}
 use mathlib.Core.Path.{◌≡◌, sym, ap, ◌∙◌, subst}
 use Prim.Native.Nat.{ℕ, ◌+◌, ◌*◌, ◌≤◌, ◌<◌}
-use Rattle.pool.specs.Node.{kind_at, kindNumber, width_at}
+use Rattle.pool.specs.Node.{kind_at, kind_number, width_at}
 use Rattle.pool_fields.specs.Fields.{op_a, op_b}
 use Rattle.text_parts.specs.Text as nodes
 use Rattle.gates_pool.proofs.Rules.{most, Two, bv-facts}
@@ -26,13 +26,13 @@ module _ (c : tie.After-width-of) where
   abbrev node : nodes.Ready ws n
   node = entry.pre.0.placed.node
 
-  kind-is : kindNumber ws n ≡ entry.args.kind
+  kind-is : kind_number ws n ≡ entry.args.kind
   kind-is = sym entry.pre.1
 
-  from-three : 3 ≤ kindNumber ws n
+  from-three : 3 ≤ kind_number ws n
   from-three = omega (arith, kind-is, entry.pre.2)
 
-  below_twelve : kindNumber ws n < 12
+  below_twelve : kind_number ws n < 12
   below_twelve = omega (arith, kind-is, entry.pre.3)
 
   facts : Two ws n node

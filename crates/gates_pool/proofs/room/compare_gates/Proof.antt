@@ -4,7 +4,7 @@ use Prim.Native.Nat.{ℕ, ◌+◌, ◌*◌, ◌≤◌, ◌<◌}
 use mathlib.Core.Path.{◌≡◌, refl, sym, ◌∙◌}
 use Rattle.pool.specs.Node.{kinds}
 use Rattle.pool_rules.proofs.Numbers.{within}
-use Rattle.gates_pool.specs.Gates.{gatesFor}
+use Rattle.gates_pool.specs.Gates.{gates_for}
 use borrow.Author.Rules.{rules}
 use Rattle.gates_pool.proofs.room.compare_gates.Statement.{statement}
 use Rattle.gates_pool.proofs.room.compare_gates.Tie as tie
@@ -16,7 +16,7 @@ returns : tie.Need-returns
 unfolding kinds
 returns c =
     let a = c.before.args in
-    within (λ κ. 4 * a.w ≡ gatesFor κ a.w) 12 1 (refl, tt) a.kind c.before.requires.0 c.if1.true
+    within (λ κ. 4 * a.w ≡ gates_for κ a.w) 12 1 (refl, tt) a.kind c.before.requires.0 c.if1.true
 
 mul-result-2 : tie.Need-overflow-mul-result-2
 mul-result-2 c = search rules
@@ -25,7 +25,7 @@ returns-2 : tie.Need-returns-2
 unfolding kinds
 returns-2 c =
     let a = c.before.before.args in
-    within (λ κ. 5 * a.w ≡ gatesFor κ a.w) 13 1 (refl, tt) a.kind c.before.if1.false c.if2.true
+    within (λ κ. 5 * a.w ≡ gates_for κ a.w) 13 1 (refl, tt) a.kind c.before.if1.false c.if2.true
 
 mul-result-3 : tie.Need-overflow-mul-result-3
 mul-result-3 c = search rules
@@ -37,7 +37,7 @@ returns-3 : tie.Need-returns-3
 unfolding kinds
 returns-3 c =
     let a = c.before.before.args in
-    within (λ κ. 5 * a.w + 6 ≡ gatesFor κ a.w) 14 1 (refl, tt) a.kind c.if2.false c.before.before.requires.1
+    within (λ κ. 5 * a.w + 6 ≡ gates_for κ a.w) 14 1 (refl, tt) a.kind c.if2.false c.before.before.requires.1
 
 pub compare-gates-spec : {M : Type 1} → statement M
 compare-gates-spec =

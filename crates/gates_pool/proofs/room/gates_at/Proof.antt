@@ -3,11 +3,11 @@ use native.Mathlib.Omega.{arith}
 use Prim.Native.Nat.{ℕ, ◌+◌, ◌*◌, ◌≤◌, ◌<◌}
 use mathlib.Core.List.{List}
 use mathlib.Core.Path.{◌≡◌, refl, sym, ap, ◌∙◌}
-use Rattle.pool.specs.Node.{kind_at, kindNumber, width_at}
+use Rattle.pool.specs.Node.{kind_at, kind_number, width_at}
 use Rattle.pool_fields.specs.Fields.{op_a}
 use Rattle.text_parts.specs.Text as nodes
 use Rattle.text_parts.proofs.Operands.{to-nineteen}
-use Rattle.gates_pool.specs.Gates.{gatesFor, gatesAt}
+use Rattle.gates_pool.specs.Gates.{gates_for, gates_at}
 use Rattle.gates_pool.proofs.Rules.{most, Compared, compare-facts}
 use Rattle.gates_pool.proofs.Operators.{gates-at}
 use Rattle.gates_pool.proofs.Comparisons.{gates-flat, gates-chosen}
@@ -30,7 +30,7 @@ module _ (c : tie.After-kind-of) where
   abbrev node : nodes.Ready ws n
   node = entry.pre
 
-  is-kind : c.kind-of.result ≡ kindNumber ws n
+  is-kind : c.kind-of.result ≡ kind_number ws n
   is-kind = c.kind-of.ensures
 
 -- a comparison, and the width of its first operand
@@ -64,10 +64,10 @@ operator-gates-requires c κs =
 returns-2 : tie.Need-returns-2
 returns-2 c =
     let k = c.before.before.before.before in
-    let f : 3 ≤ kindNumber (ws k) (n k) = omega (arith, is-kind k, c.before.before.before.if1.false) in
-    let t : kindNumber (ws k) (n k) < 12 = omega (arith, is-kind k, c.before.before.if2.true) in
+    let f : 3 ≤ kind_number (ws k) (n k) = omega (arith, is-kind k, c.before.before.before.if1.false) in
+    let t : kind_number (ws k) (n k) < 12 = omega (arith, is-kind k, c.before.before.if2.true) in
     c.operator-gates.ensures
-    ∙ (λ i. gatesFor (kind_at (is-kind k i)) (c.before.width_of_lem.ensures.0 i))
+    ∙ (λ i. gates_for (kind_at (is-kind k i)) (c.before.width_of_lem.ensures.0 i))
     ∙ sym (gates-at (ws k) (n k) (node k) f t)
 
 first-requires : tie.Need-first-requires
@@ -89,9 +89,9 @@ returns-3 : tie.Need-returns-3
 returns-3 c =
     let w = c.before in
     let k = w.before.before.before.before.before in
-    let f : 12 ≤ kindNumber (ws k) (n k) = omega (arith, is-kind k, w.before.before.before.if2.false) in
-    let t : kindNumber (ws k) (n k) < 15 = omega (arith, is-kind k, w.before.before.if3.true) in
-    c.compare-gates.ensures ∙ (λ i. gatesFor (kind_at (is-kind k i)) (width_is w i)) ∙ sym (gates-flat (ws k) (n k) (node k) f t)
+    let f : 12 ≤ kind_number (ws k) (n k) = omega (arith, is-kind k, w.before.before.before.if2.false) in
+    let t : kind_number (ws k) (n k) < 15 = omega (arith, is-kind k, w.before.before.if3.true) in
+    c.compare-gates.ensures ∙ (λ i. gates_for (kind_at (is-kind k i)) (width_is w i)) ∙ sym (gates-flat (ws k) (n k) (node k) f t)
 
 width-of-requires-3 : tie.Need-width-of-requires-3
 width-of-requires-3 c κs = search rules
@@ -102,13 +102,13 @@ mul-result c = search rules
 returns-4 : tie.Need-returns-4
 returns-4 c =
     let k = c.before.before.before.before.before in
-    let e : kindNumber (ws k) (n k) ≡ 15 = omega (arith, is-kind k, c.before.before.if3.false, c.before.if4.true) in
+    let e : kind_number (ws k) (n k) ≡ 15 = omega (arith, is-kind k, c.before.before.if3.false, c.before.if4.true) in
     ap (λ (w : ℕ). 3 * w) c.width-of3.ensures.0 ∙ sym (gates-chosen (ws k) (n k) (node k) e)
 
 returns-5 : tie.Need-returns-5
 returns-5 c =
     let k = c.before.before.before.before in
-    none_above (ws k) (n k) (omega (arith, is-kind k, c.if4.false)) (to-nineteen (ws k) (n k) (node k) (kindNumber (ws k) (n k)) refl)
+    none_above (ws k) (n k) (omega (arith, is-kind k, c.if4.false)) (to-nineteen (ws k) (n k) (node k) (kind_number (ws k) (n k)) refl)
 
 pub gates-at-spec : {M : Type 1} → statement M
 gates-at-spec =

@@ -6,19 +6,19 @@ use mathlib.Core.List.{List}
 use mathlib.Core.Path.{◌≡◌, refl, sym, ap, ◌∙◌}
 use Rattle.text_parts.specs.Text as nodes
 use Rattle.text_parts.proofs.Operands.{ready_of}
-use Rattle.gates_pool.specs.Gates.{gatesAt, gatesIn}
+use Rattle.gates_pool.specs.Gates.{gates_at, gates_in}
 use Rattle.gates_pool.proofs.Bounds.{gates-few}
 use Rattle.gates_pool.proofs.room.gates_in.Statement.{statement}
 use Rattle.gates_pool.proofs.room.gates_in.Tie as tie
 
 abbrev invariant-loop : tie.invariant-loop
-invariant-loop pool count all₀ n₀ all n = (n ≤ count) × (all ≡ gatesIn pool n) × (all ≤ 166410 * n)
+invariant-loop pool count all₀ n₀ all n = (n ≤ count) × (all ≡ gates_in pool n) × (all ≤ 166410 * n)
 
 abbrev decreases-loop : tie.decreases-loop
 decreases-loop pool count all₀ n₀ all n = count - n
 
-one_more : (ws : List ℕ) (n : ℕ) → gatesIn ws n + gatesAt ws n ≡ gatesIn ws (n + 1)
-unfolding gatesIn
+one_more : (ws : List ℕ) (n : ℕ) → gates_in ws n + gates_at ws n ≡ gates_in ws (n + 1)
+unfolding gates_in
 one_more ws n = rw (add-one n) refl
 
 ready : (c : tie.In-loop invariant-loop decreases-loop) → nodes.Ready c.before.before.before.args.pool.now c.before.loop.n
@@ -30,7 +30,7 @@ small : (c : tie.After-gates-at invariant-loop decreases-loop) → c.gates-at.re
 small c = omega (arith, c.gates-at.ensures, gates-few _ _ (ready c.before))
 
 loop-holds : tie.Need-loop-init invariant-loop decreases-loop
-unfolding gatesIn
+unfolding gates_in
 loop-holds c = (omega arith, refl, omega arith)
 
 gates-at-requires : tie.Need-gates-at-requires invariant-loop decreases-loop
@@ -58,7 +58,7 @@ returns : tie.Need-returns invariant-loop decreases-loop
 returns c =
     let l = c.before in
     let e : l.loop.n ≡ l.before.before.args.count = omega (arith, l.loop.invariant.0, c.loop-test.false) in
-    l.loop.invariant.1 ∙ ap (gatesIn l.before.before.args.pool.now) e
+    l.loop.invariant.1 ∙ ap (gates_in l.before.before.args.pool.now) e
 
 pub gates-in-spec : {M : Type 1} → statement M
 gates-in-spec =

@@ -3,7 +3,7 @@ use mathlib.Core.List.{List}
 use mathlib.Core.Path.{◌≡◌, sym, ◌∙◌}
 use Prim.Native.Nat.{ℕ, ◌+◌, ◌*◌, ◌≤◌, ◌<◌}
 use native.Mathlib.Omega.{arith}
-use Rattle.pool.specs.Node.{width_at, kindNumber}
+use Rattle.pool.specs.Node.{width_at, kind_number}
 use Rattle.pool_fields.specs.Fields.{op_a, op_b}
 use Rattle.text_parts.specs.Text as nodes
 use Rattle.text_parts.proofs.Operands.{to-nineteen}
@@ -199,7 +199,7 @@ returns-5 c =
     let t = w.before in
     let k = t.before in
     let e = (entry k).requires.1 in
-    let z : kindNumber (ws k) (n k) ≡ 18 = let h = c.if4.false in omega (arith, e, kind-of-extension t, to-nineteen (ws k) (n k) (node k) _ e) in
+    let z : kind_number (ws k) (n k) ≡ 18 = let h = c.if4.false in omega (arith, e, kind-of-extension t, to-nineteen (ws k) (n k) (node k) _ e) in
     sym (zext-high (ws k) (n k) (bits k) (entry k).args.j z (omega (arith, own_is w, c.before.if3.false)))
 
 pub joined-wire-spec : {M : Type 1} → statement M

@@ -5,7 +5,7 @@ use mathlib.Core.Path.{◌≡◌, sym, ◌∙◌}
 use Prim.Native.Nat.{ℕ, ◌+◌, ◌*◌, ◌≤◌, ◌<◌}
 use native.Mathlib.Omega.{arith}
 use Rattle.facts.proofs.Numbers.{before-or-from}
-use Rattle.pool.specs.Node.{width_at, word_at, kindNumber}
+use Rattle.pool.specs.Node.{width_at, word_at, kind_number}
 use Rattle.pool_fields.specs.Fields.{op_a, op_b}
 use Rattle.text_parts.specs.Text as nodes
 use Rattle.text_parts.proofs.Operands.{is-const}
@@ -35,7 +35,7 @@ module _ (c : tie.After-kind-of) where
   abbrev node : nodes.Ready ws n
   node = entry.pre.0.node
 
-  kind-is : {κ : ℕ} → c.kind-of.result ≡ κ → kindNumber ws n ≡ κ
+  kind-is : {κ : ℕ} → c.kind-of.result ≡ κ → kind_number ws n ≡ κ
   kind-is e = sym c.kind-of.ensures ∙ e
 
 -- a register's number, and the bit's

@@ -7,7 +7,7 @@ use lib.ListN.{length, get_or}
 use Rattle.pool.specs.Node.{width_at}
 use Rattle.gates_words.specs.Words.{Puts}
 use Rattle.gates_words.proofs.Loops.{puts_none, puts-more}
-use Rattle.gates_pool.specs.Bits.{wireAt, Placed}
+use Rattle.gates_pool.specs.Bits.{wire_at, Placed}
 use Rattle.gates_pool.proofs.Rules.{most}
 use Rattle.gates_pool.proofs.Literals.{wire-kept}
 use borrow.Author.Rules.{rules}
@@ -15,7 +15,7 @@ use Rattle.gates_pool.proofs.wires.wires.Statement.{statement}
 use Rattle.gates_pool.proofs.wires.wires.Tie as tie
 
 abbrev invariant-loop : tie.invariant-loop
-invariant-loop pool n bits₀ w at j₀ bits j = (j ≤ w) × Puts bits₀ bits (129 * n.0) j (wireAt pool bits₀ n.0)
+invariant-loop pool n bits₀ w at j₀ bits j = (j ≤ w) × Puts bits₀ bits (129 * n.0) j (wire_at pool bits₀ n.0)
 
 abbrev decreases-loop : tie.decreases-loop
 decreases-loop pool n bits₀ w at j₀ bits j = w - j
@@ -90,7 +90,7 @@ loop-again c =
     let s = entry k in
     let i = l.loop.inv.1 in (
       omega (arith, t.loop-test.taken),
-      puts-more (wireAt (ws k) s.args.bits.now (n k)) _ (omega (arith, places c, i.size)) i
+      puts-more (wire_at (ws k) s.args.bits.now (n k)) _ (omega (arith, places c, i.size)) i
           (c.wire.ensures ∙ wire-kept (ws k) (n k) s.pre.0.node s.args.bits.now l.loop.bits l.loop.j s.pre.1
           (omega (arith, t.loop-test.taken, width_is k)) i.before),
     )

@@ -41,7 +41,7 @@ add-at-requires c κs =
     let p = c.before.before.before.before.before.before.before.before.requires in
     let r = l.invariant.2.run in
     let size : length l.bits ≡ _ = r.size in
-    (omega (arith, p, r, t, r.grown.long), (place-low r p.2 t, place-low r p.3 t, l.invariant.2.carry-under))
+    (omega (arith, p, r, t, r.grown.long), (place-low r p.2 t, place-low r p.3 t, l.invariant.2.carry_under))
 
 add-i : tie.Need-overflow-add-i invariant-loop decreases-loop
 add-i c = search rules

@@ -5,7 +5,7 @@ use mathlib.Core.Path.{◌≡◌, refl, sym, ap, ◌∙◌}
 use lib.ListN.{length, get_or}
 use Prim.Native.Nat.{ℕ, ◌+◌, ◌-◌, ◌*◌, ◌≤◌, ◌<◌}
 use native.Mathlib.Omega.{arith}
-use Rattle.gates_words.specs.Bitwise.{gateOf, bits_of}
+use Rattle.gates_words.specs.Bitwise.{gate_of, bits_of}
 use Rattle.gates_words.proofs.Loops.{writes-none, writes_more, place-low, place-truth}
 use Rattle.gates_words.proofs.Gates.{gate-step, zero_bits}
 use borrow.Author.Rules.{rules}
@@ -60,10 +60,10 @@ loop-again c =
     let r = l.invariant.2.run in (
       omega (arith, test.loop-test.true),
       search rules,
-      writes_more (λ start. gateOf a.kind) (λ start. bits_of a.kind) (gate-step a.kind) a.a a.b l.invariant.2
+      writes_more (λ start. gate_of a.kind) (λ start. bits_of a.kind) (gate-step a.kind) a.a a.b l.invariant.2
           (omega (arith, s.requires, test.loop-test.true))
           call.gate-at.ensures
-          (λ start i. gateOf a.kind (place-truth r start s.requires.2 test.loop-test.true i)
+          (λ start i. gate_of a.kind (place-truth r start s.requires.2 test.loop-test.true i)
           (place-truth r start s.requires.3 test.loop-test.true i))
           (omega arith),
     )

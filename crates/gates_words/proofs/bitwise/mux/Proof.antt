@@ -9,7 +9,7 @@ use Rattle.gates.specs.Graph.{truth}
 use Rattle.gates.proofs.Truth.{same_truth}
 use mathlib.Core.Bool.{Bool}
 use Rattle.gates_build.specs.Adds.{choose}
-use Rattle.gates_words.specs.Bitwise.{iteOf}
+use Rattle.gates_words.specs.Bitwise.{ite_of}
 use Rattle.gates_words.proofs.Loops.{writes-none, writes_more, place-low, place-truth}
 use Rattle.gates_words.proofs.Gates.{choose-step, zero-chosen}
 use borrow.Author.Rules.{rules}
@@ -20,7 +20,7 @@ abbrev invariant-loop : tie.invariant-loop
 invariant-loop graph₀ count table₀ bits₀ c a b out w all₀ i₀ graph table bits all i =
     (i ≤ w)
     × (length table ≡ length table₀)
-    × Writes graph₀ count bits₀ graph all bits out i (3 * i) (λ start. iteOf (truth start graph₀ c) (number start graph₀ bits₀ a i)
+    × Writes graph₀ count bits₀ graph all bits out i (3 * i) (λ start. ite_of (truth start graph₀ c) (number start graph₀ bits₀ a i)
     (number start graph₀ bits₀ b i))
 
 abbrev decreases-loop : tie.decreases-loop
@@ -31,7 +31,7 @@ loop-holds c =
     let a = c.before.before.before.args in (
       omega arith,
       refl,
-      writes-none (λ start. iteOf (truth start a.graph.now a.c)) a.graph.now a.count a.bits.now a.out a.a a.b
+      writes-none (λ start. ite_of (truth start a.graph.now a.c)) a.graph.now a.count a.bits.now a.out a.a a.b
           (λ start. zero-chosen (truth start a.graph.now a.c)),
     )
 
@@ -71,7 +71,7 @@ loop-again c =
     let cond : (ℕ → ℕ) → Bool = λ start. truth start a.graph.now a.c in (
       omega (arith, t),
       search rules,
-      writes_more (λ start. choose (cond start)) (λ start. iteOf (cond start)) (choose-step cond) a.a a.b l.invariant.2 (omega (arith, s.requires, t))
+      writes_more (λ start. choose (cond start)) (λ start. ite_of (cond start)) (choose-step cond) a.a a.b l.invariant.2 (omega (arith, s.requires, t))
           call.mux-at.ensures
           (λ start i.
           choose (same_truth start a.graph.now l.graph a.count a.c r.grown.kept s.requires.4 i) (place-truth r start s.requires.2 t i)

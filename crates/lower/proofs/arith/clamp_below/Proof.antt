@@ -1,4 +1,4 @@
--- clamp_below builds `clampBelow` and cuts the low bits of it
+-- clamp_below builds `clamp_below` and cuts the low bits of it
 use Rattle.lower.proofs.Clamping.{below}
 use borrow.Author.Rules.{rules}
 use Rattle.lower.proofs.arith.clamp_below.Statement.{statement}

@@ -1,4 +1,4 @@
--- clamp_between builds `clampBetween` and cuts the low bits of it
+-- clamp_between builds `clamp_between` and cuts the low bits of it
 use native.Mathlib.Omega.{arith}
 use mathlib.Core.List.{[], ◌∷◌}
 use Rattle.lower.proofs.Run.{Begun, begun, Next, next}

@@ -1,4 +1,4 @@
--- keep_lower builds `keepLower`: the lower half of d below the new lanes, or the new lanes alone
+-- keep_lower builds `keep_lower`: the lower half of d below the new lanes, or the new lanes alone
 use mathlib.Core.Path.{refl}
 use native.Mathlib.Omega.{arith}
 use Rattle.lower.proofs.Lanes.{keep-yes, keep-no}

@@ -1,4 +1,4 @@
--- count_at builds `countAt`: the sum with one bit more
+-- count_at builds `count_bit_at`: the sum with one bit more
 use Rattle.lower_bitwise_unary_lane.proofs.Layering.{count_at}
 use borrow.Author.Rules.{rules}
 use Rattle.lower_bitwise_unary_lane.proofs.counts.count_at.Statement.{statement}

@@ -2,13 +2,13 @@
 use native.Mathlib.Omega.{arith}
 use native.Mathlib.Nat.{le_refl}
 use Prim.Native.Nat.{◌-◌, ◌≤◌}
-use Rattle.trees.specs.Trees.{zerosAt}
-use Rattle.lower_bitwise_unary_lane.proofs.Layering.{BitsTo, BitsKept, bits_none, bits-more, bits-all, zerosTo, zeros-none, zeros-more}
+use Rattle.trees.specs.Trees.{zeros_at}
+use Rattle.lower_bitwise_unary_lane.proofs.Layering.{BitsTo, BitsKept, bits_none, bits-more, bits-all, zeros_to, zeros-none, zeros-more}
 use Rattle.lower_bitwise_unary_lane.proofs.counts.leading_zeros.Statement.{statement}
 use Rattle.lower_bitwise_unary_lane.proofs.counts.leading_zeros.Tie as tie
 
 abbrev invariant-loop : tie.invariant-loop
-invariant-loop pool₀ count value base bits acc₀ i₀ pool acc i = (i ≤ bits) × BitsKept count 5 base.0 bits value (zerosTo bits) pool₀ acc₀ pool acc i
+invariant-loop pool₀ count value base bits acc₀ i₀ pool acc i = (i ≤ bits) × BitsKept count 5 base.0 bits value (zeros_to bits) pool₀ acc₀ pool acc i
 
 abbrev decreases-loop : tie.decreases-loop
 decreases-loop pool₀ count value base bits acc₀ i₀ pool acc i = bits - i
@@ -18,10 +18,10 @@ entry c = c.before.before.before.before.before.before
 
 -- the bits so far, over the pool at entry
 so_far : (c : tie.At-loop invariant-loop decreases-loop) → let a = (entry c).args in
-    BitsTo a.pool.now a.count c.loop.pool c.loop.acc 5 a.base.0 a.bits a.value (zerosTo a.bits) c.loop.i
+    BitsTo a.pool.now a.count c.loop.pool c.loop.acc 5 a.base.0 a.bits a.value (zeros_to a.bits) c.loop.i
 so_far c =
     let s = entry c in
-    c.loop.invariant.1 _ (bits_none 5 (zerosTo s.args.bits) s.args.bits s.pre.1.1 s.pre.1.2 (le_refl _) (zeros-none s.args.bits) c.before.before.before.konst.ensures)
+    c.loop.invariant.1 _ (bits_none 5 (zeros_to s.args.bits) s.args.bits s.pre.1.1 s.pre.1.2 (le_refl _) (zeros-none s.args.bits) c.before.before.before.konst.ensures)
 
 konst-requires : tie.Need-konst-requires invariant-loop decreases-loop
 konst-requires c κs = omega (arith, c.before.before.requires)
@@ -48,7 +48,7 @@ loop-again c =
     let t = turn c in
     let s = t.before.loop in
     let n = (entry t.before).args.bits in
-    (omega (arith, t.loop-test.taken), λ old d. bits-more 5 (zerosTo n) (zerosAt n) (zeros-more n s.i) (s.inv.1 old d) c.before.before.zeros-at.ensures)
+    (omega (arith, t.loop-test.taken), λ old d. bits-more 5 (zeros_to n) (zeros_at n) (zeros-more n s.i) (s.inv.1 old d) c.before.before.zeros-at.ensures)
 
 same_length : tie.Need-same-length invariant-loop decreases-loop
 same_length c = (so_far c.before).sized.long
@@ -56,7 +56,7 @@ same_length c = (so_far c.before).sized.long
 returns : tie.Need-returns invariant-loop decreases-loop
 returns c =
     let s = c.before in
-    bits-all 5 (zerosTo (entry s).args.bits) (entry s).requires.1.1 (omega (arith, s.loop.invariant.0, c.loop-test.false)) (so_far s)
+    bits-all 5 (zeros_to (entry s).args.bits) (entry s).requires.1.1 (omega (arith, s.loop.invariant.0, c.loop-test.false)) (so_far s)
 
 pub leading-zeros-spec : {M : Type 1} → statement M
 leading-zeros-spec =

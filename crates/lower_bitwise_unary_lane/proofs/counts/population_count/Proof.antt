@@ -1,7 +1,7 @@
--- population_count builds `populationCount`: its loop keeps the sum of the bits so far
+-- population_count builds `population_count`: its loop keeps the sum of the bits so far
 use native.Mathlib.Omega.{arith}
 use Prim.Native.Nat.{◌-◌, ◌≤◌}
-use Rattle.trees.specs.Trees.{countAt}
+use Rattle.trees.specs.Trees.{count_bit_at}
 use Rattle.lower_bitwise_unary_lane.proofs.Layering.{BitsTo, BitsKept, bits_none, bits-more, bits-all, count_to, count_none, count-more}
 use Rattle.lower_bitwise_unary_lane.proofs.counts.population_count.Statement.{statement}
 use Rattle.lower_bitwise_unary_lane.proofs.counts.population_count.Tie as tie
@@ -47,7 +47,7 @@ loop-again c =
     let t = turn c in
     let s = t.before.loop in
     let n = (entry t.before).args.lane-bits in
-    (omega (arith, t.loop-test.taken), λ old d. bits-more 3 (count_to n) (countAt n) (count-more n s.i) (s.inv.1 old d) c.before.before.count_at.ensures)
+    (omega (arith, t.loop-test.taken), λ old d. bits-more 3 (count_to n) (count_bit_at n) (count-more n s.i) (s.inv.1 old d) c.before.before.count_at.ensures)
 
 same_length : tie.Need-same-length invariant-loop decreases-loop
 same_length c = (so_far c.before).sized.long

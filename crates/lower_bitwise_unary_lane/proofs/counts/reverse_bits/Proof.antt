@@ -7,7 +7,7 @@ use mathlib.Core.List.{[], ◌∷◌}
 use Rattle.pool_nodes.specs.Builders.{Takes}
 use Rattle.lower.specs.Builds.{read, unread}
 use Rattle.lower.proofs.Lanes.{LanesTo, LanesKept, lanes-first, lanes-more, room-lane, room-concat}
-use Rattle.lower_bitwise_unary_lane.specs.Layers.{reversedFrom}
+use Rattle.lower_bitwise_unary_lane.specs.Layers.{reversed_from}
 use Rattle.lower_bitwise_unary_lane.proofs.Bitwise.{reversed-bit, reversed-all}
 use Rattle.lower_bitwise_unary_lane.proofs.counts.reverse_bits.Statement.{statement}
 use Rattle.lower_bitwise_unary_lane.proofs.counts.reverse_bits.Tie as tie
@@ -15,7 +15,7 @@ use Rattle.lower_bitwise_unary_lane.proofs.counts.reverse_bits.Tie as tie
 abbrev invariant-loop : tie.invariant-loop
 invariant-loop pool₀ count value base lane-bits top highest acc₀ i₀ pool acc i =
     (1 ≤ i) × (i ≤ lane-bits)
-    × ((wa : ℕ) → base.0 + lane-bits ≤ wa → LanesKept count 2 1 unread (read value wa) unread (reversedFrom base.0 lane-bits) (value.0 ∷ []) pool₀ acc₀ pool acc i)
+    × ((wa : ℕ) → base.0 + lane-bits ≤ wa → LanesKept count 2 1 unread (read value wa) unread (reversed_from base.0 lane-bits) (value.0 ∷ []) pool₀ acc₀ pool acc i)
 
 abbrev decreases-loop : tie.decreases-loop
 decreases-loop pool₀ count value base lane-bits top highest acc₀ i₀ pool acc i = lane-bits - i
@@ -25,7 +25,7 @@ entry c = c.before.before.before.before.before.before.before
 
 -- the bits so far, over the pool at entry
 so_far : (c : tie.At-loop invariant-loop decreases-loop) → let a = (entry c).args in (wa : ℕ) → a.base.0 + a.lane-bits ≤ wa
-    → LanesTo a.pool.now a.count c.loop.pool c.loop.acc 2 1 unread (read a.value wa) unread (reversedFrom a.base.0 a.lane-bits)
+    → LanesTo a.pool.now a.count c.loop.pool c.loop.acc 2 1 unread (read a.value wa) unread (reversed_from a.base.0 a.lane-bits)
     (a.value.0 ∷ []) c.loop.i
 so_far c wa h =
     let s = entry c in

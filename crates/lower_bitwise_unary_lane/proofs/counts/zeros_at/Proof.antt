@@ -1,4 +1,4 @@
--- zeros_at builds `zerosAt`: the test of one bit over those of the bits below it
+-- zeros_at builds `zeros_at`: the test of one bit over those of the bits below it
 use mathlib.Core.List.{[], ◌∷◌}
 use Rattle.lower.proofs.Run.{Begun, begun, Next, next}
 use native.Mathlib.Omega.{arith}

@@ -1,4 +1,4 @@
--- source_bits is `kindBits`: twice a lane's bits if the kind narrows, else as many
+-- source_bits is `kind_bits`: twice a lane's bits if the kind narrows, else as many
 use Prim.Native.Nat.{ℕ}
 use Rattle.trees.specs.declared.SaturatingKind.{SaturatingKind}
 use Rattle.lower_kinds.proofs.Bits.{bits-narrowing, bits-same}

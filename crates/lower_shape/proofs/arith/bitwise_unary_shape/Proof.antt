@@ -1,11 +1,11 @@
 -- bitwise_unary_shape: each arm gives the row of its number.
-use Rattle.neon.specs.Op.{opAt, operations}
+use Rattle.neon.specs.Op.{op_at, operations}
 use Rattle.lower_shape.proofs.Numbered.{last}
 use Rattle.lower_shape.proofs.arith.bitwise_unary_shape.Statement.{statement}
 use Rattle.lower_shape.proofs.arith.bitwise_unary_shape.Tie as tie
 
 pub bitwise-unary-shape-spec : {M : Type 1} → statement M
-unfolding opAt operations
+unfolding op_at operations
 bitwise-unary-shape-spec =
     tie.close
     (tie.spec

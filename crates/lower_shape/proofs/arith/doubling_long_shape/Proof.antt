@@ -1,11 +1,11 @@
 -- doubling_long_shape: each arm gives the row of its number.
-use Rattle.neon.specs.Op.{opAt, operations}
+use Rattle.neon.specs.Op.{op_at, operations}
 use Rattle.lower_shape.proofs.Numbered.{last}
 use Rattle.lower_shape.proofs.arith.doubling_long_shape.Statement.{statement}
 use Rattle.lower_shape.proofs.arith.doubling_long_shape.Tie as tie
 
 pub doubling-long-shape-spec : {M : Type 1} → statement M
-unfolding opAt operations
+unfolding op_at operations
 doubling-long-shape-spec =
     tie.close
     (tie.spec

@@ -1,11 +1,11 @@
 -- mixed_sign_add_shape: each arm gives the row of its number.
-use Rattle.neon.specs.Op.{opAt, operations}
+use Rattle.neon.specs.Op.{op_at, operations}
 use Rattle.lower_shape.proofs.Numbered.{last}
 use Rattle.lower_shape.proofs.arith.mixed_sign_add_shape.Statement.{statement}
 use Rattle.lower_shape.proofs.arith.mixed_sign_add_shape.Tie as tie
 
 pub mixed-sign-add-shape-spec : {M : Type 1} → statement M
-unfolding opAt operations
+unfolding op_at operations
 mixed-sign-add-shape-spec =
     tie.close
     (tie.spec

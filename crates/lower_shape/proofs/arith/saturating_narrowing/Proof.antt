@@ -1,11 +1,11 @@
 -- saturating_narrowing: each arm gives the row of its number.
-use Rattle.neon.specs.Op.{opAt, operations}
+use Rattle.neon.specs.Op.{op_at, operations}
 use Rattle.lower_shape.proofs.Numbered.{last}
 use Rattle.lower_shape.proofs.arith.saturating_narrowing.Statement.{statement}
 use Rattle.lower_shape.proofs.arith.saturating_narrowing.Tie as tie
 
 pub saturating-narrowing-spec : {M : Type 1} → statement M
-unfolding opAt operations
+unfolding op_at operations
 saturating-narrowing-spec =
     tie.close
     (tie.spec

@@ -3,7 +3,7 @@ use mathlib.Core.Path.{◌≡◌}
 use mathlib.Core.Logic.{◌⊎◌, ⊎_elim}
 use Prim.Native.Nat.{ℕ, ◌≤◌}
 use native.Mathlib.Omega.{arith}
-use Rattle.neon.specs.Op.{opAt, operations}
+use Rattle.neon.specs.Op.{op_at, operations}
 use Rattle.lower_shape.proofs.Numbered.{NoneOf, above}
 use Rattle.lower_shape.proofs.arith.saturating_same_width.Statement.{statement}
 use Rattle.lower_shape.proofs.arith.saturating_same_width.Tie as tie
@@ -13,7 +13,7 @@ the_last : {n : ℕ} → (19 ≤ n) × (n ≤ 41) × ((n ≤ 26) ⊎ (38 ≤ n))
 the_last {n} p r = ⊎_elim (λ l. absurd (omega (arith, l, above n 19 8 p.0 r.0.0.0))) (λ l. omega (arith, l, p.1, r.0.0.1, r.0.1, r.1)) p.2
 
 pub saturating-same-width-spec : {M : Type 1} → statement M
-unfolding opAt operations
+unfolding op_at operations
 saturating-same-width-spec =
     tie.close
     (tie.spec

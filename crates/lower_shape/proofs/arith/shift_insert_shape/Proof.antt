@@ -1,11 +1,11 @@
 -- shift_insert_shape: each arm gives the row of its number.
-use Rattle.neon.specs.Op.{opAt, operations}
+use Rattle.neon.specs.Op.{op_at, operations}
 use Rattle.lower_shape.proofs.Numbered.{last}
 use Rattle.lower_shape.proofs.arith.shift_insert_shape.Statement.{statement}
 use Rattle.lower_shape.proofs.arith.shift_insert_shape.Tie as tie
 
 pub shift-insert-shape-spec : {M : Type 1} → statement M
-unfolding opAt operations
+unfolding op_at operations
 shift-insert-shape-spec =
     tie.close
     (tie.spec

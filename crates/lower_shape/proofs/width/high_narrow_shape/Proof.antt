@@ -1,11 +1,11 @@
 -- high_narrow_shape: each arm gives the row of its number.
-use Rattle.neon.specs.Op.{opAt, operations}
+use Rattle.neon.specs.Op.{op_at, operations}
 use Rattle.lower_shape.proofs.Numbered.{last}
 use Rattle.lower_shape.proofs.width.high_narrow_shape.Statement.{statement}
 use Rattle.lower_shape.proofs.width.high_narrow_shape.Tie as tie
 
 pub high-narrow-shape-spec : {M : Type 1} → statement M
-unfolding opAt operations
+unfolding op_at operations
 high-narrow-shape-spec =
     tie.close
     (tie.spec

@@ -1,4 +1,4 @@
--- exact_shift_left builds `leftImmediate` of SQSHLU: the exact product at its width, clamped
+-- exact_shift_left builds `left_immediate` of SQSHLU: the exact product at its width, clamped
 use Rattle.lower_exact.proofs.Exactly.{then1}
 use borrow.Author.Rules.{rules}
 use Rattle.lower_shift_lane.proofs.left.exact_shift_left.Statement.{statement}

@@ -1,4 +1,4 @@
--- left_by builds `leftBy`: a left shift by a register, which clamps or not
+-- left_by builds `left_by`: a left shift by a register, which clamps or not
 use Rattle.lower_shift_lane.proofs.ShiftingLeft.{by-saturating, by-wrapping}
 use borrow.Author.Rules.{rules}
 use Rattle.lower_shift_lane.proofs.left.left_by.Statement.{statement}

@@ -1,4 +1,4 @@
--- left_immediate builds `leftImmediate`: a plain shift, or one that clamps
+-- left_immediate builds `left_immediate`: a plain shift, or one that clamps
 use native.Mathlib.Omega.{arith}
 use Rattle.lower_shift_lane.proofs.ShiftingLeft.{left-wrapping, left-into}
 use borrow.Author.Rules.{rules}

@@ -1,4 +1,4 @@
--- saturated_left builds `leftImmediate` of a shift that clamps, into each range
+-- saturated_left builds `left_immediate` of a shift that clamps, into each range
 use native.Mathlib.Omega.{arith}
 use Rattle.facts.proofs.Numbers.{not_third}
 use Rattle.lower_shift_lane.proofs.ShiftingLeft.{left-exact, left-clamped}

@@ -1,4 +1,4 @@
--- saturating_shift_left builds `saturatingShiftLeft`: the shift, the shift back, and the bound
+-- saturating_shift_left builds `saturating_shift_left`: the shift, the shift back, and the bound
 use mathlib.Core.List.{[], ◌∷◌}
 use Rattle.lower.proofs.Run.{Begun, begun, Next, next}
 use native.Mathlib.Omega.{arith}

@@ -1,4 +1,4 @@
--- shift_bound builds `shiftBound`: by the value's sign, or the one bound of the unsigned range
+-- shift_bound builds `shift_bound`: by the value's sign, or the one bound of the unsigned range
 use mathlib.Core.List.{[], ◌∷◌}
 use Rattle.lower.proofs.Run.{Begun, begun, Next, next}
 use native.Mathlib.Omega.{arith}

@@ -1,4 +1,4 @@
--- shift_right builds `shiftRight`: the rounding sum of its own function, else one shift
+-- shift_right builds `shift_right`: the rounding sum of its own function, else one shift
 use Rattle.lower_shift_lane.proofs.Shifting.{right-rounding}
 use Rattle.lower_shift_lane.proofs.Shifting.{right-plain}
 use borrow.Author.Rules.{rules}

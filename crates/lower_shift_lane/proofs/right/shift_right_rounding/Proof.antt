@@ -1,4 +1,4 @@
--- shift_right_rounding builds `shiftRight` with rounding: each call has its room, and the width is `roundingBits`
+-- shift_right_rounding builds `shift_right` with rounding: each call has its room, and the width is `rounding_bits`
 use mathlib.Core.List.{[], ◌∷◌}
 use Rattle.lower.proofs.Run.{both, Begun, begun, Next, next}
 use native.Mathlib.Omega.{arith}

@@ -1,4 +1,4 @@
--- `second_by` gives `secondBy`: whether the second source is read whole.
+-- `second_by` gives `second_by`: whether the second source is read whole.
 use borrow.Author.Rules.{rules}
 use Rattle.run_block.proofs.family.second_by.Statement.{statement}
 use Rattle.run_block.proofs.family.second_by.Tie as tie

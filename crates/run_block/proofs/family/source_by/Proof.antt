@@ -1,4 +1,4 @@
--- `source_by` gives `sourceBy`: the bits of a source lane, twice, half or as many as the result's.
+-- `source_by` gives `source_by`: the bits of a source lane, twice, half or as many as the result's.
 use borrow.Author.Rules.{rules}
 use Rattle.run_block.proofs.family.source_by.Statement.{statement}
 use Rattle.run_block.proofs.family.source_by.Tie as tie

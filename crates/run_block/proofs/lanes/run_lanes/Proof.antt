@@ -6,7 +6,7 @@ use Rattle.neon.specs.Arm.{lane}
 use native.Mathlib.Omega.{arith}
 use mathlib.Core.Path.{◌≡◌, sym, ap, ◌∙◌, subst}
 use Rattle.run_exact.specs.Exact.{Answers}
-use Rattle.run_block.specs.Lanes.{number, laneBy, beyondBy}
+use Rattle.run_block.specs.Lanes.{number, lane_by, beyond_by}
 use Rattle.run_block.proofs.Running.{Kept, none_yet, one_more, two-words, in-word, at_most, all_in, le-times, answers_at, lane-by-lt}
 use Rattle.run_block.proofs.lanes.run_lanes.Statement.{statement}
 use Rattle.run_block.proofs.lanes.run_lanes.Tie as tie
@@ -14,8 +14,8 @@ use Rattle.run_block.proofs.lanes.run_lanes.Tie as tie
 abbrev invariant-loop : tie.invariant-loop
 invariant-loop op n m k skip element index d a b acc₀ saturated₀ j₀ acc saturated j =
     (j ≤ k)
-    × Kept n j (laneBy op n m skip element index.0 (number d) (number a) (number b))
-    (beyondBy op n m skip element index.0 (number d) (number a) (number b)) acc saturated
+    × Kept n j (lane_by op n m skip element index.0 (number d) (number a) (number b))
+    (beyond_by op n m skip element index.0 (number d) (number a) (number b)) acc saturated
 
 abbrev decreases-loop : tie.decreases-loop
 decreases-loop op n m k skip element index d a b acc₀ saturated₀ j₀ acc saturated j = k - j
@@ -33,13 +33,13 @@ module _ (c : tie.In-loop invariant-loop decreases-loop) where
   place = entry.pre.4.lane_in j c.loop-test.true
 
   first : entry.args.m * (j + entry.args.skip) + entry.args.m ≤ 128
-  first = entry.pre.4.first-in j c.loop-test.true
+  first = entry.pre.4.first_in j c.loop-test.true
 
   near : j + entry.args.skip ≤ 128
   near = omega (arith, first, le-times entry.args.m (j + entry.args.skip) entry.pre.1)
 
   n-le : entry.args.n ≤ 64
-  n-le = at_most entry.args.n entry.pre.4.n-word
+  n-le = at_most entry.args.n entry.pre.4.n_word
 
 -- ---- the turn, from where the second source's lane is known and from the lane that is made
 
@@ -53,12 +53,12 @@ second : (c : tie.After-second-at invariant-loop decreases-loop) → let a = (en
 second c =
     let t = turn c in
     let a = (entry t).args in
-    subst (λ (k : ℕ). a.m * k + a.m ≤ 128) (sym c.second_at.ensures) ((entry t).pre.4.second-in (j t) t.loop-test.taken)
+    subst (λ (k : ℕ). a.m * k + a.m ≤ 128) (sym c.second_at.ensures) ((entry t).pre.4.second_in (j t) t.loop-test.taken)
 
 -- the lanes that are read
 lane-is : (c : tie.After-lane-at invariant-loop decreases-loop) → let t = made c in let a = (entry t).args in
-    Answers (laneBy a.op a.n a.m a.skip a.element a.index.0 (number a.d) (number a.a) (number a.b) (j t))
-    (beyondBy a.op a.n a.m a.skip a.element a.index.0 (number a.d) (number a.a) (number a.b) (j t))
+    Answers (lane_by a.op a.n a.m a.skip a.element a.index.0 (number a.d) (number a.a) (number a.b) (j t))
+    (beyond_by a.op a.n a.m a.skip a.element a.index.0 (number a.d) (number a.a) (number a.b) (j t))
     c.lane-at.result.bits c.lane-at.result.saturated
 unfolding lane
 lane-is c =
@@ -80,7 +80,7 @@ mul-lane-at c = omega (arith, place c)
 bits-at-requires : tie.Need-bits-at-requires invariant-loop decreases-loop
 bits-at-requires c κs =
     let s = entry c in
-    (omega (arith, place c, s.pre.0), in-word s.args.n (j c) s.pre.0 s.pre.4.n-word)
+    (omega (arith, place c, s.pre.0), in-word s.args.n (j c) s.pre.0 s.pre.4.n_word)
 
 add-t19 : tie.Need-overflow-add-t19 invariant-loop decreases-loop
 add-t19 c = omega (arith, near c.before)
@@ -91,7 +91,7 @@ mul-t20 c = omega (arith, first c.before)
 bits-at-requires-2 : tie.Need-bits-at-requires-2 invariant-loop decreases-loop
 bits-at-requires-2 c κs =
     let s = entry c.before in
-    (omega (arith, first c.before, s.pre.1), in-word s.args.m _ s.pre.1 s.pre.4.m-word)
+    (omega (arith, first c.before, s.pre.1), in-word s.args.m _ s.pre.1 s.pre.4.m_word)
 
 second-at-requires : tie.Need-second-at-requires invariant-loop decreases-loop
 second-at-requires c κs = omega (arith, near c.before.before)
@@ -102,7 +102,7 @@ mul-t25 c = omega (arith, second c.before)
 bits-at-requires-3 : tie.Need-bits-at-requires-3 invariant-loop decreases-loop
 bits-at-requires-3 c κs =
     let s = entry (turn c.before) in
-    (omega (arith, second c.before, s.pre.1), in-word s.args.m _ s.pre.1 s.pre.4.m-word)
+    (omega (arith, second c.before, s.pre.1), in-word s.args.m _ s.pre.1 s.pre.4.m_word)
 
 lane-at-requires : tie.Need-lane-at-requires invariant-loop decreases-loop
 lane-at-requires c κs =
@@ -140,7 +140,7 @@ loop-again c =
       omega (arith, t.loop-test.taken),
       one_more s.args.n s.args.k _ _
           (lane-by-lt s.args.op s.args.n s.args.m s.args.skip s.args.element s.args.index.0 _ _ _ s.pre.0 (n-le t)
-          s.pre.2 s.pre.3) (j t) _ _ _ _ _ _ t.before.loop.inv.1 (place t) (lane-is l).bits_are (lane-is l).saturated-is
+          s.pre.2 s.pre.3) (j t) _ _ _ _ _ _ t.before.loop.inv.1 (place t) (lane-is l).bits_are (lane-is l).saturated_is
           at-shl.shl.ensures c.before.add.ensures,
     )
 
@@ -152,9 +152,9 @@ returns c =
     let kept = rw e at l.loop.invariant.1 in
     record {
       bits_are = two-words s.args.n s.args.k _ _ (lane-by-lt s.args.op s.args.n s.args.m s.args.skip s.args.element
-          s.args.index.0 _ _ _ s.requires.0 (at_most s.args.n s.requires.4.n-word) s.requires.2 s.requires.3) l.loop.acc l.loop.saturated kept
+          s.args.index.0 _ _ _ s.requires.0 (at_most s.args.n s.requires.4.n_word) s.requires.2 s.requires.3) l.loop.acc l.loop.saturated kept
           (all_in s.args.n s.args.k s.requires.4.lane_in);
-      saturated-is = kept.flag;
+      saturated_is = kept.flag;
     }
 
 pub run-lanes-spec : {M : Type 1} → statement M

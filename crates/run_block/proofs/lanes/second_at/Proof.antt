@@ -1,4 +1,4 @@
--- `second_at` gives `secondAt`: the element's index, or lane j after the skipped ones.
+-- `second_at` gives `second_at`: the element's index, or lane j after the skipped ones.
 use borrow.Author.Rules.{rules}
 use Rattle.run_block.proofs.lanes.second_at.Statement.{statement}
 use Rattle.run_block.proofs.lanes.second_at.Tie as tie

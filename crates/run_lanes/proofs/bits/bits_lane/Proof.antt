@@ -1,7 +1,7 @@
--- `bits_lane` gives `bitsLaneZ` of each of the four kinds.
+-- `bits_lane` gives `bits_lane_z` of each of the four kinds.
 use mathlib.Core.Path.{ap, ◌∙◌}
 use Prim.Native.Nat.{ℕ, ◌-◌}
-use Rattle.neon.specs.Arm.{equalRun}
+use Rattle.neon.specs.Arm.{equal_run}
 use borrow.Author.Rules.{rules}
 use Rattle.run_lanes.proofs.bits.bits_lane.Statement.{statement}
 use Rattle.run_lanes.proofs.bits.bits_lane.Tie as tie
@@ -49,7 +49,7 @@ returns-3 : tie.Need-returns-3
 returns-3 c =
     let at-enum-told = c.before.before in
     let s = at-enum-told.before.before in
-    rw at-enum-told.enum-told3.given.1 (c.run-of2.ensures ∙ ap (λ (t : ℕ). equalRun t (s.args.n - 1) s.args.a)
+    rw at-enum-told.enum-told3.given.1 (c.run-of2.ensures ∙ ap (λ (t : ℕ). equal_run t (s.args.n - 1) s.args.a)
     c.before.bit.ensures.0)
 
 returns-4 : tie.Need-returns-4

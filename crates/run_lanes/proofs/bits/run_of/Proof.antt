@@ -1,14 +1,14 @@
--- `run_of` gives `equalRun`: at j the loop has met k - j bits that are t, and what is left is the run from bit j - 1 down.
+-- `run_of` gives `equal_run`: at j the loop has met k - j bits that are t, and what is left is the run from bit j - 1 down.
 use native.Mathlib.Omega.{arith}
 use mathlib.Core.Path.{◌≡◌, refl, ap, ◌∙◌}
 use Rattle.run_lanes.proofs.Counts.{run-stop, run_more}
 use Prim.Native.Nat.{ℕ, ◌+◌, ◌≤◌}
-use Rattle.neon.specs.Arm.{equalRun}
+use Rattle.neon.specs.Arm.{equal_run}
 use Rattle.run_lanes.proofs.bits.run_of.Statement.{statement}
 use Rattle.run_lanes.proofs.bits.run_of.Tie as tie
 
 abbrev invariant-loop : tie.invariant-loop
-invariant-loop t k a r₀ j₀ r j = (j ≤ k) × (equalRun t k a ≡ r + equalRun t j a) × (r + j ≡ k)
+invariant-loop t k a r₀ j₀ r j = (j ≤ k) × (equal_run t k a ≡ r + equal_run t j a) × (r + j ≡ k)
 
 abbrev decreases-loop : tie.decreases-loop
 decreases-loop t k a r₀ j₀ r j = j
@@ -63,7 +63,7 @@ returns-2 c =
     let l = c.before in
     let a = (entry l).args in
     let e : l.loop.j ≡ 0 = omega arith in
-    let z : equalRun a.t l.loop.j a.a ≡ 0 = ap (λ (x : ℕ). equalRun a.t x a.a) e ∙ unfold equalRun in
+    let z : equal_run a.t l.loop.j a.a ≡ 0 = ap (λ (x : ℕ). equal_run a.t x a.a) e ∙ unfold equal_run in
     refl in omega (arith, l.loop.invariant.1)
 
 pub run-of-spec : {M : Type 1} → statement M

@@ -4,7 +4,7 @@ use mathlib.Core.Path.{refl, subst}
 use mathlib.Core.List.{[]}
 use Rattle.lower.proofs.Run.{Begun, begun, Next, next}
 use Rattle.trees.specs.declared.Combine.{Combine}
-use Rattle.lower.specs.Builds.{Below, readIf}
+use Rattle.lower.specs.Builds.{Below, read_if}
 use Rattle.lower_doubling_long.specs.Elements.{accumulates}
 use Rattle.saturation_at.proofs.At.{at-nothing, at_with}
 use borrow.Author.Rules.{rules}
@@ -64,7 +64,7 @@ extract-lane-requires-3 c κs =
     omega (
       arith,
       second_run (combined o),
-      subst (λ (k : Combine). Below (readIf (accumulates k) s.args.d 0) s.args.count) o.combine.given.1 s.pre.1.0.2 refl,
+      subst (λ (k : Combine). Below (read_if (accumulates k) s.args.d 0) s.args.count) o.combine.given.1 s.pre.1.0.2 refl,
     )
 
 either-bit-requires : tie.Need-either-bit-requires

@@ -4,7 +4,7 @@ use mathlib.Core.Path.{subst, ◌≡◌}
 use mathlib.Core.Bool.{true}
 use Rattle.trees.specs.declared.ShiftKind.{ShiftKind}
 use Rattle.lower_kinds.specs.Sources.{AmountIn}
-use Rattle.saturation.specs.Bits.{saturableShift}
+use Rattle.saturation.specs.Bits.{saturable_shift}
 use Rattle.saturation_lane.proofs.Shifts.{is-left, is-register, not_right}
 use borrow.Author.Rules.{rules}
 use Rattle.saturation_lane.proofs.shift.shift_bit.Statement.{statement}
@@ -32,7 +32,7 @@ left-some-requires c κs =
         omega (arith, st.pre),
         subst (λ (k : ShiftKind). AmountIn k st.args.lane-bits) e st.pre.1.4,
         omega (arith, st.pre),
-        subst (λ (k : ShiftKind). saturableShift k ≡ true) e st.pre.1.5,
+        subst (λ (k : ShiftKind). saturable_shift k ≡ true) e st.pre.1.5,
       ),
     )
 

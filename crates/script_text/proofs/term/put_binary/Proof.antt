@@ -75,7 +75,7 @@ returns c =
     let a = (entry done).args in
     let z : l.k ≡ 0 = omega (arith, c.loop-test.false) in
     record {
-      next-is = omega (arith, l.invariant.1, z, binary-length a.width (wide a.low a.high));
+      next_is = omega (arith, l.invariant.1, z, binary-length a.width (wide a.low a.high));
       after_is = ap (λ (k : ℕ). sets l.buf l.i (binary k (wide a.low a.high))) (sym z) ∙ l.invariant.0;
     }
 

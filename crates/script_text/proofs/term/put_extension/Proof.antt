@@ -6,7 +6,7 @@ use Rattle.text_digits.specs.Writing.{Room}
 use Rattle.script_text.proofs.Parts.{together, left}
 use Rattle.text_digits.proofs.Laws.{room-front, room-step, room_as, wrote_then, wrote_as}
 use Rattle.pool.specs.Node.{kind_at}
-use Rattle.script_meaning.specs.Script.{functionOf, name_of}
+use Rattle.script_meaning.specs.Script.{function_of, name_of}
 use Rattle.script_text.proofs.Chunks.{indexed-1}
 use borrow.Author.Rules.{rules}
 use Rattle.script_text.proofs.term.put_extension.Statement.{statement}
@@ -55,10 +55,10 @@ before-7 c = c.before.before.before.before.before
 abbrev texts : tie.Start → List (List ℕ)
 texts s =
     let a = s.args in
-    bytes "((_ " ∷ functionOf (kind_at a.k) ∷ bytes " " ∷ decimal a.by ∷ bytes ") " ∷ name_of a.p.now a.a.0 ∷ bytes ")" ∷ []
+    bytes "((_ " ∷ function_of (kind_at a.k) ∷ bytes " " ∷ decimal a.by ∷ bytes ") " ∷ name_of a.p.now a.a.0 ∷ bytes ")" ∷ []
 
 room : (s : tie.Start) → Room s.args.buf.now s.args.at (together (texts s))
-room s = room_as (indexed-1 (functionOf (kind_at s.args.k)) (name_of s.args.p.now s.args.a.0) s.args.by) s.requires.1
+room s = room_as (indexed-1 (function_of (kind_at s.args.k)) (name_of s.args.p.now s.args.a.0) s.args.by) s.requires.1
 
 room-1 : (c : tie.After-put) → Room c.put.new.1.0 c.put.result (left 1 (texts (entry-1 c)))
 room-1 c = room-step c.put.ensures (room (entry-1 c))
@@ -130,7 +130,7 @@ returns c =
     let w2 = before-3 w3 in
     let w1 = before-2 w2 in
     let s = entry-1 w1 in
-    wrote_as (indexed-1 (functionOf (kind_at s.args.k)) (name_of s.args.p.now s.args.a.0) s.args.by)
+    wrote_as (indexed-1 (function_of (kind_at s.args.k)) (name_of s.args.p.now s.args.a.0) s.args.by)
     (wrote_then w1.put.ensures (wrote_then w2.put_function.ensures (wrote_then w3.put2.ensures (wrote_then w4.put-number.ensures
     (wrote_then w5.put3.ensures (wrote_then w6.put-name.ensures w7.put4.ensures))))))
 

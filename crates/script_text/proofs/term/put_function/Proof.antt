@@ -3,15 +3,15 @@ use mathlib.Core.Path.{◌≡◌, ap}
 use Prim.Native.Nat.{ℕ}
 use Rattle.text_digits.proofs.Laws.{room_as, wrote_as}
 use Rattle.pool.specs.Node.{kind_at, kinds}
-use Rattle.script_meaning.specs.Script.{functionOf}
+use Rattle.script_meaning.specs.Script.{function_of}
 use Rattle.script_text.proofs.Spelling.{above, last-kind}
 use borrow.Author.Rules.{rules}
 use Rattle.script_text.proofs.term.put_function.Statement.{statement}
 use Rattle.script_text.proofs.term.put_function.Tie as tie
 
 -- the name that is due, by a kind's number
-named : {k : ℕ} (y : ℕ) → k ≡ y → functionOf (kind_at k) ≡ functionOf (kind_at y)
-named y e = ap (λ (k : ℕ). functionOf (kind_at k)) e
+named : {k : ℕ} (y : ℕ) → k ≡ y → function_of (kind_at k) ≡ function_of (kind_at y)
+named y e = ap (λ (k : ℕ). function_of (kind_at k)) e
 
 -- past the arms of 3 to 18 it is 19
 last-is : (c : tie.At-match-rest) → c.before.before.args.k ≡ 19

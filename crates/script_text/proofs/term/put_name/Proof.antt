@@ -1,7 +1,7 @@
 -- `put_name` writes a node's name: its register's for a Var, else its own.
 use Rattle.text_digits.proofs.Laws.{room_as, wrote_as}
 use mathlib.Core.Path.{◌≡◌, sym, ap, ◌∙◌}
-use Rattle.script_meaning.specs.Script.{registerName, nodeName, name_of}
+use Rattle.script_meaning.specs.Script.{register_name, node_name, name_of}
 use Rattle.script_text.proofs.Spelling.{register-named, node-named}
 use borrow.Author.Rules.{rules}
 use Rattle.script_text.proofs.term.put_name.Statement.{statement}
@@ -12,13 +12,13 @@ use Rattle.script_text.proofs.term.put_name.Tie as tie
 abbrev entry : tie.After-kind-of → tie.Start
 entry c = c.before.before.before
 
-register : (c : tie.After-low) → let a = (entry c.before.before).args in name_of a.p.now a.n.0 ≡ registerName c.low.result
+register : (c : tie.After-low) → let a = (entry c.before.before).args in name_of a.p.now a.n.0 ≡ register_name c.low.result
 register c =
     let v = c.before in
     let a = (entry v.before).args in
-    register-named a.p.now a.n.0 (sym v.before.kind-of.ensures ∙ v.if1.true) ∙ ap registerName (sym c.low.ensures)
+    register-named a.p.now a.n.0 (sym v.before.kind-of.ensures ∙ v.if1.true) ∙ ap register_name (sym c.low.ensures)
 
-own : (c : tie.Else1) → let a = (entry c.before).args in name_of a.p.now a.n.0 ≡ nodeName a.n.0
+own : (c : tie.Else1) → let a = (entry c.before).args in name_of a.p.now a.n.0 ≡ node_name a.n.0
 own c = let a = (entry c.before).args in node-named a.p.now a.n.0 (λ e. c.if1.false (c.before.kind-of.ensures ∙ e))
 
 -- ---- needs

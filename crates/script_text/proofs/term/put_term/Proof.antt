@@ -7,7 +7,7 @@ use native.Mathlib.Omega.{arith}
 use Rattle.terms.specs.Display.{bytes}
 use Rattle.pool.specs.Node.{kind_at, width_at, word_at, wide}
 use Rattle.script_meaning.specs.Sexp.{show}
-use Rattle.script_meaning.specs.Script.{binary, name_of, termOf, functionOf, apply1, apply2, apply3, index1, index2}
+use Rattle.script_meaning.specs.Script.{binary, name_of, term_of, function_of, apply1, apply2, apply3, index1, index2}
 use Rattle.pool_fields.specs.Fields.{op_a, op_b}
 use Rattle.script_text.proofs.Nodes.{Two, Extends, constant, three-of, cut_of, two-of, extension-of, extension-term, kind-below}
 use borrow.Author.Rules.{rules}
@@ -25,7 +25,7 @@ node s = s.args.n.0
 
 -- the text that is due
 abbrev due : tie.Start → List ℕ
-due s = show (termOf (pool s) (node s))
+due s = show (term_of (pool s) (node s))
 
 -- ---- a Const: words and width are read
 
@@ -149,16 +149,16 @@ module _ (c : tie.After-second2) where
   two_from = from-three two-entry.args.k two-entry.pre.0.2 two-if.before.before.before.if1.left
 
   two_is : let s = two-entry in let ws = pool s in
-      Two (node s) (op_a ws (node s)) (op_b ws (node s)) (termOf ws (node s)) (apply2 (functionOf (kind_at s.args.k)) (name_of ws (op_a ws (node s))) (name_of ws (op_b ws (node s))))
+      Two (node s) (op_a ws (node s)) (op_b ws (node s)) (term_of ws (node s)) (apply2 (function_of (kind_at s.args.k)) (name_of ws (op_a ws (node s))) (name_of ws (op_b ws (node s))))
   two_is =
       let s = two-entry in
       two-of (pool s) (node s) s.pre.0.0 s.args.k s.pre.0.1 two_from two-if.if4.taken two-if.before.before.if2.left two-if.before.if3.left
 
   two-text : let s = two-entry in
-      due s ≡ show (apply2 (functionOf (kind_at s.args.k)) (name_of (pool s) c.before.first3.result.0) (name_of (pool s) c.second2.result.0))
+      due s ≡ show (apply2 (function_of (kind_at s.args.k)) (name_of (pool s) c.before.first3.result.0) (name_of (pool s) c.second2.result.0))
   two-text =
       let s = two-entry in
-      ap show (two_is.term_is ∙ (λ j. apply2 (functionOf (kind_at s.args.k)) (name_of (pool s) (sym c.before.first3.ensures j)) (name_of (pool s) (sym c.second2.ensures j))))
+      ap show (two_is.term_is ∙ (λ j. apply2 (function_of (kind_at s.args.k)) (name_of (pool s) (sym c.before.first3.ensures j)) (name_of (pool s) (sym c.second2.ensures j))))
 
 first-requires-3 : tie.Need-first-requires-3
 first-requires-3 c κs = search rules
@@ -205,12 +205,12 @@ narrow : (c : tie.After-width-of3) → let s = entry-19 c in c.width-of3.result 
 narrow c = c.width-of3.ensures.0 ∙ ap (width_at (pool (entry-19 c))) c.before.first4.ensures
 
 text-18 : (c : tie.After-first5) → let w = c.before in let s = entry-19 w in
-    due s ≡ show (apply1 (index1 (functionOf (kind_at s.args.k)) ((own w).width-of2.result - w.width-of3.result)) (name_of (pool s) c.first5.result.0))
+    due s ≡ show (apply1 (index1 (function_of (kind_at s.args.k)) ((own w).width-of2.result - w.width-of3.result)) (name_of (pool s) c.first5.result.0))
 text-18 c =
     let w = c.before in
     let s = entry-19 w in
     ap show (extension-term (pool s) (node s) s.pre.0.0 s.args.k s.pre.0.1 (own w).before.if4.false
-    ∙ (λ j. apply1 (index1 (functionOf (kind_at s.args.k)) (sym (own w).width-of2.ensures.0 j - sym (narrow w) j)) (name_of (pool s) (sym c.first5.ensures j))))
+    ∙ (λ j. apply1 (index1 (function_of (kind_at s.args.k)) (sym (own w).width-of2.ensures.0 j - sym (narrow w) j)) (name_of (pool s) (sym c.first5.ensures j))))
 
 width-of-requires-2 : tie.Need-width-of-requires-2
 width-of-requires-2 c κs = search rules

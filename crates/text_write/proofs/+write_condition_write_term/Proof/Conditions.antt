@@ -5,11 +5,11 @@ use Prim.Native.Nat.{ℕ}
 use native.Mathlib.Omega.{arith}
 use denote.Ref.{at_last}
 use Rattle.terms.specs.Display.{bytes}
-use Rattle.pool.specs.Node.{kindNumber}
+use Rattle.pool.specs.Node.{kind_number}
 use Rattle.pool_fields.specs.Fields.{op_a, op_b}
 use Rattle.text_digits.specs.Writing.{Room, Wrote}
 use Rattle.text_digits.proofs.Laws.{room-front, room-step, room_as}
-use Rattle.text_operators.specs.Between.{betweenText}
+use Rattle.text_operators.specs.Between.{between_text}
 use Rattle.text_parts.specs.Text.{text}
 use Rattle.text_parts.proofs.Operands.{Pair, pair-a, pair-b}
 use Rattle.text_parts.proofs.Tree.{a-compare, whole-compare}
@@ -25,7 +25,7 @@ abbrev after-right : List ℕ → ℕ → List ℕ
 after-right ws n = text ws (op_b ws n) ++ bytes ")"
 
 abbrev after-left : List ℕ → ℕ → List ℕ
-after-left ws n = betweenText (kindNumber ws n) ++ after-right ws n
+after-left ws n = between_text (kind_number ws n) ++ after-right ws n
 
 module _ (t : ℕ) where
   abbrev Start : Type 0
@@ -43,7 +43,7 @@ module _ (t : ℕ) where
   abbrev node : Start → ℕ
   node s = s.args.n.0
 
-  pair : (s : Start) → Pair (kindNumber (pool s) (node s))
+  pair : (s : Start) → Pair (kind_number (pool s) (node s))
   pair s = a-compare (pool s) (node s) s.requires.1.0.0 _ refl s.requires.1.0.1
 
   whole : (s : Start) → text (pool s) (node s) ≡ bytes "(" ++ (text (pool s) (op_a (pool s) (node s)) ++ after-left (pool s) (node s))
@@ -77,7 +77,7 @@ module _ (t : ℕ) where
 
   sign-wrote : (c : Signed) → let l = lefted c in
       let s = start (opened l) in
-      Wrote l.write-term.last.1.1.0.now l.write-term.result (betweenText (kindNumber (pool s) (node s))) c.put-between.result c.put-between.new.1.0
+      Wrote l.write-term.last.1.1.0.now l.write-term.result (between_text (kind_number (pool s) (node s))) c.put-between.result c.put-between.new.1.0
   sign-wrote c = rw c.before.before.kind-of.ensures at c.put-between.ensures
 
   sign-room : (c : Signed) → let s = start (opened (lefted c)) in Room c.put-between.new.1.0 c.put-between.result (after-right (pool s) (node s))

@@ -8,11 +8,11 @@ use native.Mathlib.Omega.{arith}
 use borrow.Author.Tests.{eq-eqb, ne_eqb, le-leb, lt-leb}
 use denote.Ref.{MutBor, at_last}
 use Rattle.terms.specs.Display.{bytes}
-use Rattle.pool_fields.specs.Fields.{op_a, left_of, rightOf}
+use Rattle.pool_fields.specs.Fields.{op_a, left_of, right_of}
 use Rattle.text_digits.specs.Writing.{Room}
 use Rattle.text_digits.proofs.Laws.{room-front, room-step, room_as}
-use Rattle.text_operators.specs.Between.{betweenText}
-use Rattle.text_parts.specs.Text.{text, endText, single}
+use Rattle.text_operators.specs.Between.{between_text}
+use Rattle.text_parts.specs.Text.{text, end_text, single}
 use Rattle.text_parts.proofs.Operands.{to-nineteen, ite-a}
 use Rattle.text_write.specs.Behind.{WroteBehind}
 use Rattle.text_write.proofs.Behind.{behind-one, behind-then, behind_more, behind-as, behind-at}
@@ -94,7 +94,7 @@ module _ (t : ℕ) where
   text-wrote c w = behind-as (whole_is (inner (fronted c))) (behind_more (front-wrote (fronted c)) (behind_more (left-wrote c) w))
 
   -- an only operand: an Extract's, and an extension's
-  end_is : (c : Inner) → single (kind c) ≡ true → rest (pool (start c)) (node (start c)) (kind c) ≡ endText (pool (start c)) (node (start c))
+  end_is : (c : Inner) → single (kind c) ≡ true → rest (pool (start c)) (node (start c)) (kind c) ≡ end_text (pool (start c)) (node (start c))
   end_is c s = rw s
 
   abbrev Range : Type 0
@@ -123,12 +123,12 @@ module _ (t : ℕ) where
   two_is c = rw (ne_eqb _ 16 c.before.if3.false, lt-leb 18 _ c.if4.false) refl
 
   rest-is : (c : Two) → let i = inner (fronted (lefted c)) in
-      rest (pool (start i)) (node (start i)) (kind i) ≡ betweenText (kind i) ++ (text (pool (start i)) (rightOf (pool (start i)) (node (start i))) ++ bytes ")")
+      rest (pool (start i)) (node (start i)) (kind i) ≡ between_text (kind i) ++ (text (pool (start i)) (right_of (pool (start i)) (node (start i))) ++ bytes ")")
   rest-is c = rw (two_is c)
 
   two-room : (c : Two) → let i = inner (fronted (lefted c)) in
       Room (lefted c).write-term.new.1.1.0.now (lefted c).write-term.result
-      (betweenText (kind i) ++ (text (pool (start i)) (rightOf (pool (start i)) (node (start i))) ++ bytes ")"))
+      (between_text (kind i) ++ (text (pool (start i)) (right_of (pool (start i)) (node (start i))) ++ bytes ")"))
   two-room c = room_as (rest-is c) (left-room (lefted c))
 
   -- what comes between them is written
@@ -139,7 +139,7 @@ module _ (t : ℕ) where
   two c = c.before.before
 
   sign-room : (c : Signed) → let s = start (inner (fronted (lefted (two c)))) in
-      Room c.put-between.new.1.0 c.put-between.result (text (pool s) (rightOf (pool s) (node s)) ++ bytes ")")
+      Room c.put-between.new.1.0 c.put-between.result (text (pool s) (right_of (pool s) (node s)) ++ bytes ")")
   sign-room c = room-step c.put-between.ensures (two-room (two c))
 
   -- the right operand is written
@@ -152,7 +152,7 @@ module _ (t : ℕ) where
   right-wrote : (c : Righted) → let g = signed c in
       let l = lefted (two g) in
       let s = start (inner (fronted l)) in
-      WroteBehind (at_last l.write-term.last.1.1.0 g.put-between.last.1.0) g.put-between.result (text (pool s) (rightOf (pool s) (node s)))
+      WroteBehind (at_last l.write-term.last.1.1.0 g.put-between.last.1.0) g.put-between.result (text (pool s) (right_of (pool s) (node s)))
       c.write-term2.result c.write-term2.new.1.1.0
   right-wrote c = rw c.before.before.right.ensures at c.write-term2.ensures
 

@@ -1,6 +1,6 @@
 -- `words_encoding::decode::arrangement_of` meets its contract.
 use mathlib.Core.Path.{sym, ◌∙◌}
-use Rattle.neon.specs.Op.{opAt}
+use Rattle.neon.specs.Op.{op_at}
 use Rattle.neon.specs.Form.{form}
 use Rattle.words_encoding.proofs.Pieces.{arrangement-long, arrangement-other}
 use borrow.Author.Rules.{rules}
@@ -23,7 +23,7 @@ returns : tie.Need-returns
 returns c =
     let long = c.before in
     let a = long.before.before.args in
-    (c.at-most-6.ensures.0 ∙ arrangement-long (form (opAt a.operation)).lanes a.q a.size (sym long.before.is-long.ensures ∙ long.if1.true), c.at-most-6.ensures.1)
+    (c.at-most-6.ensures.0 ∙ arrangement-long (form (op_at a.operation)).lanes a.q a.size (sym long.before.is-long.ensures ∙ long.if1.true), c.at-most-6.ensures.1)
 
 mul-at-most-6-2 : tie.Need-overflow-mul-at-most-6-2
 mul-at-most-6-2 c = search rules
@@ -38,7 +38,7 @@ returns-2 : tie.Need-returns-2
 returns-2 c =
     let other = c.before in
     let a = other.before.before.args in
-    (c.at-most-62.ensures.0 ∙ arrangement-other (form (opAt a.operation)).lanes a.q a.size (sym other.before.is-long.ensures ∙ other.if1.false), c.at-most-62.ensures.1)
+    (c.at-most-62.ensures.0 ∙ arrangement-other (form (op_at a.operation)).lanes a.q a.size (sym other.before.is-long.ensures ∙ other.if1.false), c.at-most-62.ensures.1)
 
 pub arrangement-of-spec : {M : Type 1} → statement M
 arrangement-of-spec =

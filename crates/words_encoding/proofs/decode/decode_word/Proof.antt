@@ -3,13 +3,13 @@ use mathlib.Core.Path.{◌≡◌, sym, ap, ◌∙◌}
 use Prim.Native.Nat.{ℕ, ◌%◌, ◌≤◌}
 use native.Mathlib.Omega.{arith}
 use Rattle.neon.specs.declared.Instruction.{Instruction}
-use Rattle.neon.specs.Op.{opAt, arrangementAt}
+use Rattle.neon.specs.Op.{op_at, arrangement_at}
 use Rattle.neon.specs.Form.{form}
 use Rattle.block_record_check.specs.Record.{instruction}
 use Rattle.neon.proofs.Geometry.{sized}
 use Rattle.neon_form.proofs.Parts.{with-form}
 use Rattle.words_encoding.specs.Encoding.{encoding}
-use Rattle.words_encoding.specs.Decode.{bits, operationAt, size_at, arrangementOf, immediateAt, secondAt, fields_of}
+use Rattle.words_encoding.specs.Decode.{bits, operation_at, size_at, arrangement_of, immediate_at, second_at, fields_of}
 use Rattle.words_encoding.proofs.Lookup.{class-is}
 use Rattle.words_encoding.proofs.Decoding.{positive, refused, read_as, other_word, no-operation, no-form, all-fields}
 use borrow.Author.Rules.{rules}
@@ -37,20 +37,20 @@ operation-some c = omega (arith, c.if1.false)
 record Arranged (w k a : ℕ) : Type 0 where
   some : 1 ≤ k
   most : k ≤ 67
-  operation-is : k ≡ operationAt w
-  arrangement-is : a ≡ arrangementOf (form (opAt k)).lanes (bits 30 30 w) (size_at (encoding (opAt k)).class w)
+  operation-is : k ≡ operation_at w
+  arrangement-is : a ≡ arrangement_of (form (op_at k)).lanes (bits 30 30 w) (size_at (encoding (op_at k)).class w)
 
 arranged : (c : tie.After-arrangement-of) → let p = operation-at-done c in Arranged (word p) p.operation-at.result c.arrangement-of.result
 arranged c =
     let z = c.before in
     let e = z.before.before in
     let p = operation-at-done c in
-    let o = opAt p.operation-at.result in
+    let o = op_at p.operation-at.result in
     record {
       some = operation-some e;
       most = p.operation-at.ensures.1;
       operation-is = p.operation-at.ensures.0;
-      arrangement-is = c.arrangement-of.ensures.0 ∙ ap (λ (s : ℕ). arrangementOf (form o).lanes (bits 30 30 (word p)) s) z.size-at.ensures.0;
+      arrangement-is = c.arrangement-of.ensures.0 ∙ ap (λ (s : ℕ). arrangement_of (form o).lanes (bits 30 30 (word p)) s) z.size-at.ensures.0;
     }
 
 abbrev read : tie.After-second-at → Instruction
@@ -69,14 +69,14 @@ fields c =
     let k = (operation-at-done r).operation-at.result in
     let a = r.arrangement-of.result in
     let g = arranged r in
-    let o = opAt k in
-    let v = arrangementAt a in
+    let o = op_at k in
+    let v = arrangement_at a in
     let f = with-form k a g.some g.most (λ z. e.if2.false (q.form-code.ensures ∙ z)) in
     let code = q.form-code.ensures ∙ f.2 in
     let bits_are = b.lane-bits.ensures in
     all-fields w k a g.operation-is g.arrangement-is c.before.immediate-at.result c.second_at.result
-    (c.before.immediate-at.ensures o v f.1 code ∙ ap (λ (n : ℕ). immediateAt (form o).immediate n w) bits_are)
-    (c.second_at.ensures o v f.1 code ∙ ap (λ (n : ℕ). secondAt o n w) bits_are)
+    (c.before.immediate-at.ensures o v f.1 code ∙ ap (λ (n : ℕ). immediate_at (form o).immediate n w) bits_are)
+    (c.second_at.ensures o v f.1 code ∙ ap (λ (n : ℕ). second_at o n w) bits_are)
 
 operation-at-requires : tie.Need-operation-at-requires
 operation-at-requires c κs = search rules
@@ -112,7 +112,7 @@ lane-bits-requires c κs = search rules
 
 immediate-at-requires : tie.Need-immediate-at-requires
 immediate-at-requires c κs =
-    let v = arrangementAt c.before.before.before.arrangement-of.result in
+    let v = arrangement_at c.before.before.before.arrangement-of.result in
     omega (arith, c.lane-bits.ensures, (sized v).most)
 
 second-at-requires : tie.Need-second-at-requires

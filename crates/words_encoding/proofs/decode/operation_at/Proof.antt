@@ -5,11 +5,11 @@ use Prim.Native.Nat.{ℕ, ◌+◌, ◌*◌, ◌/◌, ◌%◌, ◌^◌, ◌≤◌
 use native.Mathlib.Omega.{arith}
 use lib.ListN.{get_or}
 use Rattle.facts.proofs.Table.{tabulate, entry}
-use Rattle.neon.specs.Op.{operations, opAt}
+use Rattle.neon.specs.Op.{operations, op_at}
 use Rattle.neon.specs.Arm.{lane, lanes}
 use Rattle.neon.proofs.Lanes.{lane-of-lanes}
-use Rattle.words_encoding.specs.Decode.{bits, class_at, opcodeAt, operationOf, operationAt}
-use Rattle.words_encoding.specs.Parts.{keyOf}
+use Rattle.words_encoding.specs.Decode.{bits, class_at, opcode_at, operation_of, operation_at}
+use Rattle.words_encoding.specs.Parts.{key_of}
 use Rattle.words_encoding.proofs.Lookup.{rule, rule-lt, looked-up, operation-le}
 use borrow.Author.Rules.{rules}
 use Rattle.words_encoding.proofs.decode.operation_at.Statement.{statement}
@@ -22,11 +22,11 @@ word r = lanes 8 8 (λ j. rule 0 (8 * r + j))
 table : List ℕ
 table = tabulate word 0 40
 
-at-le : (w : ℕ) → operationAt w ≤ 67
-unfolding operationAt
-at-le w = operation-le (class_at w) (bits 30 30 w) (bits 29 29 w) (opcodeAt (class_at w) w) 67
+at-le : (w : ℕ) → operation_at w ≤ 67
+unfolding operation_at
+at-le w = operation-le (class_at w) (bits 30 30 w) (bits 29 29 w) (opcode_at (class_at w) w) 67
 
-found : (w c k : ℕ) → c ≡ class_at w → c ≤ 4 → k ≡ keyOf c w → k < 64 → get_or table (8 * c + k / 8) 0 / 2 ^ (8 * (k % 8)) % 256 ≡ operationAt w
+found : (w c k : ℕ) → c ≡ class_at w → c ≤ 4 → k ≡ key_of c w → k < 64 → get_or table (8 * c + k / 8) 0 / 2 ^ (8 * (k % 8)) % 256 ≡ operation_at w
 unfolding table word lane
 found w c k e h q l =
     let r = 8 * c + k / 8 in
@@ -61,13 +61,13 @@ shr-result : tie.Need-overflow-shr-result
 shr-result c = search rules
 
 returns : tie.Need-returns
-unfolding table tabulate word lanes operationOf opAt operations
+unfolding table tabulate word lanes operation_of op_at operations
 returns c =
     let w = c.before.before.args.w in
     let a = c.before.class-at in
     let k = c.key in
     let at : ℕ = get_or table (8 * a.result + k.result / 8) 0 / 2 ^ (8 * (k.result % 8)) % 256 in
-    let e : at ≡ operationAt w = found w a.result k.result a.ensures.0 a.ensures.1 k.ensures.0 k.ensures.1 in
+    let e : at ≡ operation_at w = found w a.result k.result a.ensures.0 a.ensures.1 k.ensures.0 k.ensures.1 in
     (e, subst (λ (x : ℕ). x ≤ 67) (sym e) (at-le w))
 
 pub operation-at-spec : {M : Type 1} → statement M

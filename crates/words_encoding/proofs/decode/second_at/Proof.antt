@@ -1,7 +1,7 @@
 -- `words_encoding::decode::second_at` meets its contract.
 use mathlib.Core.Bool.{true}
 use mathlib.Core.Path.{◌≡◌, sym, ◌∙◌}
-use Rattle.neon.specs.Form.{hasSecond}
+use Rattle.neon.specs.Form.{has_second}
 use Rattle.neon_form.specs.Code.{OfCode}
 use borrow.Author.Tests.{not-true, not-false}
 use borrow.Author.Rules.{rules}
@@ -12,7 +12,7 @@ abbrev asked : tie.After-by-element → tie.After-has-second
 asked b = b.before.before
 
 -- the code of a form that has a second source
-second : (b : tie.After-by-element) → OfCode (asked b).before.args.code (λ o v. hasSecond o ≡ true)
+second : (b : tie.After-by-element) → OfCode (asked b).before.args.code (λ o v. has_second o ≡ true)
 second b = λ o v h e. sym ((asked b).has-second.ensures o v h e) ∙ not-false (asked b).has-second.result b.before.if1.false
 
 has-second-requires : tie.Need-has-second-requires

@@ -3,14 +3,14 @@ use mathlib.Core.Path.{◌≡◌, sym, ap, ◌∙◌}
 use native.Mathlib.Omega.{arith}
 use Prim.Native.Nat.{ℕ, ◌+◌, ◌*◌}
 use Rattle.neon.specs.declared.Instruction.{Instruction}
-use Rattle.neon.specs.Op.{opAt, arrangementAt, laneBits}
+use Rattle.neon.specs.Op.{op_at, arrangement_at, bits_of_lane}
 use Rattle.neon.specs.Form.{form}
 use Rattle.neon.proofs.Legal.{Accepted, accepted, m-le}
 use Rattle.block_record_check.specs.Record.{instruction}
 use Rattle.block_record_check.proofs.Refusals.{form-legal}
 use Rattle.neon.proofs.Geometry.{sized}
 use Rattle.neon_form.proofs.Parts.{coded}
-use Rattle.words_encoding.specs.Parts.{placePart}
+use Rattle.words_encoding.specs.Parts.{place_part}
 use Rattle.words_encoding.proofs.Pieces.{most-small}
 use Rattle.words_encoding.proofs.Sum.{encode-sum}
 use borrow.Author.Rules.{rules}
@@ -45,8 +45,8 @@ place-requires : tie.Need-place-requires
 place-requires c κs =
     let st = c.before.before.before in
     let l = legal st in
-    let o = opAt st.args.operation in
-    let v = arrangementAt st.args.arrangement in
+    let o = op_at st.args.operation in
+    let v = arrangement_at st.args.arrangement in
     (omega (arith, c.before.lane-bits.ensures, (sized v).most), c.size-part.ensures.1, omega (arith, l.form_of.high, most-small (form o).immediate v), omega (arith, l.at-m, m-le o v))
 
 fixed-requires : tie.Need-fixed-requires
@@ -78,13 +78,13 @@ returns : tie.Need-returns
 returns c =
     let p = c.before.before in
     let r = asked (entry c) in
-    let o = opAt r.operation in
-    let v = arrangementAt r.arrangement in
+    let o = op_at r.operation in
+    let v = arrangement_at r.arrangement in
     let k = coded r.operation r.arrangement r.i 0 (form-legal r (entry c).requires) in
     let q = p.place.ensures.0 o v k.0 (p.before.before.before.form-code.ensures ∙ k.1) in
     sum-as r.n r.d c.before.fixed.ensures.0 c.view-part.ensures.0
-    (q ∙ ap (λ (b : ℕ). placePart (form o).immediate b p.before.size-part.result r.i r.m) p.before.before.lane-bits.ensures
-    ∙ ap (λ (s : ℕ). placePart (form o).immediate (laneBits v) s r.i r.m) p.before.size-part.ensures.0)
+    (q ∙ ap (λ (b : ℕ). place_part (form o).immediate b p.before.size-part.result r.i r.m) p.before.before.lane-bits.ensures
+    ∙ ap (λ (s : ℕ). place_part (form o).immediate (bits_of_lane v) s r.i r.m) p.before.size-part.ensures.0)
     ∙ sym (encode-sum r (entry c).requires)
 
 pub encode-word-spec : {M : Type 1} → statement M

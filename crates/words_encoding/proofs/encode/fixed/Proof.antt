@@ -7,13 +7,13 @@ use lib.ListN.{get_or}
 use Rattle.words_encoding.proofs.Sum.{fixed-fits}
 use borrow.Author.Rules.{rules}
 use Rattle.facts.proofs.Table.{tabulate, entry}
-use Rattle.neon.specs.Op.{operations, opAt}
+use Rattle.neon.specs.Op.{operations, op_at}
 use Rattle.words_encoding.specs.Parts.{fixed_of}
 use Rattle.words_encoding.proofs.encode.fixed.Statement.{statement}
 use Rattle.words_encoding.proofs.encode.fixed.Tie as tie
 
 word : ℕ → ℕ
-word k = fixed_of (opAt (suc k))
+word k = fixed_of (op_at (suc k))
 
 table : List ℕ
 table = tabulate word 0 67
@@ -28,11 +28,11 @@ array-read-result : tie.Need-array-read-result
 array-read-result c = search rules
 
 returns : tie.Need-returns
-unfolding table tabulate word fixed_of opAt operations
+unfolding table tabulate word fixed_of op_at operations
 returns c =
     let k = c.args.operation in
     let one : suc (k - 1) ≡ k = omega arith in
-    let e : get_or table (k - 1) 0 ≡ fixed_of (opAt k) = entry word 67 (k - 1) (omega arith) ∙ ap (λ (j : ℕ). fixed_of (opAt j)) one in
+    let e : get_or table (k - 1) 0 ≡ fixed_of (op_at k) = entry word 67 (k - 1) (omega arith) ∙ ap (λ (j : ℕ). fixed_of (op_at j)) one in
     (e, subst (λ (x : ℕ). x < 2147483648) (sym e) (fixed-fits k c.requires.0 c.requires.1))
 
 pub fixed-spec : {M : Type 1} → statement M

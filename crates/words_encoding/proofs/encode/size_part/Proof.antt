@@ -6,7 +6,7 @@ use native.Mathlib.Omega.{arith}
 use lib.Dec.{ltb}
 use borrow.Author.Tests.{ltb-true}
 use Rattle.facts.proofs.Tests.{and_both}
-use Rattle.neon.specs.Op.{opAt}
+use Rattle.neon.specs.Op.{op_at}
 use Rattle.neon.specs.Form.{form}
 use Rattle.words_encoding.proofs.Pieces.{size-long, size-other}
 use borrow.Author.Rules.{rules}
@@ -32,7 +32,7 @@ returns c =
     let s = long c in
     let i = c.before.is-long in
     let is = sym i.ensures ∙ (and_both i.result _ c.if1.true).0 in
-    (size-long (form (opAt s.args.operation)).lanes s.args.arrangement s.pre.2 is, omega (arith, s.pre.2))
+    (size-long (form (op_at s.args.operation)).lanes s.args.arrangement s.pre.2 is, omega (arith, s.pre.2))
 
 mul-result-2 : tie.Need-overflow-mul-result-2
 mul-result-2 c = search rules
@@ -42,7 +42,7 @@ returns-2 c =
     let s = c.before.before in
     let a = s.args in
     let is = ap (λ (b : Bool). b && ltb 0 (a.arrangement / 2)) (sym c.before.is-long.ensures) ∙ c.if1.false in
-    (size-other (form (opAt a.operation)).lanes a.arrangement s.requires.2 is, omega (arith, s.requires.2))
+    (size-other (form (op_at a.operation)).lanes a.arrangement s.requires.2 is, omega (arith, s.requires.2))
 
 pub size-part-spec : {M : Type 1} → statement M
 size-part-spec =

@@ -3,9 +3,9 @@ use mathlib.Core.Path.{◌≡◌, sym, ◌∙◌}
 use mathlib.Core.Bool.{Bool, true, false}
 use Prim.Native.Nat.{◌*◌}
 use native.Mathlib.Omega.{arith}
-use Rattle.neon.specs.Op.{opAt, arrangementAt}
+use Rattle.neon.specs.Op.{op_at, arrangement_at}
 use Rattle.neon.specs.Form.{form}
-use Rattle.words_encoding.specs.Parts.{viewPart}
+use Rattle.words_encoding.specs.Parts.{view_part}
 use Rattle.terms.specs.Value.{bit}
 use Rattle.words_encoding.proofs.Pieces.{view-long, view-other}
 use borrow.Author.Rules.{rules}
@@ -17,10 +17,10 @@ long f = f.before.before
 
 -- the lanes are not long: Q tells the view
 viewed : (f : tie.After-is-full) (b : Bool) → f.is-full.result ≡ b → let a = (long f).before.args in
-    1073741824 * bit b ≡ viewPart (form (opAt a.operation)).lanes (arrangementAt a.arrangement)
+    1073741824 * bit b ≡ view_part (form (op_at a.operation)).lanes (arrangement_at a.arrangement)
 viewed f b e =
     let a = (long f).before.args in
-    view-other (form (opAt a.operation)).lanes (arrangementAt a.arrangement) b (sym (long f).is-long.ensures ∙ f.before.if1.false) (sym f.is-full.ensures ∙ e)
+    view-other (form (op_at a.operation)).lanes (arrangement_at a.arrangement) b (sym (long f).is-long.ensures ∙ f.before.if1.false) (sym f.is-full.ensures ∙ e)
 
 is-long-requires : tie.Need-is-long-requires
 is-long-requires c κs = search rules
@@ -28,7 +28,7 @@ is-long-requires c κs = search rules
 returns : tie.Need-returns
 returns c =
     let a = c.before.before.args in
-    (view-long (form (opAt a.operation)).lanes (arrangementAt a.arrangement) (sym c.before.is-long.ensures ∙ c.if1.true), omega arith)
+    (view-long (form (op_at a.operation)).lanes (arrangement_at a.arrangement) (sym c.before.is-long.ensures ∙ c.if1.true), omega arith)
 
 is-full-requires : tie.Need-is-full-requires
 is-full-requires c κs = search rules
