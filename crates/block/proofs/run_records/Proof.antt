@@ -13,73 +13,67 @@ use Rattle.block_check.proofs.Refusals.{legal-here}
 use Rattle.block.proofs.run_records.Statement.{statement}
 use Rattle.block.proofs.run_records.Tie as tie
 
-abbrev invariant-loop : tie.invariant-loop
-invariant-loop pool₀ records count map₀ j₀ pool map j = (count ≡ length records / 6) × (j ≤ count) × Runs pool₀ map₀ pool map (records_from records 0 j)
+abbrev invariant-loop-j : tie.invariant-loop-j
+invariant-loop-j pool₀ records count map₀ j₀ pool map j = (count ≡ length records / 6) × (j ≤ count) × Runs pool₀ map₀ pool map (records_from records 0 j)
 
-abbrev decreases-loop : tie.decreases-loop
-decreases-loop pool₀ records count map₀ j₀ pool map j = count - j
-
-abbrev entry : tie.At-loop invariant-loop decreases-loop → tie.Start invariant-loop decreases-loop
-entry c = c.before.before.before
+abbrev decreases-loop-j : tie.decreases-loop-j
+decreases-loop-j pool₀ records count map₀ j₀ pool map j = count - j
 
 -- record j is whole, and has its reserve
-in-records : (c : tie.In-loop invariant-loop decreases-loop) → c.before.loop.j < length (entry c.before).args.records.now / 6
-in-records c = omega (arith, c.before.loop.invariant.0, c.loop-test.true)
+in-records : (c : tie.In-loop-j invariant-loop-j decreases-loop-j) → c.loop-j.j < length c.args.records.now / 6
+in-records c = omega (arith, c.loop-j.invariant.0, c.loop-j-test.true)
 
-room : (c : tie.In-loop invariant-loop decreases-loop) → let l = c.before.loop in Room l.pool l.map.count reserve
+room : (c : tie.In-loop-j invariant-loop-j decreases-loop-j) → let l = c.loop-j in Room l.pool-1 l.map.count reserve
 room c =
-    let l = c.before.loop in
-    let s = entry c.before in
-    omega (arith, s.pre.0, l.invariant.2.long, l.invariant.2.most, from-length s.args.records.now 0 l.j, in-records c)
+    let l = c.loop-j in
+    let s = c in
+    omega (arith, s.requires.0, l.invariant.2.long, l.invariant.2.most, from-length s.args.records.now 0 l.j, in-records c)
 
-loop-holds : tie.Need-loop-init invariant-loop decreases-loop
+loop-holds : tie.Need-loop-j-init invariant-loop-j decreases-loop-j
 unfolding records_from
-loop-holds c = (refl, omega arith, runs_none c.before.before.requires.1.0)
+loop-holds c = (refl, omega arith, runs_none c.requires.1.0)
 
-record-at-requires : tie.Need-record-at-requires invariant-loop decreases-loop
+record-at-requires : tie.Need-record_at-c-requires invariant-loop-j decreases-loop-j
 record-at-requires c κs = omega (arith, in-records c)
 
-lower-record-requires : tie.Need-lower-record-requires invariant-loop decreases-loop
+lower-record-requires : tie.Need-lower_record-map-requires invariant-loop-j decreases-loop-j
 lower-record-requires c κs =
-    let r = c.before in
-    let t = r.before in
-    let s = entry t.before in
-    (room t, (t.before.loop.invariant.2.map_ok, rw r.record-at.ensures (legal-here s.args.records.now _ s.pre.1.1 (in-records t))))
+    let r = c in
+    let t = c in
+    let s = c in
+    (room c.before.before, (t.loop-j.invariant.2.map_ok, rw r.record_at-c.ensures (legal-here s.args.records.now _ s.requires.1.1 (in-records c.before.before))))
 
-abbrev turn : tie.After-slice-known2 invariant-loop decreases-loop → tie.In-loop invariant-loop decreases-loop
-turn c = c.before.before.before.before.before
+add-j : tie.Need-overflow_add-j invariant-loop-j decreases-loop-j
+add-j c = omega (arith, in-records c.before.before.before.before.before)
 
-add-j : tie.Need-overflow-add-j invariant-loop decreases-loop
-add-j c = omega (arith, in-records (turn c))
+loop-less : tie.Need-loop-j-smaller invariant-loop-j decreases-loop-j
+loop-less c = omega (arith, c.loop-j-test.true)
 
-loop-less : tie.Need-loop-smaller invariant-loop decreases-loop
-loop-less c = omega (arith, (turn c).loop-test.true)
-
-loop-again : tie.Need-loop-preserved invariant-loop decreases-loop
+loop-again : tie.Need-loop-j-preserved invariant-loop-j decreases-loop-j
 loop-again c =
-    let n = c.before.before in
-    let r = n.before.before in
-    let t = turn c in
-    let l = t.before.loop in (
+    let n = c in
+    let r = c in
+    let t = c in
+    let l = t.loop-j in (
       l.inv.0,
       omega (arith, t.loop-test.taken),
-      runs-next (entry t.before).args.records.now l.j l.inv.2 (rw r.record-at.ensures at n.lower-record.ensures),
+      runs-next t.args.records.now l.j l.inv.2 (rw r.record_at-c.ensures at n.lower_record-map.ensures),
     )
 
-same_length : tie.Need-same-length invariant-loop decreases-loop
-same_length c = omega (arith, c.before.loop.invariant.2.long)
+same_length : tie.Need-shape_of-pool invariant-loop-j decreases-loop-j
+same_length c = omega (arith, c.loop-j.invariant.2.long)
 
-returns : tie.Need-returns invariant-loop decreases-loop
+returns : tie.Need-returns invariant-loop-j decreases-loop-j
 returns c =
-    let end = c.before.loop in
-    runs-all (entry c.before).args.records.now end.j (omega (arith, end.invariant.0, end.invariant.1, c.loop-test.false)) end.invariant.2
+    let end = c.loop-j in
+    runs-all c.args.records.now end.j (omega (arith, end.invariant.0, end.invariant.1, c.loop-j-test.false)) end.invariant.2
 
-pub run-records-spec : {M : Type 1} → statement M
-run-records-spec =
+pub run_records_spec : {M : Type 1} → statement M
+run_records_spec =
     tie.close
     (tie.spec
-    invariant-loop
-    decreases-loop
+    invariant-loop-j
+    decreases-loop-j
     loop-holds
     record-at-requires
     lower-record-requires

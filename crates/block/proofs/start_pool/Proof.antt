@@ -9,59 +9,53 @@ use borrow.Author.Rules.{rules}
 use Rattle.block.proofs.start_pool.Statement.{statement}
 use Rattle.block.proofs.start_pool.Tie as tie
 
-abbrev invariant-loop : tie.invariant-loop
-invariant-loop pool₀ r₀ pool r =
+abbrev invariant-loop-r : tie.invariant-loop-r
+invariant-loop-r pool₀ r₀ pool r =
     (r ≤ 32) × Started pool₀ pool r
 
-abbrev decreases-loop : tie.decreases-loop
-decreases-loop pool₀ r₀ pool r = 32 - r
-
-abbrev entry : tie.At-loop invariant-loop decreases-loop → tie.Start invariant-loop decreases-loop
-entry c = c.before.before
+abbrev decreases-loop-r : tie.decreases-loop-r
+decreases-loop-r pool₀ r₀ pool r = 32 - r
 
 -- room for the next register
-room : (c : tie.In-loop invariant-loop decreases-loop) → Room c.before.loop.pool c.before.loop.r 1
-room c = omega (arith, (entry c.before).pre, c.before.loop.invariant.1.grown.long, c.loop-test.true)
+room : (c : tie.In-loop-r invariant-loop-r decreases-loop-r) → Room c.loop-r.pool c.loop-r.r 1
+room c = omega (arith, c.requires, c.loop-r.invariant.1.grown.long, c.loop-r-test.true)
 
-loop-holds : tie.Need-loop-init invariant-loop decreases-loop
-loop-holds c = (omega arith, start_none c.before.args.pool.now)
+loop-holds : tie.Need-loop-r-init invariant-loop-r decreases-loop-r
+loop-holds c = (omega arith, start_none c.args.pool.now)
 
-var-requires : tie.Need-var-requires invariant-loop decreases-loop
-var-requires c κs = let l = c.before.loop-test.true in (room c.before, (omega (arith, l), omega (arith, l)))
+var-requires : tie.Need-var-requires invariant-loop-r decreases-loop-r
+var-requires c κs = let l = c.loop-r-test.true in (room c.before, (omega (arith, l), omega (arith, l)))
 
-abbrev turn : tie.After-slice-known2 invariant-loop decreases-loop → tie.In-loop invariant-loop decreases-loop
-turn c = c.before.before.before.before
+add_r : tie.Need-overflow_add-r invariant-loop-r decreases-loop-r
+add_r c = omega (arith, c.loop-r-test.true)
 
-add_r : tie.Need-overflow-add-r invariant-loop decreases-loop
-add_r c = omega (arith, (turn c).loop-test.true)
+loop-less : tie.Need-loop-r-smaller invariant-loop-r decreases-loop-r
+loop-less c = omega (arith, c.loop-r-test.true)
 
-loop-less : tie.Need-loop-smaller invariant-loop decreases-loop
-loop-less c = omega (arith, (turn c).loop-test.true)
-
-loop-again : tie.Need-loop-preserved invariant-loop decreases-loop
+loop-again : tie.Need-loop-r-preserved invariant-loop-r decreases-loop-r
 loop-again c =
-    let t = turn c in
-    (omega (arith, t.loop-test.taken), start-more t.loop-test.taken (room t) t.before.loop.inv.1 c.before.before.var.ensures)
+    let t = c in
+    (omega (arith, t.loop-test.taken), start-more t.loop-test.taken (room c.before.before.before.before) t.loop-r.invariant.1 c.var.ensures)
 
-initial-requires : tie.Need-initial-requires invariant-loop decreases-loop
+initial-requires : tie.Need-initial-requires invariant-loop-r decreases-loop-r
 initial-requires c κs = search rules
 
-same_length : tie.Need-same-length invariant-loop decreases-loop
-same_length c = omega (arith, c.before.before.loop.invariant.1.grown.long)
+same_length : tie.Need-shape_of-pool invariant-loop-r decreases-loop-r
+same_length c = omega (arith, c.loop-r.invariant.1.grown.long)
 
-returns : tie.Need-returns invariant-loop decreases-loop
+returns : tie.Need-returns invariant-loop-r decreases-loop-r
 returns c =
-    let t = c.before in
-    let l = t.before in
-    let all : l.loop.r ≡ 32 = omega (arith, l.loop.invariant.0, t.loop-test.false) in
-    (subst (λ (k : ℕ). Started (entry l).args.pool.now l.loop.pool k) all l.loop.invariant.1, c.initial.ensures)
+    let t = c in
+    let l = c in
+    let all : l.loop-r.r ≡ 32 = omega (arith, l.loop-r.invariant.0, t.loop-r-test.false) in
+    (subst (λ (k : ℕ). Started l.args.pool.now l.loop-r.pool k) all l.loop-r.invariant.1, c.initial.ensures)
 
-pub start-pool-spec : {M : Type 1} → statement M
-start-pool-spec =
+pub start_pool_spec : {M : Type 1} → statement M
+start_pool_spec =
     tie.close
     (tie.spec
-    invariant-loop
-    decreases-loop
+    invariant-loop-r
+    decreases-loop-r
     loop-holds
     var-requires
     add_r

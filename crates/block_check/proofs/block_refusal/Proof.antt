@@ -10,21 +10,21 @@ use borrow.Author.Rules.{rules}
 use Rattle.block_check.proofs.block_refusal.Statement.{statement}
 use Rattle.block_check.proofs.block_refusal.Tie as tie
 
-size-number-requires : tie.Need-size-number-requires
+size-number-requires : tie.Need-size_number-number-requires
 size-number-requires c κs = search rules
 
-refusal-by-requires : tie.Need-refusal-by-requires
+refusal-by-requires : tie.Need-refusal_by-requires
 refusal-by-requires c κs = search rules
 
 returns : tie.Need-returns
 unfolding block_refusal
 returns c =
-    let sized = c.before in
-    let a = sized.before.before.before.args in
+    let sized = c in
+    let a = sized.args in
     let flat = a.records.now in
-    let n : sized.size_number.result ≡ size_number (places a.pool.now) (length (records_of flat)) =
-    sized.size_number.ensures ∙ ap (size_number (places a.pool.now)) (sym (from-length flat 0 (length flat / 6))) in
-    subst (λ (k : ℕ). Refuses c.refusal-by.result (refusal_by k (records_of flat))) n c.refusal-by.ensures
+    let n : sized.size_number-number.result ≡ size_number (places a.pool.now) (length (records_of flat)) =
+    sized.size_number-number.ensures ∙ ap (size_number (places a.pool.now)) (sym (from-length flat 0 (length flat / 6))) in
+    subst (λ (k : ℕ). Refuses c.refusal_by.result (refusal_by k (records_of flat))) n c.refusal_by.ensures
 
-pub block-refusal-spec : {M : Type 1} → statement M
-block-refusal-spec = tie.close (tie.spec size-number-requires refusal-by-requires returns)
+pub block_refusal_spec : {M : Type 1} → statement M
+block_refusal_spec = tie.close (tie.spec size-number-requires refusal-by-requires returns)

@@ -8,21 +8,21 @@ use borrow.Author.Rules.{rules}
 use Rattle.block_check.proofs.refusal_by.Statement.{statement}
 use Rattle.block_check.proofs.refusal_by.Tie as tie
 
-returns : tie.Need-returns
+returns : tie.Need-returns-then-number-gt0
 returns c =
-    let a = c.before.before.args in
-    let e = by_size a.number (records_of a.records.now) (omega (arith, c.if1.true)) in
+    let a = c.args in
+    let e = by_size a.number (records_of a.records.now) (omega (arith, c.if-number-gt0.true)) in
     (sym (ap (λ (x : Refusal). x.number) e), sym (ap (λ (x : Refusal). x.position) e))
 
-records-refusal-requires : tie.Need-records-refusal-requires
+records-refusal-requires : tie.Need-records_refusal-requires
 records-refusal-requires c κs = search rules
 
-returns-2 : tie.Need-returns-2
+returns-2 : tie.Need-returns
 returns-2 c =
-    let a = c.before.before.before.args in
-    let r = c.records-refusal.ensures in
-    let e = by-records a.number (records_of a.records.now) (omega (arith, c.before.if1.false)) in
+    let a = c.args in
+    let r = c.records_refusal.ensures in
+    let e = by-records a.number (records_of a.records.now) (omega (arith, c.if-number-gt0.false)) in
     (r.0 ∙ sym (ap (λ (x : Refusal). x.number) e), r.1 ∙ sym (ap (λ (x : Refusal). x.position) e))
 
-pub refusal-by-spec : {M : Type 1} → statement M
-refusal-by-spec = tie.close (tie.spec returns records-refusal-requires returns-2)
+pub refusal_by_spec : {M : Type 1} → statement M
+refusal_by_spec = tie.close (tie.spec returns records-refusal-requires returns-2)

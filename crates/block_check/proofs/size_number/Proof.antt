@@ -5,20 +5,20 @@ use borrow.Author.Rules.{rules}
 use Rattle.block_check.proofs.size_number.Statement.{statement}
 use Rattle.block_check.proofs.size_number.Tie as tie
 
-returns : tie.Need-returns
-returns c = too_long _ _ c.if1.true
+returns : tie.Need-returns-then-count-gt-MOST_RECORDS
+returns c = too_long _ _ c.if-count-gt-MOST_RECORDS.true
 
-mul-if2 : tie.Need-overflow-mul-if2
+mul-if2 : tie.Need-overflow_mul-count
 mul-if2 c = search rules
 
-add-if2 : tie.Need-overflow-add-if2
+add-if2 : tie.Need-overflow_add-count
 add-if2 c = search rules
 
-returns-2 : tie.Need-returns-2
-returns-2 c = no_room _ _ c.before.if1.false (omega (arith, c.if2.true))
+returns-2 : tie.Need-returns-then-words-count
+returns-2 c = no_room _ _ c.if-count-gt-MOST_RECORDS.false (omega (arith, c.if-words-count.true))
 
-returns-3 : tie.Need-returns-3
-returns-3 c = has_room _ _ c.before.if1.false (omega (arith, c.if2.false))
+returns-3 : tie.Need-returns
+returns-3 c = has_room _ _ c.if-count-gt-MOST_RECORDS.false (omega (arith, c.if-words-count.false))
 
-pub size-number-spec : {M : Type 1} → statement M
-size-number-spec = tie.close (tie.spec returns mul-if2 add-if2 returns-2 returns-3)
+pub size_number_spec : {M : Type 1} → statement M
+size_number_spec = tie.close (tie.spec returns mul-if2 add-if2 returns-2 returns-3)

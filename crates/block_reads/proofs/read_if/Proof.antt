@@ -7,32 +7,29 @@ use borrow.Author.Rules.{rules}
 use Rattle.block_reads.proofs.read_if.Statement.{statement}
 use Rattle.block_reads.proofs.read_if.Tie as tie
 
-abbrev entry : tie.Else1 → tie.Start
-entry c = c.before.before
-
 none-requires : tie.Need-none-requires
 none-requires c κs = search rules
 
-returns : tie.Need-returns
-returns c = read_none refl (not-true _ c.before.if1.true)
+returns : tie.Need-returns-then-not-used
+returns c = read_none refl (not-true _ c.if-not-used.true-raw)
 
-returns-2 : tie.Need-returns-2
-returns-2 c = read_whole refl c.if2.true refl (entry c.before).requires.1
+returns-2 : tie.Need-returns-then-whole
+returns-2 c = read_whole refl c.if-whole.true refl c.requires.1
 
-extract-collapsing-requires : tie.Need-extract-collapsing-requires
+extract-collapsing-requires : tie.Need-extract_collapsing-requires
 extract-collapsing-requires c κs =
-    let p = (entry c.before.before).requires in
+    let p = c.requires in
     (p.0, (p.1, omega arith, omega arith))
 
-same_length : tie.Need-same-length
-same_length c = omega (arith, c.before.before.extract-collapsing.ensures.sized)
+same_length : tie.Need-shape_of-pool
+same_length c = omega (arith, c.extract_collapsing.ensures.sized)
 
-returns-3 : tie.Need-returns-3
+returns-3 : tie.Need-returns
 returns-3 c =
-    let cut = c.before.before in
-    let half = cut.before.before in
-    read-half (not-false _ half.before.if1.false) half.if2.false cut.extract-collapsing.ensures
+    let cut = c in
+    let half = c in
+    read-half (not-false _ half.if-not-used.false-raw) half.if-whole.false cut.extract_collapsing.ensures
 
-pub read-if-spec : {M : Type 1} → statement M
-read-if-spec =
+pub read_if_spec : {M : Type 1} → statement M
+read_if_spec =
     tie.close (tie.spec none-requires returns returns-2 extract-collapsing-requires same_length returns-3)

@@ -5,22 +5,22 @@ use mathlib.Core.Path.{refl}
 use Rattle.block_record_check.proofs.most_m.Statement.{statement}
 use Rattle.block_record_check.proofs.most_m.Tie as tie
 
-by-element-requires : tie.Need-by-element-requires
+by-element-requires : tie.Need-by_element-requires
 by-element-requires c σs = search rules
 
-has-second-requires : tie.Need-has-second-requires
+has-second-requires : tie.Need-has_second-requires
 has-second-requires c σs = search rules
 
-returns : tie.Need-returns
+returns : tie.Need-returns-then-has_second
 returns c = λ o v h e b.
-    let asked = c.before in
-    let chosen = asked.before in
-    let element = chosen.before.by-element.ensures o v h e in
-    rw (← asked.has-second.ensures o v h e, c.if2.true, ← element, ← b)
-    (⊎_elim (λ w. rw w.0.taken w.1) (λ w. rw w.0.left w.1) chosen.if1.branch)
+    let asked = c in
+    let chosen = c in
+    let element = chosen.by_element.ensures o v h e in
+    rw (← asked.has_second.ensures o v h e, c.if-has_second.true, ← element, ← b)
+    (⊎_elim (λ w. rw w.0.taken w.1) (λ w. rw w.0.left w.1) chosen.if-short.branch)
 
-returns-2 : tie.Need-returns-2
-returns-2 c = λ o v h e b. rw (← c.before.has-second.ensures o v h e, c.if2.false) refl
+returns-2 : tie.Need-returns-else-has_second
+returns-2 c = λ o v h e b. rw (← c.has_second.ensures o v h e, c.if-has_second.false) refl
 
-pub most-m-spec : {M : Type 1} → statement M
-most-m-spec = tie.close (tie.spec by-element-requires has-second-requires returns returns-2)
+pub most_m_spec : {M : Type 1} → statement M
+most_m_spec = tie.close (tie.spec by-element-requires has-second-requires returns returns-2)

@@ -19,52 +19,46 @@ use Rattle.block_record_check.proofs.record_number.Tie as tie
 abbrev asked : tie.Start → Instruction
 asked s = let a = s.args in instruction a.operation a.arrangement a.i a.d a.n a.m
 
-abbrev entry : tie.Else1 → tie.Start
-entry c = c.before.before
-
 -- past the first test its form is accepted
-form-ok : (c : tie.Else1) → let a = (entry c).args in 0 ≡ form_number a.operation a.arrangement a.i 0
-form-ok c = omega (arith, c.if1.false, c.before.form-number.ensures)
+form-ok : (c : tie.Else-number-gt0) → let a = c.args in 0 ≡ form_number a.operation a.arrangement a.i 0
+form-ok c = omega (arith, c.if-number-gt0.false, c.form_number-number.ensures)
 
 -- the place past the first test, seen from most_m's answer
-abbrev formed-at : tie.After-most-m → tie.Else1
-formed-at c = c.before.before.before
-
 -- the second test is that of the registers
-registers_are : (c : tie.After-most-m) → let r = asked (entry (formed-at c)) in
-    registers_ok r ≡ (leb r.d 31 && leb r.n 31 && leb r.m c.most-m.result)
+registers_are : (c : tie.After-most_m-most) → let r = asked c.before.before.before.before.before in
+    registers_ok r ≡ (leb r.d 31 && leb r.n 31 && leb r.m c.most_m-most.result)
 registers_are c =
-    let r = asked (entry (formed-at c)) in
-    let bits = c.before in
-    let k = coded r.operation r.arrangement r.i 0 (sym (form-ok (formed-at c))) in
-    let code = bits.before.form-code.ensures ∙ k.1 in
-    let most = c.most-m.ensures (op_at r.operation) (arrangement_at r.arrangement) k.0 code bits.lane-bits.ensures in
+    let r = asked c.before.before.before.before.before in
+    let bits = c in
+    let k = coded r.operation r.arrangement r.i 0 (sym (form-ok c.before.before.before)) in
+    let code = bits.form_code-code.ensures ∙ k.1 in
+    let most = c.most_m-most.ensures (op_at r.operation) (arrangement_at r.arrangement) k.0 code bits.lane_bits.ensures in
     ap (λ (most : ℕ). leb r.d 31 && leb r.n 31 && leb r.m most) (sym most)
 
-form-number-requires : tie.Need-form-number-requires
+form-number-requires : tie.Need-form_number-number-requires
 form-number-requires c κs = search rules
 
-returns : tie.Need-returns
-returns c = by_form _ c.before.form-number.result c.if1.true c.before.form-number.ensures
+returns : tie.Need-returns-then-number-gt0
+returns c = by_form _ c.form_number-number.result c.if-number-gt0.true c.form_number-number.ensures
 
-form-code-requires : tie.Need-form-code-requires
+form-code-requires : tie.Need-form_code-code-requires
 form-code-requires c κs = search rules
 
-lane-bits-requires : tie.Need-lane-bits-requires
+lane-bits-requires : tie.Need-lane_bits-requires
 lane-bits-requires c κs =
-    let r = asked (entry c.before) in
+    let r = asked c.before.before.before in
     (formed r.operation r.arrangement r.i 0 (sym (form-ok c.before))).0.arranged
 
-most-m-requires : tie.Need-most-m-requires
+most-m-requires : tie.Need-most_m-most-requires
 most-m-requires c κs = search rules
 
-returns-2 : tie.Need-returns-2
-returns-2 c = by-registers _ 0 true (form-ok (formed-at c.before)) (registers_are c.before ∙ c.if2.true) refl
+returns-2 : tie.Need-returns-then-d-n
+returns-2 c = by-registers _ 0 true (form-ok c.before.before.before.before) (registers_are c.before ∙ c.if-d-n.true) refl
 
-returns-3 : tie.Need-returns-3
-returns-3 c = by-registers _ 7 false (form-ok (formed-at c.before)) (registers_are c.before ∙ c.if2.false) refl
+returns-3 : tie.Need-returns
+returns-3 c = by-registers _ 7 false (form-ok c.before.before.before.before) (registers_are c.before ∙ c.if-d-n.false) refl
 
-pub record-number-spec : {M : Type 1} → statement M
-record-number-spec =
+pub record_number_spec : {M : Type 1} → statement M
+record_number_spec =
     tie.close
     (tie.spec form-number-requires returns form-code-requires lane-bits-requires most-m-requires returns-2 returns-3)

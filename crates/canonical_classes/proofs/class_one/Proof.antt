@@ -10,78 +10,75 @@ use borrow.Author.Rules.{rules}
 use Rattle.canonical_classes.proofs.class_one.Statement.{statement}
 use Rattle.canonical_classes.proofs.class_one.Tie as tie
 
-abbrev entry : tie.After-find → tie.Start
-entry c = c.before.before.before.before.before.before
-
 abbrev slots_in : tie.Start → List ℕ
 slots_in s = slots_of s.args.first.now s.args.second.now s.args.ways.now
 
 -- each word of the pool is one of 64 bits
-words : (c : tie.After-find) (i : ℕ) → get_or (entry c).args.pool.now i 0 < 18446744073709551616
-words c i = omega (arith, c.before.before.before.before.before.shared-slice-known.given i)
+words : (c : tie.After-find-place) (i : ℕ) → get_or c.args.pool.now i 0 < 18446744073709551616
+words c i = omega (arith, c.shared_slice_known-1.given i)
 
-link-low : (c : tie.Then1) → c.before.find.result.link - 1 < 65536
-link-low c = omega (arith, (c.before.find.ensures.found (omega (arith, c.if1.true))).0, (entry c.before).requires.0)
+link-low : (c : tie.Then-link-gt0) → c.find-place.result.link - 1 < 65536
+link-low c = omega (arith, (c.find-place.ensures.found (omega (arith, c.if-link-gt0.true))).0, c.requires.0)
 
-find-requires : tie.Need-find-requires
+find-requires : tie.Need-find-place-requires
 find-requires c κs =
-    let s = c.before.before.before.before.before in
+    let s = c in
     (s.requires.0, (s.requires.1.low, s.requires.1.rises))
 
-sub-class : tie.Need-overflow-sub-class
+sub-class : tie.Need-overflow_sub-class
 sub-class c = search rules
 
-mul-class : tie.Need-overflow-mul-class
+mul-class : tie.Need-offset_bounds-class-link
 mul-class c = omega (arith, link-low c)
 
-element-copy-out-class : tie.Need-element-copy-out-class
-element-copy-out-class c = omega (arith, link-low c)
+element-copy-out-class : tie.Need-bounds-class-link
+element-copy-out-class c = omega (arith, link-low c.before)
 
-mul-class-2 : tie.Need-overflow-mul-class-2
+mul-class-2 : tie.Need-offset_bounds-class-at
 mul-class-2 c = search rules
 
-element-write-class : tie.Need-element-write-class
+element-write-class : tie.Need-bounds-class-at
 element-write-class c = search rules
 
-returns : tie.Need-returns
+returns : tie.Need-returns-then-link-gt0
 returns c =
-    let known = c.before in
-    let f = known.before.find.ensures.found (omega (arith, known.if1.true)) in
-    let s = entry known.before in
+    let known = c in
+    let f = known.find-place.ensures.found (omega (arith, known.if-link-gt0.true)) in
+    let s = c in
     let a = s.args in (
-      s.pre.0.3,
-      kept-old a.pool.now (a.n.0 + 1) s.pre.0.0 (words known.before) (omega arith) a.n.0 (omega arith) a.class.now (slots_in s) s.pre.1
-          (known.before.find.result.link - 1) (omega (arith, f.0, known.if1.true)) f.1,
+      s.requires.0.3,
+      kept-old a.pool.now (a.n.0 + 1) s.requires.0.0 (words known.before) (omega arith) a.n.0 (omega arith) a.class.now (slots_in c.before.before.before.before.before) s.requires.1
+          (known.find-place.result.link - 1) (omega (arith, f.0, known.if-link-gt0.true)) f.1,
     )
 
-cast-class : tie.Need-overflow-cast-class
+cast-class : tie.Need-overflow_cast-class
 cast-class c = search rules
 
-mul-class-3 : tie.Need-overflow-mul-class-3
+mul-class-3 : tie.Need-offset_bounds-class-at-2
 mul-class-3 c = search rules
 
-element-write-class-2 : tie.Need-element-write-class-2
+element-write-class-2 : tie.Need-bounds-class-at-2
 element-write-class-2 c = search rules
 
-set-link-requires : tie.Need-set-link-requires
+set-link-requires : tie.Need-set_link-requires
 set-link-requires c κs =
-    let f = c.before.before.before.before in
-    let s = entry f in
-    (s.pre.0.3, omega (arith, f.find.ensures.slot_less, s.pre.0), s.pre.0.2)
+    let f = c in
+    let s = c in
+    (s.requires.0.3, omega (arith, f.find-place.ensures.slot_less, s.requires.0), s.requires.0.2)
 
-returns-2 : tie.Need-returns-2
+returns-2 : tie.Need-returns
 returns-2 c =
-    let fresh = c.before.before.before.before in
-    let s = entry fresh.before in
+    let fresh = c in
+    let s = c in
     let a = s.args in (
       c.set_link.ensures.laid,
       subst (λ (l : List ℕ). Kept a.pool.now (a.n.0 + 1) (set a.class.now a.n.0 a.n.0) l) (sym c.set_link.ensures.is)
-          (kept_new a.pool.now (a.n.0 + 1) s.pre.0.0 (words fresh.before) (omega arith) a.n.0 (omega arith) a.class.now (slots_in s) s.pre.1
-          fresh.before.find.result (omega (arith, fresh.if1.false)) fresh.before.find.ensures),
+          (kept_new a.pool.now (a.n.0 + 1) s.requires.0.0 (words fresh.before) (omega arith) a.n.0 (omega arith) a.class.now (slots_in c.before.before.before.before.before.before.before.before) s.requires.1
+          fresh.find-place.result (omega (arith, fresh.if-link-gt0.false)) fresh.find-place.ensures),
     )
 
-pub class-one-spec : {M : Type 1} → statement M
-class-one-spec =
+pub class_one_spec : {M : Type 1} → statement M
+class_one_spec =
     tie.close
     (tie.spec
     find-requires

@@ -9,35 +9,35 @@ use borrow.Author.Rules.{rules}
 use Rattle.canonical_classes.proofs.next.Statement.{statement}
 use Rattle.canonical_classes.proofs.next.Tie as tie
 
-add-result : tie.Need-overflow-add-result
+add-result : tie.Need-overflow_add-result
 add-result c = search rules
 
-returns : tie.Need-returns
+returns : tie.Need-returns-then-level-eq0
 unfolding next_of
 returns c =
-    let s = c.before in
-    (rw (eq-eqb s.args.level 0 (omega (arith, c.if1.true))) (ap (λ (x : ℕ). 65536 + x / 1048576 % 65536) s.requires.3), omega arith)
+    let s = c in
+    (rw (eq-eqb s.args.level 0 (omega (arith, c.if-level-eq0.true))) (ap (λ (x : ℕ). 65536 + x / 1048576 % 65536) s.requires.3), omega arith)
 
-mul-result : tie.Need-overflow-mul-result
+mul-result : tie.Need-overflow_mul-result
 mul-result c = search rules
 
-add-result-2 : tie.Need-overflow-add-result-2
+add-result-2 : tie.Need-overflow_add-result-2
 add-result-2 c = search rules
 
 way-requires : tie.Need-way-requires
 way-requires c κs = search rules
 
-add-result-3 : tie.Need-overflow-add-result-3
+add-result-3 : tie.Need-overflow_add-result-3
 add-result-3 c = search rules
 
-returns-2 : tie.Need-returns-2
+returns-2 : tie.Need-returns
 returns-2 c =
-    let later = c.before.before in
-    let a = later.before.args in
-    let e = next-later a.k a.m.0 a.level (omega (arith, later.if1.false)) in
+    let later = c in
+    let a = later.args in
+    let e = next-later a.k a.m.0 a.level (omega (arith, later.if-level-eq0.false)) in
     (rw e (ap (under a.m.0) c.way.ensures.0), omega (arith, c.way.ensures.1))
 
-pub next-spec : {M : Type 1} → statement M
-next-spec =
+pub next_spec : {M : Type 1} → statement M
+next_spec =
     tie.close
     (tie.spec add-result returns mul-result add-result-2 way-requires add-result-3 returns-2)

@@ -5,51 +5,51 @@ use borrow.Author.Rules.{rules}
 use Rattle.canonical_classes.proofs.set_link.Statement.{statement}
 use Rattle.canonical_classes.proofs.set_link.Tie as tie
 
-add-link : tie.Need-overflow-add-link
+add-link : tie.Need-overflow_add-link
 add-link c = search rules
 
-cast-link : tie.Need-overflow-cast-link
+cast-link : tie.Need-overflow_cast-link
 cast-link c = search rules
 
-mul-first : tie.Need-overflow-mul-first
+mul-first : tie.Need-offset_bounds-first-slot
 mul-first c = search rules
 
-element-write-first : tie.Need-element-write-first
+element-write-first : tie.Need-bounds-first-slot
 element-write-first c = search rules
 
-returns : tie.Need-returns
+returns : tie.Need-returns-then-slot-lt65536
 returns c =
-    let s = c.before.before in
+    let s = c in
     let a = s.args in
-    linked-first a.first.now a.second.now a.ways.now s.requires.0 a.slot a.n.0 c.if1.true
+    linked-first a.first.now a.second.now a.ways.now s.requires.0 a.slot a.n.0 c.if-slot-lt65536.true
 
-mul-second : tie.Need-overflow-mul-second
+mul-second : tie.Need-offset_bounds-second-slot
 mul-second c = search rules
 
-element-write-second : tie.Need-element-write-second
+element-write-second : tie.Need-bounds-second-slot
 element-write-second c = search rules
 
-returns-2 : tie.Need-returns-2
+returns-2 : tie.Need-returns-then-slot-lt131072
 returns-2 c =
-    let t = c.before in
-    let s = t.before.before in
+    let t = c in
+    let s = c in
     let a = s.args in
-    linked-second a.first.now a.second.now a.ways.now s.requires.0 a.slot a.n.0 (omega (arith, t.if1.false)) c.if2.true
+    linked-second a.first.now a.second.now a.ways.now s.requires.0 a.slot a.n.0 (omega (arith, t.if-slot-lt65536.false)) c.if-slot-lt131072.true
 
-mul-ways : tie.Need-overflow-mul-ways
+mul-ways : tie.Need-offset_bounds-ways-slot
 mul-ways c = search rules
 
-element-write-ways : tie.Need-element-write-ways
+element-write-ways : tie.Need-bounds-ways-slot
 element-write-ways c = search rules
 
-returns-3 : tie.Need-returns-3
+returns-3 : tie.Need-returns
 returns-3 c =
-    let s = c.before.before.before in
+    let s = c in
     let a = s.args in
-    linked-way a.first.now a.second.now a.ways.now s.requires.0 a.slot a.n.0 (omega (arith, c.if2.false))
+    linked-way a.first.now a.second.now a.ways.now s.requires.0 a.slot a.n.0 (omega (arith, c.if-slot-lt131072.false))
 
-pub set-link-spec : {M : Type 1} → statement M
-set-link-spec =
+pub set_link_spec : {M : Type 1} → statement M
+set_link_spec =
     tie.close
     (tie.spec
     add-link

@@ -10,14 +10,14 @@ use Rattle.canonical_classes.proofs.way.Tie as tie
 row-requires : tie.Need-row-requires
 row-requires c κs = search rules
 
-shr-result : tie.Need-overflow-shr-result
+shr-result : tie.Need-overflow_shr-result
 shr-result c = search rules
 
 returns : tie.Need-returns
 unfolding way_of
 returns c =
-    let a = c.before.args in
+    let a = c.args in
     (ap (λ (x : ℕ). x / 2 ^ (a.level % 64) % 2) c.row.ensures, omega arith)
 
-pub way-spec : {M : Type 1} → statement M
-way-spec = tie.close (tie.spec row-requires shr-result returns)
+pub way_spec : {M : Type 1} → statement M
+way_spec = tie.close (tie.spec row-requires shr-result returns)

@@ -6,5 +6,5 @@ use Rattle.canonical_write.proofs.free_ways.Tie as tie
 returns : tie.Need-returns
 returns c = zeros-are 131072
 
-pub free-ways-spec : {M : Type 1} → statement M
-free-ways-spec = tie.close (tie.spec returns)
+pub free_ways_spec : {M : Type 1} → statement M
+free_ways_spec = tie.close (tie.spec returns)

@@ -6,58 +6,58 @@ use borrow.Author.Rules.{rules}
 use Rattle.canonical_write.proofs.new_operands.Statement.{statement}
 use Rattle.canonical_write.proofs.new_operands.Tie as tie
 
-kind-of-requires : tie.Need-kind-of-requires
+kind-of-requires : tie.Need-kind_of-kind-requires
 kind-of-requires c κs = search rules
 
-has-a-requires : tie.Need-has-a-requires
+has-a-requires : tie.Need-has_a-requires
 has-a-requires c κs = search rules
 
 first-requires : tie.Need-first-requires
 first-requires c κs = search rules
 
-number-if-requires : tie.Need-number-if-requires
+number-if-requires : tie.Need-number_if-a-requires
 number-if-requires c κs = omega (arith, c.first.ensures)
 
-has-b-requires : tie.Need-has-b-requires
+has-b-requires : tie.Need-has_b-requires
 has-b-requires c κs = search rules
 
 second-requires : tie.Need-second-requires
 second-requires c κs = search rules
 
-number-if-requires-2 : tie.Need-number-if-requires-2
+number-if-requires-2 : tie.Need-number_if-b-requires
 number-if-requires-2 c κs = omega (arith, c.second.ensures)
 
-has-c-requires : tie.Need-has-c-requires
+has-c-requires : tie.Need-has_c-requires
 has-c-requires c κs = search rules
 
 third-requires : tie.Need-third-requires
 third-requires c κs = search rules
 
-number-if-requires-3 : tie.Need-number-if-requires-3
+number-if-requires-3 : tie.Need-number_if-c-requires
 number-if-requires-3 c κs = search rules
 
-operands-word-requires : tie.Need-operands-word-requires
+operands-word-requires : tie.Need-operands_word-requires
 operands-word-requires c κs = search rules
 
 returns : tie.Need-returns
 returns c =
-    let at-number-if3 = c.before in
-    let at-third = at-number-if3.before in
-    let at-has-c = at-third.before in
-    let at-number-if2 = at-has-c.before in
-    let at_second = at-number-if2.before in
-    let at-has-b = at_second.before in
-    let at-number-if = at-has-b.before in
-    let at_first = at-number-if.before in
-    let at-has-a = at_first.before in
-    let at-kind-of = at-has-a.before in
-    c.operands-word.ensures
-    ∙ operands-made _ _ _ _ at-kind-of.kind-of.result _ _ _ _ _ _ _ _ _ at-kind-of.kind-of.ensures at-has-a.has-a.ensures at-has-b.has-b.ensures at-has-c.has-c.ensures
-    at_first.first.ensures at_second.second.ensures at-third.third.ensures at-number-if.number-if.ensures.0 at-number-if2.number-if2.ensures.0
-    at-number-if3.number-if3.ensures.0
+    let at-number-if3 = c in
+    let at-third = c in
+    let at-has-c = c in
+    let at-number-if2 = c in
+    let at_second = c in
+    let at-has-b = c in
+    let at-number-if = c in
+    let at_first = c in
+    let at-has-a = c in
+    let at-kind-of = c in
+    c.operands_word.ensures
+    ∙ operands-made _ _ _ _ at-kind-of.kind_of-kind.result _ _ _ _ _ _ _ _ _ at-kind-of.kind_of-kind.ensures at-has-a.has_a.ensures at-has-b.has_b.ensures at-has-c.has_c.ensures
+    at_first.first.ensures at_second.second.ensures at-third.third.ensures at-number-if.number_if-a.ensures.0 at-number-if2.number_if-b.ensures.0
+    at-number-if3.number_if-c.ensures.0
 
-pub new-operands-spec : {M : Type 1} → statement M
-new-operands-spec =
+pub new_operands_spec : {M : Type 1} → statement M
+new_operands_spec =
     tie.close
     (tie.spec
     kind-of-requires

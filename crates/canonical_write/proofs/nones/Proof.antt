@@ -7,5 +7,5 @@ use Rattle.canonical_write.proofs.nones.Tie as tie
 returns : tie.Need-returns
 returns c = nones-are 65536 refl
 
-pub nones-spec : {M : Type 1} → statement M
-nones-spec = tie.close (tie.spec returns)
+pub nones_spec : {M : Type 1} → statement M
+nones_spec = tie.close (tie.spec returns)

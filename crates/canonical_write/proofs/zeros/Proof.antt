@@ -6,5 +6,5 @@ use Rattle.canonical_write.proofs.zeros.Tie as tie
 returns : tie.Need-returns
 returns c = zeros-are 65536
 
-pub zeros-spec : {M : Type 1} → statement M
-zeros-spec = tie.close (tie.spec returns)
+pub zeros_spec : {M : Type 1} → statement M
+zeros_spec = tie.close (tie.spec returns)

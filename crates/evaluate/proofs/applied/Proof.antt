@@ -13,7 +13,7 @@ use Rattle.evaluate.proofs.applied.Statement.{statement}
 use Rattle.evaluate.proofs.applied.Tie as tie
 
 -- all is read but the width of a second operand
-module _ (c : tie.After-is-single) where
+module _ (c : tie.After-is_single) where
   abbrev entry : tie.Start
   entry = c.before.before.before.before.before.before.before
 
@@ -23,100 +23,100 @@ module _ (c : tie.After-is-single) where
   abbrev n : ℕ
   n = entry.args.n.0
 
-  first_width : c.before.before.before.before.width_of_lem.result ≡ width_at ws (op_a ws n)
-  first_width = let w = c.before.before.before.before in rw w.before.first.ensures at w.width_of_lem.ensures.0
+  first_width : c.before.before.before.before.width_of-wa.result ≡ width_at ws (op_a ws n)
+  first_width = let w = c.before.before.before.before in rw w.before.first.ensures at w.width_of-wa.ensures.0
 
-  own-width : c.before.before.before.width-of2.result ≡ width_at ws n
-  own-width = c.before.before.before.width-of2.ensures.0
+  own-width : c.before.before.before.width_of-w.result ≡ width_at ws n
+  own-width = c.before.before.before.width_of-w.ensures.0
 
-  low_word : c.before.before.low.result ≡ word_at ws n 2
-  low_word = c.before.before.low.ensures
+  low_word : c.before.before.low-x.result ≡ word_at ws n 2
+  low_word = c.before.before.low-x.ensures
 
-  high_word : c.before.high.result ≡ word_at ws n 3
-  high_word = c.before.high.ensures
+  high_word : c.before.high-y.result ≡ word_at ws n 3
+  high_word = c.before.high-y.ensures
 
   nineteen : entry.args.k < 20
-  nineteen = to-nineteen ws n entry.pre.0.0 _ entry.pre.0.1
+  nineteen = to-nineteen ws n entry.requires.0.0 _ entry.requires.0.1
 
 -- the kind has one operand, or two
-one-is : (c : tie.Then1) → single (entry c.before).args.k ≡ true
-one-is c = sym c.before.is-single.ensures ∙ c.if1.true
+one-is : (c : tie.Then-is_single) → single (entry c.before).args.k ≡ true
+one-is c = sym c.is_single.ensures ∙ c.if-is_single.true
 
-two_is : (c : tie.Else1) → single (entry c.before).args.k ≡ false
-two_is c = sym c.before.is-single.ensures ∙ c.if1.false
+two_is : (c : tie.Else-is_single) → single (entry c.before).args.k ≡ false
+two_is c = sym c.is_single.ensures ∙ c.if-is_single.false
 
 -- the width of the second is read
-module _ (c : tie.After-width-of3) where
-  abbrev two : tie.Else1
+module _ (c : tie.After-width_of-wb) where
+  abbrev two : tie.Else-is_single
   two = c.before.before
 
-  abbrev read : tie.After-is-single
+  abbrev read : tie.After-is_single
   read = two.before
 
-  second-width : c.width-of3.result ≡ width_at (ws read) (op_b (ws read) (n read))
-  second-width = rw c.before.second.ensures at c.width-of3.ensures.0
+  second-width : c.width_of-wb.result ≡ width_at (ws read) (op_b (ws read) (n read))
+  second-width = rw c.before.second.ensures at c.width_of-wb.ensures.0
 
 first-requires : tie.Need-first-requires
 first-requires c κs = search rules
 
-width-of-requires : tie.Need-width-of-requires
-width-of-requires c κs = let s = c.before.before in rw c.first.ensures (first-term _ _ s.requires.0.0 _ s.requires.0.1 s.requires.0.2 s.requires.0.3).ready.inside
+width-of-requires : tie.Need-width_of-wa-requires
+width-of-requires c κs = let s = c in rw c.first.ensures (first-term _ _ s.requires.0.0 _ s.requires.0.1 s.requires.0.2 s.requires.0.3).ready.inside
 
-width-of-requires-2 : tie.Need-width-of-requires-2
+width-of-requires-2 : tie.Need-width_of-w-requires
 width-of-requires-2 c κs = search rules
 
-low-requires : tie.Need-low-requires
+low-requires : tie.Need-low-x-requires
 low-requires c κs = search rules
 
-high-requires : tie.Need-high-requires
+high-requires : tie.Need-high-y-requires
 high-requires c κs = search rules
 
-is-single-requires : tie.Need-is-single-requires
+is-single-requires : tie.Need-is_single-requires
 is-single-requires c κs = search rules
 
 apply-requires : tie.Need-apply-requires
 apply-requires c κs =
-    let r = c.before in
+    let r = c in
     let s = entry r in (
-      one-asks (ws r) (n r) _ s.pre.0.1 (first_width r) (own-width r) (low_word r) (high_word r) _ _ (one-is c) s.pre.1,
-      s.pre.0.2,
+      one-asks (ws r) (n r) _ s.requires.0.1 (first_width r) (own-width r) (low_word r) (high_word r) _ _ (one-is c) s.requires.1,
+      s.requires.0.2,
       nineteen r,
-      s.pre.0.3,
+      s.requires.0.3,
     )
 
-returns : tie.Need-returns
+returns : tie.Need-returns-then-is_single
 returns c =
-    let o = c.before in
-    let r = o.before in
-    c.apply.ensures ∙ one-gives (ws r) (n r) _ (entry r).requires.0.1 (first_width r) (own-width r) (low_word r) (high_word r) _ _ (one-is o)
+    let o = c in
+    let r = c in
+    c.apply.ensures ∙ one-gives (ws r) (n r) _ (entry r).requires.0.1 (first_width r) (own-width r) (low_word r) (high_word r) _ _ (one-is c.before)
 
 second-requires : tie.Need-second-requires
 second-requires c κs = search rules
 
-width-of-requires-3 : tie.Need-width-of-requires-3
+width-of-requires-3 : tie.Need-width_of-wb-requires
 width-of-requires-3 c κs =
-    let e = c.before in
+    let e = c in
     let s = entry e.before in
-    rw c.second.ensures (pair-b _ _ s.pre.0.0 _ s.pre.0.1 (is-pair _ s.pre.0.2 s.pre.0.3 (two_is e))).ready.inside
+    rw c.second.ensures (pair-b _ _ s.requires.0.0 _ s.requires.0.1 (is-pair _ s.requires.0.2 s.requires.0.3 (two_is c.before))).ready.inside
 
 apply-requires-2 : tie.Need-apply-requires-2
 apply-requires-2 c κs =
     let r = read c in
     let s = entry r in (
-      two-asks (ws r) (n r) _ s.pre.0.1 (first_width r) (own-width r) (low_word r) (high_word r) _ _ (second-width c) (two_is (two c)) s.pre.1,
-      s.pre.0.2,
+      two-asks (ws r) (n r) _ s.requires.0.1 (first_width r) (own-width r) (low_word r) (high_word r) _ _ (second-width c) (two_is (two c)) s.requires.1,
+      s.requires.0.2,
       nineteen r,
-      s.pre.0.3,
+      s.requires.0.3,
     )
 
-returns-2 : tie.Need-returns-2
+returns-2 : tie.Need-returns
 returns-2 c =
-    let b = c.before in
+    let b = c in
     let r = read b in
-    c.apply2.ensures ∙ two-gives (ws r) (n r) _ (entry r).pre.0.1 (first_width r) (own-width r) (low_word r) (high_word r) _ _ (second-width b) (two_is (two b))
+    c.apply-2.ensures ∙ two-gives (ws r) (n r) _ (entry r).requires.0.1 (first_width r) (own-width r) (low_word r) (high_word r) _ _ (second-width b) (two_is (two b))
 
-pub applied-spec : {M : Type 1} → statement M
-applied-spec =
+pub applied_spec : {M : Type 1} → statement M
+applied_spec =
     tie.close
     (tie.spec
     first-requires

@@ -8,23 +8,20 @@ use Rattle.evaluate.proofs.combine.Statement.{statement}
 use Rattle.evaluate.proofs.combine.Tie as tie
 
 -- past the test: a node with operands
-module _ (c : tie.Else1) where
+module _ (c : tie.Else-k-lt-ADD) where
   abbrev entry : tie.Start
   entry = c.before.before.before
 
-  is-k : c.before.kind-of.result ≡ kind_number entry.args.p.now.now entry.args.n.0
-  is-k = c.before.kind-of.ensures
+  is-k : c.before.kind_of-k.result ≡ kind_number entry.args.p.now.now entry.args.n.0
+  is-k = c.before.kind_of-k.ensures
 
   from-three : 3 ≤ kind_number entry.args.p.now.now entry.args.n.0
-  from-three = rw (← is-k) c.if1.false
+  from-three = rw (← is-k) c.if-k-lt-ADD.false
 
-  no-ite : c.before.kind-of.result ≡ 15 → ⊥
-  no-ite q = entry.pre.0.1 (sym is-k ∙ q)
+  no-ite : c.before.kind_of-k.result ≡ 15 → ⊥
+  no-ite q = entry.requires.0.1 (sym is-k ∙ q)
 
-abbrev if1-done : tie.After-load → tie.Else1
-if1-done c = c.before.before.before.before
-
-kind-of-requires : tie.Need-kind-of-requires
+kind-of-requires : tie.Need-kind_of-k-requires
 kind-of-requires c κs = search rules
 
 leaf-requires : tie.Need-leaf-requires
@@ -33,7 +30,7 @@ leaf-requires c κs = search rules
 store-requires : tie.Need-store-requires
 store-requires c κs = search rules
 
-returns : tie.Need-returns
+returns : tie.Need-returns-then-k-lt-ADD
 returns c = search rules
 
 load-requires : tie.Need-load-requires
@@ -44,30 +41,30 @@ load-requires-2 c κs = search rules
 
 applied-requires : tie.Need-applied-requires
 applied-requires c κs =
-    let a = c.before in
-    let e = if1-done a in
+    let a = c in
+    let e = c in
     let s = entry e in (
-      (s.pre.0.0, is-k e, e.if1.left, no-ite e),
-      held-ok _ _ _ s.pre.0.0 _ (is-k e) s.pre.0.2 e.if1.left (no-ite e) (a.load.ensures ∙ s.pre.1.0 (from-three e))
-          (λ q. c.load2.ensures ∙ s.pre.1.1 (from-three e) (rw (← is-k e) q)),
+      (s.requires.0.0, is-k e, e.if1.left, no-ite e),
+      held-ok _ _ _ s.requires.0.0 _ (is-k e) s.requires.0.2 e.if1.left (no-ite e) (a.load.ensures ∙ s.requires.1.0 (from-three e))
+          (λ q. c.load-2.ensures ∙ s.requires.1.1 (from-three e) (rw (← is-k e) q)),
     )
 
 store-requires-2 : tie.Need-store-requires-2
 store-requires-2 c κs = search rules
 
-returns-2 : tie.Need-returns-2
+returns-2 : tie.Need-returns
 returns-2 c =
-    let d = c.before in
-    let b = d.before in
-    let a = b.before in
-    let e = if1-done a in
+    let d = c in
+    let b = c in
+    let a = c in
+    let e = c in
     let s = entry e in
-    c.store2.ensures ∙ d.applied.ensures
-    ∙ held-is _ _ _ s.pre.0.0 _ (is-k e) s.pre.0.2 e.if1.left (no-ite e) (a.load.ensures ∙ s.pre.1.0 (from-three e))
-    (λ q. b.load2.ensures ∙ s.pre.1.1 (from-three e) (rw (← is-k e) q))
+    c.store-2.ensures ∙ d.applied.ensures
+    ∙ held-is _ _ _ s.requires.0.0 _ (is-k e) s.requires.0.2 e.if1.left (no-ite e) (a.load.ensures ∙ s.requires.1.0 (from-three e))
+    (λ q. b.load-2.ensures ∙ s.requires.1.1 (from-three e) (rw (← is-k e) q))
 
-pub combine-spec : {M : Type 1} → statement M
-combine-spec =
+pub combine_spec : {M : Type 1} → statement M
+combine_spec =
     tie.close
     (tie.spec
     kind-of-requires

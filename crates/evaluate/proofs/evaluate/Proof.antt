@@ -16,82 +16,79 @@ use borrow.Author.Rules.{rules}
 use Rattle.evaluate.proofs.evaluate.Statement.{statement}
 use Rattle.evaluate.proofs.evaluate.Tie as tie
 
-abbrev entry : tie.Else1 → tie.Start
-entry c = c.before.before.before
-
 -- past the first test the pool is good, and the node is below the count
-zero : (c : tie.Else1) → c.before.node-number.result ≡ 0
-zero c = omega (arith, c.if1.false)
+zero : (c : tie.Else-number-gt0) → c.node_number-number.result ≡ 0
+zero c = omega (arith, c.if-number-gt0.false)
 
-good : (c : tie.Else1) → let a = (entry c).args in (pool_ok a.t1.now a.count ≡ true) × (a.node < a.count)
+good : (c : tie.Else-number-gt0) → let a = c.args in (pool_ok a.t1.now a.count ≡ true) × (a.node < a.count)
 good c =
-    let a = (entry c).args in
-    let k = accepted a.t1.now a.count a.node 0 (sym c.before.node-number.ensures ∙ zero c) in (k.0, k.1)
+    let a = c.args in
+    let k = accepted a.t1.now a.count a.node 0 (sym c.node_number-number.ensures ∙ zero c) in (k.0, k.1)
 
-ready_at : (c : tie.Else1) → Ready (entry c).args.t1.now (entry c).args.node
+ready_at : (c : tie.Else-number-gt0) → Ready c.args.t1.now c.args.node
 ready_at c =
-    let a = (entry c).args in
+    let a = c.args in
     ready_of a.t1.now a.count a.node (keeps a.t1.now a.count (good c).0) (good c).1 (words-for a.t1.now a.count (good c).0)
 
 -- the node has been visited
-module _ (c : tie.After-visit) where
-  abbrev passed : tie.Else1
+module _ (c : tie.After-visit-left) where
+  abbrev passed : tie.Else-number-gt0
   passed = c.before.before.before.before.before
 
   abbrev start : tie.Start
   start = entry passed
 
-  visited : Visited start.args.t1.now start.args.start.now start.args.node start.args.allowance c.visit.new.1.1.1.0 c.visit.result
-  visited = c.visit.ensures
+  visited : Visited start.args.t1.now start.args.start.now start.args.node start.args.allowance c.visit-left.new.1.1.1.0 c.visit-left.result
+  visited = c.visit-left.ensures
 
   count-some : 1 ≤ visits_at start.args.t1.now start.args.start.now start.args.node
   count-some = some start.args.t1.now start.args.start.now start.args.node (ready_at passed) _ refl
 
-node-number-requires : tie.Need-node-number-requires
+node-number-requires : tie.Need-node_number-number-requires
 node-number-requires c κs = search rules
 
 refused-requires : tie.Need-refused-requires
 refused-requires c κs = search rules
 
-returns : tie.Need-returns
-returns c = rw c.refused.ensures (bad _ _ _ _ _ _ c.before.before.node-number.ensures c.before.if1.true)
+returns : tie.Need-returns-then-number-gt0
+returns c = rw c.refused.ensures (bad _ _ _ _ _ _ c.node_number-number.ensures c.if-number-gt0.true)
 
-words-of-requires : tie.Need-words-of-requires
+words-of-requires : tie.Need-words_of-requires
 words-of-requires c κs = search rules
 
-visit-requires : tie.Need-visit-requires
-visit-requires c κs = (ready_at c.before.before.before.before, c.before.before.words_of.ensures)
+visit-requires : tie.Need-visit-left-requires
+visit-requires c κs = (ready_at c.before.before.before.before, c.words_of.ensures)
 
-refused-requires-2 : tie.Need-refused-requires-2
+refused-requires-2 : tie.Need-refused-requires-then-left-eq0
 refused-requires-2 c κs = search rules
 
-returns-2 : tie.Need-returns-2
+returns-2 : tie.Need-returns-then-left-eq0
 returns-2 c =
-    let v = c.before.before in
-    let g = good (passed v) in rw c.refused2.ensures (too_many _ _ _ _ _ g.0 g.1 (visited v) c.before.if2.true)
+    let v = c in
+    let g = good (passed v) in rw c.refused-then-left-eq0.ensures (too_many _ _ _ _ _ g.0 g.1 (visited v) c.if-left-eq0.true)
 
-array-read-t13 : tie.Need-array-read-t13
+array-read-t13 : tie.Need-bounds-out-0
 array-read-t13 c = search rules
 
-array-read-t22 : tie.Need-array-read-t22
+array-read-t22 : tie.Need-bounds-out-1
 array-read-t22 c = search rules
 
-array-read-t25 : tie.Need-array-read-t25
+array-read-t25 : tie.Need-bounds-out-2
 array-read-t25 c = search rules
 
-sub-t26 : tie.Need-overflow-sub-t26
+sub-t26 : tie.Need-overflow_sub-result
 sub-t26 c = omega (arith, (visited c.before).left_is, count-some c.before)
 
-add-t27 : tie.Need-overflow-add-t27
+add-t27 : tie.Need-overflow_add-result
 add-t27 c = search rules
 
-returns-3 : tie.Need-returns-3
+returns-3 : tie.Need-returns
 returns-3 c =
-    let v = c.before in
-    let g = good (passed v) in rw (zero (passed v)) (given _ _ _ _ _ g.0 g.1 (visited v) c.if2.false (count-some v))
+    let v = c in
+    let g = good (passed v) in rw (zero (passed v)) (given _ _ _ _ _ g.0 g.1 (visited v) c.if-left-eq0.false (count-some v))
 
-pub evaluate-spec : {M : Type 1} → statement M
-evaluate-spec =
+pub evaluate_spec : {M : Type 1} → statement M
+evaluate_spec =
     tie.close
     (tie.spec
     node-number-requires

@@ -6,33 +6,33 @@ use borrow.Author.Rules.{rules}
 use Rattle.gates_build.proofs.shorten.Statement.{statement}
 use Rattle.gates_build.proofs.shorten.Tie as tie
 
-returns : tie.Need-returns
+returns : tie.Need-returns-then-variable-lt4097
 returns c = search rules
 
-mul-word : tie.Need-overflow-mul-word
+mul-word : tie.Need-offset_bounds-graph-gate
 mul-word c = search rules
 
-shared-slice-read-word : tie.Need-shared-slice-read-word
+shared-slice-read-word : tie.Need-bounds-graph-gate
 shared-slice-read-word c = search rules
 
-returns-2 : tie.Need-returns-2
+returns-2 : tie.Need-returns-then-variable-x
 returns-2 c = search rules
 
-returns-3 : tie.Need-returns-3
+returns-3 : tie.Need-returns-then-variable-y
 returns-3 c = search rules
 
 absorb-requires : tie.Need-absorb-requires
 absorb-requires c κs = search rules
 
-returns-4 : tie.Need-returns-4
+returns-4 : tie.Need-returns
 returns-4 c =
-    let s = c.before.before.before.before.before.before in
+    let s = c in
     let p = s.requires in
-    c.absorb.ensures.same (omega (arith, p)) (gate-of-word p.2 c.before.before.before.before.if1.false
-    (omega (arith, c.before.before.if2.false)) (omega (arith, c.before.if3.false)))
+    c.absorb.ensures.same (omega (arith, p)) (gate-of-word p.2 c.if-variable-lt4097.false
+    (omega (arith, c.if-variable-x.false)) (omega (arith, c.if-variable-y.false)))
 
-pub shorten-spec : {M : Type 1} → statement M
-shorten-spec =
+pub shorten_spec : {M : Type 1} → statement M
+shorten_spec =
     tie.close
     (tie.spec
     returns

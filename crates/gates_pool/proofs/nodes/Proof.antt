@@ -10,61 +10,58 @@ use borrow.Author.Rules.{rules}
 use Rattle.gates_pool.proofs.nodes.Statement.{statement}
 use Rattle.gates_pool.proofs.nodes.Tie as tie
 
-abbrev invariant-loop : tie.invariant-loop
-invariant-loop pool count graph₀ old table₀ bits₀ all₀ n₀ graph table bits all n =
+abbrev invariant-loop-n : tie.invariant-loop-n
+invariant-loop-n pool count graph₀ old table₀ bits₀ all₀ n₀ graph table bits all n =
     (n ≤ count) × (length table ≡ length table₀) × Nodes pool n graph₀ old bits₀ graph all bits
 
-abbrev decreases-loop : tie.decreases-loop
-decreases-loop pool count graph₀ old table₀ bits₀ all₀ n₀ graph table bits all n = count - n
+abbrev decreases-loop-n : tie.decreases-loop-n
+decreases-loop-n pool count graph₀ old table₀ bits₀ all₀ n₀ graph table bits all n = count - n
 
-abbrev turn : tie.After-slice-known6 invariant-loop decreases-loop → tie.In-loop invariant-loop decreases-loop
-turn c = c.before.before.before.before.before.before.before.before.before.before
-
-loop-holds : tie.Need-loop-init invariant-loop decreases-loop
+loop-holds : tie.Need-loop-n-init invariant-loop-n decreases-loop-n
 loop-holds c = (omega arith, refl, nodes-none _ _ _ _)
 
-node-requires : tie.Need-node-requires invariant-loop decreases-loop
+node-requires : tie.Need-node-all-requires invariant-loop-n decreases-loop-n
 node-requires c κs =
-    let t = c.before.before.before in
-    let l = t.before in
-    let s = l.before.before.before.before.before in
+    let t = c in
+    let l = c in
+    let s = c in
     let k = s.args.count in
     let p = s.requires.0 in
-    node-ready l.loop.invariant.2 k t.loop-test.true p.0 p.1 p.2 s.requires.1
+    node-ready l.loop-n.invariant.2 k t.loop-n-test.true p.0 p.1 p.2 s.requires.1
 
-add-n : tie.Need-overflow-add-n invariant-loop decreases-loop
-add-n c = let t = turn c in omega (arith, t.loop-test.taken, t.before.before.before.before.before.before.fits.count)
+add-n : tie.Need-overflow_add-n invariant-loop-n decreases-loop-n
+add-n c = let t = c in omega (arith, t.loop-test.taken, t.fits.count)
 
-loop-less : tie.Need-loop-smaller invariant-loop decreases-loop
-loop-less c = let t = turn c in omega (arith, t.loop-test.taken)
+loop-less : tie.Need-loop-n-smaller invariant-loop-n decreases-loop-n
+loop-less c = let t = c in omega (arith, t.loop-test.taken)
 
-loop-again : tie.Need-loop-preserved invariant-loop decreases-loop
+loop-again : tie.Need-loop-n-preserved invariant-loop-n decreases-loop-n
 loop-again c =
-    let t = turn c in
-    let l = t.before.loop in
-    (omega (arith, t.loop-test.taken), search rules, nodes-more l.inv.2 c.before.before.before.before.before.before.node.ensures)
+    let t = c in
+    let l = t.loop-n in
+    (omega (arith, t.loop-test.taken), search rules, nodes-more l.inv.2 c.node-all.ensures)
 
-same_length : tie.Need-same-length invariant-loop decreases-loop
-same_length c = c.before.loop.invariant.2.grown.long
+same_length : tie.Need-shape_of-graph invariant-loop-n decreases-loop-n
+same_length c = c.loop-n.invariant.2.grown.long
 
-same-length-2 : tie.Need-same-length-2 invariant-loop decreases-loop
-same-length-2 c = c.before.loop.invariant.1
+same-length-2 : tie.Need-shape_of-table invariant-loop-n decreases-loop-n
+same-length-2 c = c.loop-n.invariant.1
 
-same-length-3 : tie.Need-same-length-3 invariant-loop decreases-loop
-same-length-3 c = c.before.loop.invariant.2.size
+same-length-3 : tie.Need-shape_of-bits invariant-loop-n decreases-loop-n
+same-length-3 c = c.loop-n.invariant.2.size
 
-returns : tie.Need-returns invariant-loop decreases-loop
+returns : tie.Need-returns invariant-loop-n decreases-loop-n
 returns c =
-    let s = c.before.before.before.before.before.before in
-    let e : c.before.loop.n ≡ s.args.count = omega (arith, c.before.loop.invariant.0, c.loop-test.false) in
-    rw e at c.before.loop.invariant.2
+    let s = c in
+    let e : c.loop-n.n ≡ s.args.count = omega (arith, c.loop-n.invariant.0, c.loop-n-test.false) in
+    rw e at c.loop-n.invariant.2
 
-pub nodes-spec : {M : Type 1} → statement M
-nodes-spec =
+pub nodes_spec : {M : Type 1} → statement M
+nodes_spec =
     tie.close
     (tie.spec
-    invariant-loop
-    decreases-loop
+    invariant-loop-n
+    decreases-loop-n
     loop-holds
     node-requires
     add-n

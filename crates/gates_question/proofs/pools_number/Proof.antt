@@ -8,35 +8,32 @@ use borrow.Author.Rules.{rules}
 use Rattle.gates_question.proofs.pools_number.Statement.{statement}
 use Rattle.gates_question.proofs.pools_number.Tie as tie
 
-abbrev entry : tie.After-pool-check → tie.Start
-entry c = c.before.before.before
+first-ok : (c : tie.Else-not-pool_check) → let a = c.args in pool_ok a.first.now a.n ≡ true
+first-ok c = sym c.pool_check.ensures ∙ not-false _ c.if-not-pool_check.false-raw
 
-first-ok : (c : tie.Else1) → let a = (entry c.before).args in pool_ok a.first.now a.n ≡ true
-first-ok c = sym c.before.pool-check.ensures ∙ not-false _ c.if1.false
-
-pool-check-requires : tie.Need-pool-check-requires
+pool-check-requires : tie.Need-pool_check-requires
 pool-check-requires c κs = search rules
 
-returns : tie.Need-returns
+returns : tie.Need-returns-then-not-pool_check
 returns c =
-    let a = (entry c.before).args in
-    bad-first a.first.now a.n a.second.now a.m (sym c.before.pool-check.ensures ∙ not-true _ c.if1.true)
+    let a = c.args in
+    bad-first a.first.now a.n a.second.now a.m (sym c.pool_check.ensures ∙ not-true _ c.if-not-pool_check.true-raw)
 
-pool-check-requires-2 : tie.Need-pool-check-requires-2
+pool-check-requires-2 : tie.Need-pool_check-requires-2
 pool-check-requires-2 c κs = search rules
 
-returns-2 : tie.Need-returns-2
+returns-2 : tie.Need-returns-then-not-pool_check-2
 returns-2 c =
-    let e = c.before.before in
-    let a = (entry e.before).args in
-    bad-second a.first.now a.n a.second.now a.m (first-ok e) (sym c.before.pool-check2.ensures ∙ not-true _ c.if2.true)
+    let e = c in
+    let a = e.args in
+    bad-second a.first.now a.n a.second.now a.m (first-ok c.before.before) (sym c.pool_check-2.ensures ∙ not-true _ c.if-not-pool_check-2.true-raw)
 
-returns-3 : tie.Need-returns-3
+returns-3 : tie.Need-returns
 returns-3 c =
-    let e = c.before.before in
-    let a = (entry e.before).args in
-    none-bad a.first.now a.n a.second.now a.m (first-ok e) (sym c.before.pool-check2.ensures ∙ not-false _ c.if2.false)
+    let e = c in
+    let a = e.args in
+    none-bad a.first.now a.n a.second.now a.m (first-ok c.before.before) (sym c.pool_check-2.ensures ∙ not-false _ c.if-not-pool_check-2.false-raw)
 
-pub pools-number-spec : {M : Type 1} → statement M
-pools-number-spec =
+pub pools_number_spec : {M : Type 1} → statement M
+pools_number_spec =
     tie.close (tie.spec pool-check-requires returns pool-check-requires-2 returns-2 returns-3)

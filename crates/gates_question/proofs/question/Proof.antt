@@ -10,85 +10,79 @@ use borrow.Author.Rules.{rules}
 use Rattle.gates_question.proofs.question.Statement.{statement}
 use Rattle.gates_question.proofs.question.Tie as tie
 
-abbrev entry : tie.After-refusal → tie.Start
-entry c = c.before.before.before.before.before.before
-
-passed : (c : tie.Else1)
-    → let a = (entry c.before).args in Passed a.first.now a.n a.second.now a.m a.a.0 a.b.0 a.hi a.lo
+passed : (c : tie.Else-number-ne0)
+    → let a = c.args in Passed a.first.now a.n a.second.now a.m a.a.0 a.b.0 a.hi a.lo
     (length a.graph.now) (length a.bits.now)
-passed c = let a = (entry c.before).args in all-passed a.first.now a.n a.second.now a.m _ _ _ _ _ _
-    (sym c.before.refusal.ensures ∙ c.if1.false)
+passed c = let a = c.args in all-passed a.first.now a.n a.second.now a.m _ _ _ _ _ _
+    (sym c.refusal-number.ensures ∙ c.if-number-ne0.false)
 
-abbrev built : tie.After-differ-arg3 → tie.After-both
-built c = c.before.before.before.before.before.before.before.before.before.before.before
-
-refusal-requires : tie.Need-refusal-requires
+refusal-requires : tie.Need-refusal-number-requires
 refusal-requires c κs = search rules
 
-returns : tie.Need-returns
+returns : tie.Need-returns-then-number-ne0
 returns c =
     record {
-      number_is = c.before.refusal.ensures;
+      number_is = c.refusal-number.ensures;
       refused = λ h. (refl, refl, refl, refl, refl);
-      done = λ e. absurd (c.if1.true e);
+      done = λ e. absurd (c.if-number-ne0.true e);
       few = omega arith;
       graph_size = refl;
     }
 
-both-requires : tie.Need-both-requires
+both-requires : tie.Need-both-made-requires
 both-requires c κs = ready (passed c.before.before.before)
 
-add-there : tie.Need-overflow-add-there
+add-there : tie.Need-overflow_add-there
 add-there c = let p = passed c.before.before.before.before.before.before.before.before.before.before.before in omega (arith, p.places, p.b-less)
 
-mul-there : tie.Need-overflow-mul-there
+mul-there : tie.Need-overflow_mul-there
 mul-there c = let p = passed c.before.before.before.before.before.before.before.before.before.before.before in omega (arith, p.places, p.b-less)
 
-mul-here : tie.Need-overflow-mul-here
+mul-here : tie.Need-overflow_mul-here
 mul-here c =
     let p = passed c.before.before.before.before.before.before.before.before.before.before.before.before in omega (arith, p.places, p.a-less)
 
-sub-differ : tie.Need-overflow-sub-differ
+sub-differ : tie.Need-overflow_sub-hi
 sub-differ c =
     let p = passed c.before.before.before.before.before.before.before.before.before.before.before.before.before.before.before in omega
     (arith, p.ordered)
 
-add-differ : tie.Need-overflow-add-differ
+add-differ : tie.Need-overflow_add-hi
 add-differ c =
     let p = passed c.before.before.before.before.before.before.before.before.before.before.before.before.before.before.before in omega
     (arith, p.inside-128)
 
-differ-requires : tie.Need-differ-requires
+differ-requires : tie.Need-differ-found-requires
 differ-requires c κs =
-    let d = built c in
+    let d = c in
     let p = passed c.before.before.before.before.before.before.before.before.before.before.before.before.before.before.before in
-    (room p d.both.ensures, omega (arith, p.ordered, p.inside-128), first_reads p d.both.ensures, second_reads p d.both.ensures)
+    (room p d.both-made.ensures, omega (arith, p.ordered, p.inside-128), first_reads p d.both-made.ensures, second_reads p d.both-made.ensures)
 
-same_length : tie.Need-same-length
+same_length : tie.Need-shape_of-graph
 same_length c = search rules
 
-same-length-2 : tie.Need-same-length-2
+same-length-2 : tie.Need-shape_of-table
 same-length-2 c = search rules
 
-same-length-3 : tie.Need-same-length-3
+same-length-3 : tie.Need-shape_of-bits
 same-length-3 c = search rules
 
-returns-2 : tie.Need-returns-2
+returns-2 : tie.Need-returns
 returns-2 c =
-    let e = c.before.before.before.before in
-    let d = built e.before in
+    let e = c in
+    let d = c in
     let p = passed e.before.before.before.before.before.before.before.before.before.before.before.before.before.before.before.before in
-    let made = e.differ.ensures in
+    let made = e.differ-found.ensures in
     record {
-      number_is = sym d.before.before.before.before.if1.left ∙ d.before.before.before.before.before.refusal.ensures;
+      number_is = sym d.if1.left ∙ d.refusal-number.ensures;
       refused = λ h. absurd (h refl);
-      done = λ z. asks p d.both.ensures made;
-      few = few p d.both.ensures made;
-      graph_size = graph_size p d.both.ensures made;
+      done = λ z. asks p d.both-made.ensures made;
+      few = few p d.both-made.ensures made;
+      graph_size = graph_size p d.both-made.ensures made;
     }
 
-pub question-spec : {M : Type 1} → statement M
-question-spec =
+pub question_spec : {M : Type 1} → statement M
+question_spec =
     tie.close
     (tie.spec
     refusal-requires

@@ -15,7 +15,7 @@ use Rattle.gates_question.proofs.refusal.Statement.{statement}
 use Rattle.gates_question.proofs.refusal.Tie as tie
 
 -- the pools are checked
-module _ (k : tie.After-question-room) where
+module _ (k : tie.After-question_room-room) where
   abbrev entry : tie.Start
   entry = k.before.before.before
 
@@ -49,130 +49,127 @@ module _ (k : tie.After-question-room) where
   abbrev bits : ℕ
   bits = entry.args.bits
 
-abbrev asked : tie.Else1 → tie.After-question-room
-asked c = c.before.before
-
-record Good (c : tie.Else1) : Type 0 where
+record Good (c : tie.Else-room-ne0) : Type 0 where
   first : pool_ok (ws (asked c)) (n (asked c)) ≡ true
   second : pool_ok (ws' (asked c)) (m (asked c)) ≡ true
-  gates-are : (asked c).question-room.result.gates ≡ gates_of_two (ws (asked c)) (n (asked c)) (ws' (asked c)) (m (asked c))
-  places-are : (asked c).question-room.result.places ≡ places_of_two (n (asked c)) (m (asked c))
+  gates-are : (asked c).question_room-room.result.gates ≡ gates_of_two (ws (asked c)) (n (asked c)) (ws' (asked c)) (m (asked c))
+  places-are : (asked c).question_room-room.result.places ≡ places_of_two (n (asked c)) (m (asked c))
 
-good : (c : tie.Else1) → Good c
+good : (c : tie.Else-room-ne0) → Good c
 good c =
-    let k = asked c in
-    let q = k.question-room.ensures in
-    let r = both_ok (ws k) (n k) (ws' k) (m k) (sym q.number_is ∙ c.if1.false) in
+    let k = c in
+    let q = k.question_room-room.ensures in
+    let r = both_ok (ws k) (n k) (ws' k) (m k) (sym q.number_is ∙ c.if-room-ne0.false) in
     record {
       first = r.0;
       second = r.1;
-      gates-are = q.gates_is ∙ ap (λ (z : ℕ). by_number z (gates_of_two (ws k) (n k) (ws' k) (m k))) c.if1.false;
-      places-are = q.places_is ∙ ap (λ (z : ℕ). by_number z (places_of_two (n k) (m k))) c.if1.false;
+      gates-are = q.gates_is ∙ ap (λ (z : ℕ). by_number z (gates_of_two (ws k) (n k) (ws' k) (m k))) c.if-room-ne0.false;
+      places-are = q.places_is ∙ ap (λ (z : ℕ). by_number z (places_of_two (n k) (m k))) c.if-room-ne0.false;
     }
 
-a-wide : (c : tie.Else2) → let k = asked c.before.before in of_width (ws k) (n k) (a k) 128 ≡ true
-a-wide c = sym c.before.of_width.ensures ∙ not-false _ c.if2.false
+a-wide : (c : tie.Else-not-of_width) → let k = c in of_width (ws k) (n k) (a k) 128 ≡ true
+a-wide c = sym c.of_width.ensures ∙ not-false _ c.if-not-of_width.false-raw
 
-b-wide : (c : tie.Else3) → let k = asked c.before.before.before.before in of_width (ws' k) (m k) (b k) 128 ≡ true
-b-wide c = sym c.before.of-width2.ensures ∙ not-false _ c.if3.false
+b-wide : (c : tie.Else-not-of_width-2) → let k = c in of_width (ws' k) (m k) (b k) 128 ≡ true
+b-wide c = sym c.of_width-2.ensures ∙ not-false _ c.if-not-of_width-2.false-raw
 
-question-room-requires : tie.Need-question-room-requires
+question-room-requires : tie.Need-question_room-room-requires
 question-room-requires c κs = search rules
 
-returns : tie.Need-returns
+returns : tie.Need-returns-then-room-ne0
 returns c =
-    let k = c.before.before in
-    bad-pools (ws k) (n k) (ws' k) (m k) (a k) (b k) (hi k) (lo k) (graph k) (bits k) k.question-room.ensures.number_is c.if1.true
+    let k = c in
+    bad-pools (ws k) (n k) (ws' k) (m k) (a k) (b k) (hi k) (lo k) (graph k) (bits k) k.question_room-room.ensures.number_is c.if-room-ne0.true
 
-of-width-requires : tie.Need-of-width-requires
-of-width-requires c κs = let k = asked c in words-for (ws k) (n k) (good c).first
+of-width-requires : tie.Need-of_width-requires
+of-width-requires c κs = let k = c in words-for (ws k) (n k) (good c).first
 
-returns-2 : tie.Need-returns-2
+returns-2 : tie.Need-returns-then-not-of_width
 returns-2 c =
-    let e1 = c.before.before in
-    let k = asked e1 in
-    let g = good e1 in
+    let e1 = c in
+    let k = c in
+    let g = good c.before.before in
     bad-a (ws k) (n k) (ws' k) (m k) (a k) (b k) (hi k) (lo k) (graph k) (bits k) g.first g.second
-    (sym c.before.of_width.ensures ∙ not-true _ c.if2.true)
+    (sym c.of_width.ensures ∙ not-true _ c.if-not-of_width.true-raw)
 
-of-width-requires-2 : tie.Need-of-width-requires-2
-of-width-requires-2 c κs = let e1 = c.before.before in let k = asked e1 in words-for (ws' k) (m k) (good e1).second
+of-width-requires-2 : tie.Need-of_width-requires-2
+of-width-requires-2 c κs = let e1 = c in let k = c in words-for (ws' k) (m k) (good c.before.before).second
 
-returns-3 : tie.Need-returns-3
+returns-3 : tie.Need-returns-then-not-of_width-2
 returns-3 c =
-    let e2 = c.before.before in
-    let e1 = e2.before.before in
-    let k = asked e1 in
-    let g = good e1 in
-    bad-b (ws k) (n k) (ws' k) (m k) (a k) (b k) (hi k) (lo k) (graph k) (bits k) g.first g.second (a-wide e2)
-    (sym c.before.of-width2.ensures ∙ not-true _ c.if3.true)
+    let e2 = c in
+    let e1 = c in
+    let k = c in
+    let g = good c.before.before.before.before in
+    bad-b (ws k) (n k) (ws' k) (m k) (a k) (b k) (hi k) (lo k) (graph k) (bits k) g.first g.second (a-wide c.before.before)
+    (sym c.of_width-2.ensures ∙ not-true _ c.if-not-of_width-2.true-raw)
 
-returns-4 : tie.Need-returns-4
+returns-4 : tie.Need-returns-then-hi-lo
 returns-4 c =
-    let e3 = c.before in
-    let e2 = e3.before.before in
-    let e1 = e2.before.before in
-    let k = asked e1 in
-    let g = good e1 in
-    not-in-order (ws k) (n k) (ws' k) (m k) (a k) (b k) (hi k) (lo k) (graph k) (bits k) g.first g.second (a-wide e2) (b-wide e3) c.if4.true
+    let e3 = c in
+    let e2 = c in
+    let e1 = c in
+    let k = c in
+    let g = good c.before.before.before.before.before in
+    not-in-order (ws k) (n k) (ws' k) (m k) (a k) (b k) (hi k) (lo k) (graph k) (bits k) g.first g.second (a-wide c.before.before.before) (b-wide c.before) c.if-hi-lo.true
 
-returns-5 : tie.Need-returns-5
+returns-5 : tie.Need-returns-then-hi-gt127
 returns-5 c =
-    let e3 = c.before.before in
-    let e2 = e3.before.before in
-    let e1 = e2.before.before in
-    let k = asked e1 in
-    let g = good e1 in
-    too-high (ws k) (n k) (ws' k) (m k) (a k) (b k) (hi k) (lo k) (graph k) (bits k) g.first g.second (a-wide e2) (b-wide e3) c.before.if4.false
-    c.if5.true
+    let e3 = c in
+    let e2 = c in
+    let e1 = c in
+    let k = c in
+    let g = good c.before.before.before.before.before.before in
+    too-high (ws k) (n k) (ws' k) (m k) (a k) (b k) (hi k) (lo k) (graph k) (bits k) g.first g.second (a-wide c.before.before.before.before) (b-wide c.before.before) c.if-hi-lo.false
+    c.if-hi-gt127.true
 
-returns-6 : tie.Need-returns-6
+returns-6 : tie.Need-returns-then-graph-room
 returns-6 c =
-    let e3 = c.before.before.before.before in
-    let e2 = e3.before.before in
-    let e1 = e2.before.before in
-    let k = asked e1 in
-    let g = good e1 in
-    short-graph (ws k) (n k) (ws' k) (m k) (a k) (b k) (hi k) (lo k) (graph k) (bits k) g.first g.second (a-wide e2) (b-wide e3)
-    c.before.before.before.if4.false c.before.before.if5.false (omega (arith, g.gates-are, c.if6.true))
+    let e3 = c in
+    let e2 = c in
+    let e1 = c in
+    let k = c in
+    let g = good c.before.before.before.before.before.before.before.before in
+    short-graph (ws k) (n k) (ws' k) (m k) (a k) (b k) (hi k) (lo k) (graph k) (bits k) g.first g.second (a-wide c.before.before.before.before.before.before) (b-wide c.before.before.before.before)
+    c.if-hi-lo.false c.if-hi-gt127.false (omega (arith, g.gates-are, c.if-graph-room.true))
 
-returns-7 : tie.Need-returns-7
+returns-7 : tie.Need-returns-then-room-gt2147479551
 returns-7 c =
-    let e3 = c.before.before.before.before.before.before in
-    let e2 = e3.before.before in
-    let e1 = e2.before.before in
-    let k = asked e1 in
-    let g = good e1 in
-    too_many (ws k) (n k) (ws' k) (m k) (a k) (b k) (hi k) (lo k) (graph k) (bits k) g.first g.second (a-wide e2) (b-wide e3)
-    c.before.before.before.before.before.if4.false c.before.before.before.before.if5.false
-    (omega (arith, g.gates-are, c.before.before.if6.false)) (omega (arith, g.gates-are, c.if7.true))
+    let e3 = c in
+    let e2 = c in
+    let e1 = c in
+    let k = c in
+    let g = good c.before.before.before.before.before.before.before.before.before.before in
+    too_many (ws k) (n k) (ws' k) (m k) (a k) (b k) (hi k) (lo k) (graph k) (bits k) g.first g.second (a-wide c.before.before.before.before.before.before.before.before) (b-wide c.before.before.before.before.before.before)
+    c.if-hi-lo.false c.if-hi-gt127.false
+    (omega (arith, g.gates-are, c.if-graph-room.false)) (omega (arith, g.gates-are, c.if-room-gt2147479551.true))
 
-returns-8 : tie.Need-returns-8
+returns-8 : tie.Need-returns-then-bits-room
 returns-8 c =
-    let e3 = c.before.before.before.before.before.before.before.before in
-    let e2 = e3.before.before in
-    let e1 = e2.before.before in
-    let k = asked e1 in
-    let g = good e1 in
-    short-places (ws k) (n k) (ws' k) (m k) (a k) (b k) (hi k) (lo k) (graph k) (bits k) g.first g.second (a-wide e2) (b-wide e3)
-    c.before.before.before.before.before.before.before.if4.false c.before.before.before.before.before.before.if5.false
-    (omega (arith, g.gates-are, c.before.before.before.before.if6.false)) (omega (arith, g.gates-are, c.before.before.if7.false))
-    (omega (arith, g.places-are, c.if8.true))
+    let e3 = c in
+    let e2 = c in
+    let e1 = c in
+    let k = c in
+    let g = good c.before.before.before.before.before.before.before.before.before.before.before.before in
+    short-places (ws k) (n k) (ws' k) (m k) (a k) (b k) (hi k) (lo k) (graph k) (bits k) g.first g.second (a-wide c.before.before.before.before.before.before.before.before.before.before) (b-wide c.before.before.before.before.before.before.before.before)
+    c.if-hi-lo.false c.if-hi-gt127.false
+    (omega (arith, g.gates-are, c.if-graph-room.false)) (omega (arith, g.gates-are, c.if-room-gt2147479551.false))
+    (omega (arith, g.places-are, c.if-bits-room.true))
 
-returns-9 : tie.Need-returns-9
+returns-9 : tie.Need-returns
 returns-9 c =
-    let e3 = c.before.before.before.before.before.before.before.before in
-    let e2 = e3.before.before in
-    let e1 = e2.before.before in
-    let k = asked e1 in
-    let g = good e1 in
-    none-refused (ws k) (n k) (ws' k) (m k) (a k) (b k) (hi k) (lo k) (graph k) (bits k) g.first g.second (a-wide e2) (b-wide e3)
-    c.before.before.before.before.before.before.before.if4.false c.before.before.before.before.before.before.if5.false
-    (omega (arith, g.gates-are, c.before.before.before.before.if6.false)) (omega (arith, g.gates-are, c.before.before.if7.false))
-    (omega (arith, g.places-are, c.if8.false))
+    let e3 = c in
+    let e2 = c in
+    let e1 = c in
+    let k = c in
+    let g = good c.before.before.before.before.before.before.before.before.before.before.before.before in
+    none-refused (ws k) (n k) (ws' k) (m k) (a k) (b k) (hi k) (lo k) (graph k) (bits k) g.first g.second (a-wide c.before.before.before.before.before.before.before.before.before.before) (b-wide c.before.before.before.before.before.before.before.before)
+    c.if-hi-lo.false c.if-hi-gt127.false
+    (omega (arith, g.gates-are, c.if-graph-room.false)) (omega (arith, g.gates-are, c.if-room-gt2147479551.false))
+    (omega (arith, g.places-are, c.if-bits-room.false))
 
-pub refusal-spec : {M : Type 1} → statement M
-refusal-spec =
+pub refusal_spec : {M : Type 1} → statement M
+refusal_spec =
     tie.close
     (tie.spec
     question-room-requires

@@ -17,96 +17,78 @@ use Rattle.instruction_check.proofs.instruction_number.Tie as tie
 
 -- ---- what holds past each test
 
-abbrev entry : tie.Else1 → tie.Start
-entry c = c.before.before.before
+good : (c : tie.Else-not-pool_check) → pool_ok c.args.pool.now c.args.count ≡ true
+good c = sym c.pool_check.ensures ∙ not-false c.pool_check.result c.if-not-pool_check.false-raw
 
-good : (c : tie.Else1) → pool_ok (entry c).args.pool.now (entry c).args.count ≡ true
-good c = sym c.before.pool-check.ensures ∙ not-false c.before.pool-check.result c.if1.false
+legal : (c : tie.Else-number-ne0) → let a = c.args in form_number a.operation a.arrangement a.i 0 ≡ 0
+legal c = sym c.form_number-number.ensures ∙ c.if-number-ne0.false
 
-abbrev checked : tie.Else2 → tie.Else1
-checked c = c.before.before
-
-legal : (c : tie.Else2) → let a = (entry (checked c)).args in form_number a.operation a.arrangement a.i 0 ≡ 0
-legal c = sym c.before.form-number.ensures ∙ c.if2.false
-
-abbrev formed-at : tie.After-sources-ok → tie.Else2
-formed-at c = c.before.before.before
-
-sources : (c : tie.After-sources-ok) → let a = (entry (checked (formed-at c))).args in
-    c.sources-ok.result ≡ sources_ok a.pool.now a.count (op_at a.operation) (arrangement_at a.arrangement) a.d.0 a.n.0 a.m.0
+sources : (c : tie.After-sources_ok) → let a = c.args in
+    c.sources_ok.result ≡ sources_ok a.pool.now a.count (op_at a.operation) (arrangement_at a.arrangement) a.d.0 a.n.0 a.m.0
 sources c =
-    let a = (entry (checked (formed-at c))).args in
-    let k = coded a.operation a.arrangement a.i 0 (legal (formed-at c)) in
-    c.sources-ok.ensures (op_at a.operation) (arrangement_at a.arrangement) k.0 (c.before.before.form-code.ensures ∙ k.1) c.before.is-full.ensures
+    let a = c.args in
+    let k = coded a.operation a.arrangement a.i 0 (legal c.before.before.before) in
+    c.sources_ok.ensures (op_at a.operation) (arrangement_at a.arrangement) k.0 (c.form_code-code.ensures ∙ k.1) c.is_full-full.ensures
 
-abbrev form-past : tie.Else3 → tie.Else2
-form-past c = formed-at c.before
-
-sourced : (c : tie.Else3) → let a = (entry (checked (form-past c))).args in
+sourced : (c : tie.Else-not-sources_ok) → let a = c.args in
     sources_ok a.pool.now a.count (op_at a.operation) (arrangement_at a.arrangement) a.d.0 a.n.0 a.m.0 ≡ true
-sourced c = sym (sources c.before) ∙ not-false c.before.sources-ok.result c.if3.false
+sourced c = sym (sources c.before) ∙ not-false c.sources_ok.result c.if-not-sources_ok.false-raw
 
 -- the fourth test finds too little room, or enough
-abbrev cramped : tie.Then4 → tie.Else3
-cramped c = c.before.before
-
-abbrev roomy : tie.Else4 → tie.Else3
-roomy c = c.before.before
-
 -- ---- the calls and the answers
 
-pool-check-requires : tie.Need-pool-check-requires
+pool-check-requires : tie.Need-pool_check-requires
 pool-check-requires c κs = search rules
 
-returns : tie.Need-returns
+returns : tie.Need-returns-then-not-pool_check
 returns c =
-    let p = c.before in
-    number-pool _ _ _ _ _ _ _ _ (sym p.pool-check.ensures ∙ not-true _ c.if1.true)
+    let p = c in
+    number-pool _ _ _ _ _ _ _ _ (sym p.pool_check.ensures ∙ not-true _ c.if-not-pool_check.true-raw)
 
-form-number-requires : tie.Need-form-number-requires
+form-number-requires : tie.Need-form_number-number-requires
 form-number-requires c κs = search rules
 
-returns-2 : tie.Need-returns-2
-returns-2 c = number-form _ _ _ _ _ _ _ _ (good c.before.before) c.before.form-number.ensures c.if2.true
+returns-2 : tie.Need-returns-then-number-ne0
+returns-2 c = number-form _ _ _ _ _ _ _ _ (good c.before.before) c.form_number-number.ensures c.if-number-ne0.true
 
-form-code-requires : tie.Need-form-code-requires
+form-code-requires : tie.Need-form_code-code-requires
 form-code-requires c κs = search rules
 
-is-full-requires : tie.Need-is-full-requires
+is-full-requires : tie.Need-is_full-full-requires
 is-full-requires c κs =
-    let a = (entry (checked c.before)).args in (formed a.operation a.arrangement a.i 0 (legal c.before)).0.arranged
+    let a = c.args in (formed a.operation a.arrangement a.i 0 (legal c.before)).0.arranged
 
-sources-ok-requires : tie.Need-sources-ok-requires
-sources-ok-requires c κs = good (checked c.before.before)
+sources-ok-requires : tie.Need-sources_ok-requires
+sources-ok-requires c κs = good c.before.before.before.before
 
-returns-3 : tie.Need-returns-3
+returns-3 : tie.Need-returns-then-not-sources_ok
 returns-3 c =
-    let s = c.before in
-    let f = formed-at s in
-    number-sources _ _ _ _ _ _ _ _ (good (checked f)) (legal f) (sym (sources s) ∙ not-true _ c.if3.true)
+    let s = c in
+    let f = c in
+    number-sources _ _ _ _ _ _ _ _ (good c.before.before.before.before.before.before) (legal c.before.before.before.before) (sym (sources c.before) ∙ not-true _ c.if-not-sources_ok.true-raw)
 
 places-requires : tie.Need-places-requires
 places-requires c κs = search rules
 
-sub-if4 : tie.Need-overflow-sub-if4
+sub-if4 : tie.Need-overflow_sub-places
 sub-if4 c =
-    let e = checked (form-past c.before) in
-    omega (arith, c.places.ensures, within-places (entry e).args.pool.now (entry e).args.count (good e))
+    let e = c in
+    omega (arith, c.places.ensures, within-places e.args.pool.now e.args.count (good c.before.before.before.before.before.before.before))
 
-returns-4 : tie.Need-returns-4
+returns-4 : tie.Need-returns-then-places-count-lt-RESERVE
 returns-4 c =
-    let e = cramped c in
-    let f = form-past e in
-    number-room _ _ _ _ _ _ _ _ (good (checked f)) (legal f) (sourced e) (omega (arith, c.before.places.ensures, c.if4.true))
+    let e = c in
+    let f = c in
+    number-room _ _ _ _ _ _ _ _ (good c.before.before.before.before.before.before.before.before) (legal c.before.before.before.before.before.before) (sourced c.before.before) (omega (arith, c.places.ensures, c.if-places-count-lt-RESERVE.true))
 
-returns-5 : tie.Need-returns-5
+returns-5 : tie.Need-returns
 returns-5 c =
-    let e = roomy c in
-    let f = form-past e in
-    number-done _ _ _ _ _ _ _ _ (good (checked f)) (legal f) (sourced e) (omega (arith, c.before.places.ensures, c.if4.false))
+    let e = c in
+    let f = c in
+    number-done _ _ _ _ _ _ _ _ (good c.before.before.before.before.before.before.before.before) (legal c.before.before.before.before.before.before) (sourced c.before.before) (omega (arith, c.places.ensures, c.if-places-count-lt-RESERVE.false))
 
-pub instruction-number-spec : {M : Type 1} → statement M
-instruction-number-spec =
+pub instruction_number_spec : {M : Type 1} → statement M
+instruction_number_spec =
     tie.close
     (tie.spec
     pool-check-requires

@@ -5,7 +5,7 @@ use borrow.Author.Rules.{rules}
 use Rattle.join.proofs.is_register.Statement.{statement}
 use Rattle.join.proofs.is_register.Tie as tie
 
-kind-of-requires : tie.Need-kind-of-requires
+kind-of-requires : tie.Need-kind_of-requires
 kind-of-requires c κs = search rules
 
 low-requires : tie.Need-low-requires
@@ -13,8 +13,8 @@ low-requires c κs = search rules
 
 returns : tie.Need-returns
 returns c =
-    let k = c.before in
-    rw (lt-ltb k.before.before.args.n.0 32 (omega arith), k.kind-of.ensures, c.low.ensures)
+    let k = c in
+    rw (lt-ltb k.args.n.0 32 (omega arith), k.kind_of.ensures, c.low.ensures)
 
-pub is-register-spec : {M : Type 1} → statement M
-is-register-spec = tie.close (tie.spec kind-of-requires low-requires returns)
+pub is_register_spec : {M : Type 1} → statement M
+is_register_spec = tie.close (tie.spec kind-of-requires low-requires returns)

@@ -4,16 +4,16 @@ use borrow.Author.Rules.{rules}
 use Rattle.join.proofs.move_one.Statement.{statement}
 use Rattle.join.proofs.move_one.Tie as tie
 
-add_push : tie.Need-overflow-add-push
+add_push : tie.Need-overflow_add-m
 add_push c = search rules
 
-sub-push : tie.Need-overflow-sub-push
+sub-push : tie.Need-overflow_sub-m
 sub-push c = search rules
 
-kind-word-at-requires : tie.Need-kind-word-at-requires
+kind-word-at-requires : tie.Need-kind_word_at-requires
 kind-word-at-requires c κs = search rules
 
-moved-word-requires : tie.Need-moved-word-requires
+moved-word-requires : tie.Need-moved_word-requires
 moved-word-requires c κs = search rules
 
 low-requires : tie.Need-low-requires
@@ -25,19 +25,19 @@ high-requires c κs = search rules
 push-requires : tie.Need-push-requires
 push-requires c κs = record { words = omega arith; numbers = omega arith }
 
-same_length : tie.Need-same-length
+same_length : tie.Need-shape_of-out
 same_length c = search rules
 
 returns : tie.Need-returns
 returns c =
-    let pushed = c.before.before in
-    let high = pushed.before in
-    let low = high.before in
-    let moved = low.before in
-    rw (moved.before.kind-word-at.ensures, moved.moved_word.ensures, low.low.ensures, high.high.ensures) at pushed.push.ensures.words
+    let pushed = c in
+    let high = c in
+    let low = c in
+    let moved = c in
+    rw (moved.kind_word_at.ensures, moved.moved_word.ensures, low.low.ensures, high.high.ensures) at pushed.push.ensures.words
 
-pub move-one-spec : {M : Type 1} → statement M
-move-one-spec =
+pub move_one_spec : {M : Type 1} → statement M
+move_one_spec =
     tie.close
     (tie.spec
     add_push

@@ -11,10 +11,10 @@ use borrow.Author.Rules.{rules}
 use Rattle.join.proofs.moved_word.Statement.{statement}
 use Rattle.join.proofs.moved_word.Tie as tie
 
-sub_by : tie.Need-overflow-sub-by
+sub_by : tie.Need-overflow_sub-by
 sub_by c = search rules
 
-operand-word-requires : tie.Need-operand-word-requires
+operand-word-requires : tie.Need-operand_word-requires
 operand-word-requires c κs = search rules
 
 first-requires : tie.Need-first-requires
@@ -23,7 +23,7 @@ first-requires c κs = search rules
 raised-requires : tie.Need-raised-requires
 raised-requires c κs = search rules
 
-add-result : tie.Need-overflow-add-result
+add-result : tie.Need-overflow_add-result
 add-result c = search rules
 
 second-requires : tie.Need-second-requires
@@ -32,10 +32,10 @@ second-requires c κs = search rules
 raised-requires-2 : tie.Need-raised-requires-2
 raised-requires-2 c κs = search rules
 
-mul-result : tie.Need-overflow-mul-result
+mul-result : tie.Need-overflow_mul-result
 mul-result c = search rules
 
-add-result-2 : tie.Need-overflow-add-result-2
+add-result-2 : tie.Need-overflow_add-result-2
 add-result-2 c = search rules
 
 third-requires : tie.Need-third-requires
@@ -44,10 +44,10 @@ third-requires c κs = search rules
 raised-requires-3 : tie.Need-raised-requires-3
 raised-requires-3 c κs = search rules
 
-mul-result-2 : tie.Need-overflow-mul-result-2
+mul-result-2 : tie.Need-overflow_mul-result-2
 mul-result-2 c = search rules
 
-add-result-3 : tie.Need-overflow-add-result-3
+add-result-3 : tie.Need-overflow_add-result-3
 add-result-3 c = search rules
 
 -- the operand m, read as n, and its rise
@@ -56,24 +56,24 @@ rises c m n r h e f = rw e at (raised_is c n r h f)
 
 returns : tie.Need-returns
 returns c =
-    let third = c.before in
-    let b = third.before in
-    let second = b.before in
-    let a = second.before in
-    let first = a.before in
-    let word = first.before in
-    let entry = word.before.before in
+    let third = c in
+    let b = c in
+    let second = c in
+    let a = c in
+    let first = c in
+    let word = c in
+    let entry = c in
     let g = entry.args in
     let ws = g.pool.now in
     let n = g.m.0 in
     let h = entry.requires.0 in
     let ea : moved g.c (op_a ws n) ≡ op_a ws n + a.raised.result = rises g.c _ _ _ h first.first.ensures a.raised.ensures.0 in
-    let eb : moved g.c (op_b ws n) ≡ op_b ws n + b.raised2.result = rises g.c _ _ _ h second.second.ensures b.raised2.ensures.0 in
-    let ec : moved g.c (op_c ws n) ≡ op_c ws n + c.raised3.result = rises g.c _ _ _ h third.third.ensures c.raised3.ensures.0 in
-    rw (ea, eb, ec) (omega (arith, word.operand-word.ensures))
+    let eb : moved g.c (op_b ws n) ≡ op_b ws n + b.raised-2.result = rises g.c _ _ _ h second.second.ensures b.raised-2.ensures.0 in
+    let ec : moved g.c (op_c ws n) ≡ op_c ws n + c.raised-3.result = rises g.c _ _ _ h third.third.ensures c.raised-3.ensures.0 in
+    rw (ea, eb, ec) (omega (arith, word.operand_word.ensures))
 
-pub moved-word-spec : {M : Type 1} → statement M
-moved-word-spec =
+pub moved_word_spec : {M : Type 1} → statement M
+moved_word_spec =
     tie.close
     (tie.spec
     sub_by

@@ -4,11 +4,11 @@ use native.Mathlib.Omega.{arith}
 use Rattle.join.proofs.raised.Statement.{statement}
 use Rattle.join.proofs.raised.Tie as tie
 
-returns : tie.Need-returns
-returns c = (rw (le-ltb c.before.before.args.m.0 32 c.if1.true), omega arith)
+returns : tie.Need-returns-then-m-ge32
+returns c = (rw (le-ltb c.args.m.0 32 c.if-m-ge32.true), omega arith)
 
-returns-2 : tie.Need-returns-2
-returns-2 c = (rw (lt-ltb c.before.before.args.m.0 32 c.if1.false), omega arith)
+returns-2 : tie.Need-returns
+returns-2 c = (rw (lt-ltb c.args.m.0 32 c.if-m-ge32.false), omega arith)
 
-pub raised-spec : {M : Type 1} → statement M
-raised-spec = tie.close (tie.spec returns returns-2)
+pub raised_spec : {M : Type 1} → statement M
+raised_spec = tie.close (tie.spec returns returns-2)

@@ -5,25 +5,25 @@ use borrow.Author.Rules.{rules}
 use Rattle.line_columns.proofs.put_columns.Statement.{statement}
 use Rattle.line_columns.proofs.put_columns.Tie as tie
 
-written-requires : tie.Need-written-requires
+written-requires : tie.Need-written-w-requires
 written-requires c κs = search rules
 
-slice-aggregate-put : tie.Need-slice-aggregate-put
+slice-aggregate-put : tie.Need-slice_bounds-put-end
 slice-aggregate-put c = search rules
 
 put-requires : tie.Need-put-requires
 put-requires c κs =
-    let four = c.before.before in
-    room_as (sym four.written.ensures) four.before.before.requires.1
+    let four = c in
+    room_as (sym four.written-w.ensures) four.requires.1
 
-same_length : tie.Need-same-length
+same_length : tie.Need-shape_of-buf
 same_length c = search rules
 
 returns : tie.Need-returns
 returns c =
-    let p = c.before.before in
-    wrote_as (sym p.before.before.before.written.ensures) p.put.ensures
+    let p = c in
+    wrote_as (sym p.written-w.ensures) p.put.ensures
 
-pub put-columns-spec : {M : Type 1} → statement M
-put-columns-spec =
+pub put_columns_spec : {M : Type 1} → statement M
+put_columns_spec =
     tie.close (tie.spec written-requires slice-aggregate-put put-requires same_length returns)

@@ -7,17 +7,17 @@ use borrow.Author.Rules.{rules}
 use Rattle.line_columns.proofs.stands.Statement.{statement}
 use Rattle.line_columns.proofs.stands.Tie as tie
 
-is-digit-requires : tie.Need-is-digit-requires
+is-digit-requires : tie.Need-is_digit-requires
 is-digit-requires c κs = search rules
 
-returns : tie.Need-returns
-returns c = rw (eq-eqb c.before.args.above 0 (omega (arith, c.if1.true)))
+returns : tie.Need-returns-then-above-eq0
+returns c = rw (eq-eqb c.args.above 0 (omega (arith, c.if-above-eq0.true)))
 
-returns-2 : tie.Need-returns-2
+returns-2 : tie.Need-returns-else-above-eq0
 returns-2 c =
-    let e = c.before in
-    let s = e.before in
-    rw (ne_eqb s.args.above 0 e.if1.false) (c.is_digit.ensures ∙ digit-test s.args.b _ s.requires)
+    let e = c in
+    let s = c in
+    rw (ne_eqb s.args.above 0 e.if-above-eq0.false) (c.is_digit.ensures ∙ digit-test s.args.b _ s.requires)
 
-pub stands-spec : {M : Type 1} → statement M
-stands-spec = tie.close (tie.spec is-digit-requires returns returns-2)
+pub stands_spec : {M : Type 1} → statement M
+stands_spec = tie.close (tie.spec is-digit-requires returns returns-2)

@@ -29,10 +29,10 @@ returns c =
     let l-field3 = l-field4.before in
     let l-field2 = l-field3.before in
     let l-field = l-field2.before in
-    cc (l-field.field.ensures.0, l-field2.field2.ensures.0, l-field3.field3.ensures.0, l-field4.field4.ensures.0, l-field5.field5.ensures.0, l-field6.field6.ensures.0)
+    cc (l-field.field.ensures.0, l-field2.field-2.ensures.0, l-field3.field-3.ensures.0, l-field4.field-4.ensures.0, l-field5.field-5.ensures.0, l-field6.field-6.ensures.0)
 
-pub fields-of-spec : {M : Type 1} → statement M
-fields-of-spec =
+pub fields_of_spec : {M : Type 1} → statement M
+fields_of_spec =
     tie.close
     (tie.spec
     field-requires

@@ -10,65 +10,59 @@ use Rattle.line_routine.specs.Routine.{line_count, is_line}
 use Rattle.line_routine.proofs.good_lines.Statement.{statement}
 use Rattle.line_routine.proofs.good_lines.Tie as tie
 
-abbrev invariant-loop : tie.invariant-loop
-invariant-loop bytes count j₀ j = (count ≡ line_count bytes) × (j ≤ count) × ((i : ℕ) → i < j → is_line bytes i ≡ true)
+abbrev invariant-loop-j : tie.invariant-loop-j
+invariant-loop-j bytes count j₀ j = (count ≡ line_count bytes) × (j ≤ count) × ((i : ℕ) → i < j → is_line bytes i ≡ true)
 
-abbrev decreases-loop : tie.decreases-loop
-decreases-loop bytes count j₀ j = count - j
+abbrev decreases-loop-j : tie.decreases-loop-j
+decreases-loop-j bytes count j₀ j = count - j
 
-abbrev entry : tie.At-loop invariant-loop decreases-loop → tie.Start invariant-loop decreases-loop
-entry l = l.before.before.before
-
-abbrev turn : tie.Else1 invariant-loop decreases-loop → tie.In-loop invariant-loop decreases-loop
-turn c = c.before.before
-
-line-count-requires : tie.Need-line-count-requires invariant-loop decreases-loop
+line-count-requires : tie.Need-line_count-count-requires invariant-loop-j decreases-loop-j
 line-count-requires c κs = search rules
 
-loop-holds : tie.Need-loop-init invariant-loop decreases-loop
-loop-holds c = (c.line-count.ensures, omega arith, λ i h. absurd (omega arith))
+loop-holds : tie.Need-loop-j-init invariant-loop-j decreases-loop-j
+loop-holds c = (c.line_count-count.ensures, omega arith, λ i h. absurd (omega arith))
 
-is-line-requires : tie.Need-is-line-requires invariant-loop decreases-loop
-is-line-requires c κs = omega (arith, c.before.loop.invariant.0, c.loop-test.true)
+is-line-requires : tie.Need-is_line-requires invariant-loop-j decreases-loop-j
+is-line-requires c κs = omega (arith, c.loop-j.invariant.0, c.loop-j-test.true)
 
-returns : tie.Need-returns invariant-loop decreases-loop
+returns : tie.Need-returns-then-not-is_line invariant-loop-j decreases-loop-j
 returns c =
-    let r = c.before in
-    let i = r.before.before.loop.invariant in
+    let r = c in
+    let i = r.loop-j.invariant in
     record {
       most = omega (arith, i.0, i.1);
       before = i.2;
-      first = λ h. sym r.is-line.ensures ∙ not-true _ c.if1.true;
+      first = λ h. sym r.is_line.ensures ∙ not-true _ c.if-not-is_line.true-raw;
     }
 
-add-j : tie.Need-overflow-add-j invariant-loop decreases-loop
-add-j c = omega (arith, (turn c).loop-test.true, (turn c).before.loop.invariant.0)
+add-j : tie.Need-overflow_add-j invariant-loop-j decreases-loop-j
+add-j c = omega (arith, c.loop-j-test.true, c.loop-j.invariant.0)
 
-loop-less : tie.Need-loop-smaller invariant-loop decreases-loop
-loop-less c = omega (arith, (turn c).loop-test.true)
+loop-less : tie.Need-loop-j-smaller invariant-loop-j decreases-loop-j
+loop-less c = omega (arith, c.loop-j-test.true)
 
-loop-again : tie.Need-loop-preserved invariant-loop decreases-loop
+loop-again : tie.Need-loop-j-preserved invariant-loop-j decreases-loop-j
 loop-again c =
-    let l = (turn c).before in
-    let bs = (entry l).args.bytes.now in
-    let good : is_line bs l.loop.j ≡ true = sym c.before.is-line.ensures ∙ not-false _ c.if1.false in (
-      l.loop.inv.0,
-      omega (arith, (turn c).loop-test.true),
-      one_more (is_line bs) l.loop.j l.loop.inv.2 good,
+    let l = c in
+    let bs = l.args.bytes.now in
+    let good : is_line bs l.loop-j.j ≡ true = sym c.is_line.ensures ∙ not-false _ c.if-not-is_line.false-raw in (
+      l.loop-j.invariant.0,
+      omega (arith, c.loop-j-test.true),
+      one_more (is_line bs) l.loop-j.j l.loop-j.invariant.2 good,
     )
 
-returns-2 : tie.Need-returns-2 invariant-loop decreases-loop
+returns-2 : tie.Need-returns invariant-loop-j decreases-loop-j
 returns-2 c =
-    let l = c.before in
-    let e : l.loop.j ≡ line_count (entry l).args.bytes.now = omega (arith, l.loop.invariant.0, l.loop.invariant.1, c.loop-test.false) in
-    record { most = omega arith; before = λ i h. l.loop.invariant.2 i (omega (arith, e, h)); first = λ h. absurd (omega arith) }
+    let l = c in
+    let e : l.loop-j.j ≡ line_count l.args.bytes.now = omega (arith, l.loop-j.invariant.0, l.loop-j.invariant.1, c.loop-j-test.false) in
+    record { most = omega arith; before = λ i h. l.loop-j.invariant.2 i (omega (arith, e, h)); first = λ h. absurd (omega arith) }
 
-pub good-lines-spec : {M : Type 1} → statement M
-good-lines-spec =
+pub good_lines_spec : {M : Type 1} → statement M
+good_lines_spec =
     tie.close
     (tie.spec
-    invariant-loop
-    decreases-loop
+    invariant-loop-j
+    decreases-loop-j
     line-count-requires
     loop-holds
     is-line-requires

@@ -8,38 +8,35 @@ use Rattle.line_run.proofs.Running.{last_none, last_some}
 use Rattle.line_run.proofs.answer_last.Statement.{statement}
 use Rattle.line_run.proofs.answer_last.Tie as tie
 
-abbrev entry : tie.Else1 → tie.Start
-entry c = c.before.before.before.before
-
-returns : tie.Need-returns
+returns : tie.Need-returns-then-line-eq0
 returns c =
-    let a = c.before.before.before.before.args in
-    last_none (places a.pool.now) a.held.now a.out.now a.line (omega (arith, c.if1.true))
+    let a = c.args in
+    last_none (places a.pool.now) a.held.now a.out.now a.line (omega (arith, c.if-line-eq0.true))
 
-slice-aggregate-answer-line : tie.Need-slice-aggregate-answer-line
+slice-aggregate-answer-line : tie.Need-slice_bounds-answer_line-end
 slice-aggregate-answer-line c =
-    let st = entry c.before.before in
-    sym (length-take-le st.args.line st.args.held.now st.pre.1)
+    let st = c in
+    sym (length-take-le st.args.line st.args.held.now st.requires.1)
 
-answer-line-requires : tie.Need-answer-line-requires
+answer-line-requires : tie.Need-answer_line-requires
 answer-line-requires c κs = tt
 
-same_length : tie.Need-same-length
+same_length : tie.Need-shape_of-pool
 same_length c = search rules
 
-same-length-2 : tie.Need-same-length-2
+same-length-2 : tie.Need-shape_of-out
 same-length-2 c = search rules
 
-returns-2 : tie.Need-returns-2
+returns-2 : tie.Need-returns
 returns-2 c =
-    let l = c.before.before.before.before in
-    let t = l.before.before.before.before in
-    let st = entry t in
+    let l = c in
+    let t = c in
+    let st = c in
     let a = st.args in
-    let w = l.answer-line.ensures in
-    last_some (places a.pool.now) a.held.now a.line (omega (arith, t.if1.false)) st.pre.1 st.pre.0.out_room w.0 (w.1.1 (omega arith))
+    let w = l.answer_line.ensures in
+    last_some (places a.pool.now) a.held.now a.line (omega (arith, t.if-line-eq0.false)) st.requires.1 st.requires.0.out_room w.0 (w.1.1 (omega arith))
 
-pub answer-last-spec : {M : Type 1} → statement M
-answer-last-spec =
+pub answer_last_spec : {M : Type 1} → statement M
+answer_last_spec =
     tie.close
     (tie.spec returns slice-aggregate-answer-line answer-line-requires same_length same-length-2 returns-2)

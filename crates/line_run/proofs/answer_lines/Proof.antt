@@ -12,178 +12,157 @@ use Rattle.line_run.proofs.Running.{turn-ended, turn-open, some-taken}
 use Rattle.line_run.proofs.answer_lines.Statement.{statement}
 use Rattle.line_run.proofs.answer_lines.Tie as tie
 
-abbrev invariant-loop : tie.invariant-loop
-invariant-loop pool₀ held₀ line input from out₀ len₀ output₀ next₀ pool held out len output next =
+abbrev invariant-loop-next : tie.invariant-loop-next
+invariant-loop-next pool₀ held₀ line input from out₀ len₀ output₀ next₀ pool held out len output next =
     (len ≤ length held) × (output ≤ length out) × (length pool ≡ length pool₀) × (length held ≡ length held₀) × (length out ≡ length out₀)
     × (from ≤ next) × (next ≡ from → output ≡ 0)
     × ((rest : List ℕ) → take output out ++ answers (places pool₀) held len (drop next input ++ rest) ≡ answers (places pool₀) held₀ line (drop from input ++ rest))
 
-abbrev decreases-loop : tie.decreases-loop
-decreases-loop pool₀ held₀ line input from out₀ len₀ output₀ next₀ pool held out len output next = length input - next
+abbrev decreases-loop-next : tie.decreases-loop-next
+decreases-loop-next pool₀ held₀ line input from out₀ len₀ output₀ next₀ pool held out len output next = length input - next
 
 -- ---- places of the code: its entry, the loop's test, the turn's gathering, the answer to a line that ended
 
-abbrev entry : tie.At-loop invariant-loop decreases-loop → tie.Start invariant-loop decreases-loop
-entry l = l.before.before.before.before.before
-
-abbrev test : tie.After-gather invariant-loop decreases-loop → tie.In-loop invariant-loop decreases-loop
-test g = g.before.before.before
-
-abbrev top : tie.After-gather invariant-loop decreases-loop → tie.At-loop invariant-loop decreases-loop
-top g = (test g).before
-
-abbrev gathered : tie.Then2 invariant-loop decreases-loop → tie.After-gather invariant-loop decreases-loop
-gathered t = t.before.before.before
-
-abbrev left_open : tie.Else2 invariant-loop decreases-loop → tie.After-gather invariant-loop decreases-loop
-left_open e = e.before.before.before
-
-abbrev ended : tie.After-answer-line invariant-loop decreases-loop → tie.Then2 invariant-loop decreases-loop
-ended a = a.before.before.before.before
-
-abbrev answered : tie.After-slice-known6 invariant-loop decreases-loop → tie.After-answer-line invariant-loop decreases-loop
-answered c = c.before.before.before.before
-
 -- ---- what a turn gathers
 
-module _ (g : tie.After-gather invariant-loop decreases-loop) where
+module _ (g : tie.After-gather-g invariant-loop-next decreases-loop-next) where
   -- a byte is taken, and what is held has room
-  more : (top g).loop.next < g.gather.result.taken
-  more = taken_more (entry (top g)).args.input.now (test g).loop-test.true g.gather.ensures
+  more : (top g).loop-next.next < g.gather-g.result.taken
+  more = taken_more (entry (top g)).args.input.now (test g).loop-next-test.true g.gather-g.ensures
 
-  fits : g.gather.result.len ≤ length (top g).loop.held
-  fits = held_fits (top g).loop.inv.0 g.gather.ensures
+  fits : g.gather-g.result.len ≤ length (top g).loop-next.held
+  fits = held_fits (top g).loop-next.invariant.0 g.gather-g.ensures
 
-  holds-25 : 25 ≤ length (top g).loop.held
-  holds-25 = omega (arith, (entry (top g)).pre.0.held_room, (top g).loop.inv.3)
+  holds-25 : 25 ≤ length (top g).loop-next.held
+  holds-25 = omega (arith, (entry (top g)).requires.0.held_room, (top g).loop-next.invariant.3)
 
-loop-holds : tie.Need-loop-init invariant-loop decreases-loop
+loop-holds : tie.Need-loop-next-init invariant-loop-next decreases-loop-next
 loop-holds c =
-    let st = c.before.before.before.before in
+    let st = c in
     (st.requires.1, omega arith, refl, refl, refl, omega arith, λ e. refl, λ rest. refl)
 
-sub-if1 : tie.Need-overflow-sub-if1 invariant-loop decreases-loop
-sub-if1 c = omega (arith, c.before.loop.invariant.1)
+sub-if1 : tie.Need-overflow_sub-out invariant-loop-next decreases-loop-next
+sub-if1 c = omega (arith, c.loop-next.invariant.1)
 
-same_length : tie.Need-same-length invariant-loop decreases-loop
-same_length c = c.before.before.loop.invariant.2
+same_length : tie.Need-shape_of-pool-then-out-output-lt-ANSWER_ROOM invariant-loop-next decreases-loop-next
+same_length c = c.loop-next.invariant.2
 
-same-length-2 : tie.Need-same-length-2 invariant-loop decreases-loop
-same-length-2 c = c.before.before.loop.invariant.3
+same-length-2 : tie.Need-shape_of-held-then-out-output-lt-ANSWER_ROOM invariant-loop-next decreases-loop-next
+same-length-2 c = c.loop-next.invariant.3
 
-same-length-3 : tie.Need-same-length-3 invariant-loop decreases-loop
-same-length-3 c = c.before.before.loop.invariant.4
+same-length-3 : tie.Need-shape_of-out-then-out-output-lt-ANSWER_ROOM invariant-loop-next decreases-loop-next
+same-length-3 c = c.loop-next.invariant.4
 
 -- the output has no room for an answer
-returns : tie.Need-returns invariant-loop decreases-loop
+returns : tie.Need-returns-then-out-output-lt-ANSWER_ROOM invariant-loop-next decreases-loop-next
 returns c =
-    let l = c.before.before in
-    let i = l.loop.invariant in
+    let l = c in
+    let i = l.loop-next.invariant in
     record {
       same = i.7;
       line_fits = i.0;
       output_fits = i.1;
-      further = λ k. some-taken i.5 i.6 c.if1.true (omega (arith, (entry l).requires.0.out_room, i.4));
-      stops = λ k. omega (arith, c.if1.true, i.1);
+      further = λ k. some-taken i.5 i.6 c.if-out-output-lt-ANSWER_ROOM.true (omega (arith, l.requires.0.out_room, i.4));
+      stops = λ k. omega (arith, c.if-out-output-lt-ANSWER_ROOM.true, i.1);
     }
 
-gather-requires : tie.Need-gather-requires invariant-loop decreases-loop
+gather-requires : tie.Need-gather-g-requires invariant-loop-next decreases-loop-next
 gather-requires c κs = tt
 
-slice-reshare-prefix-answer-line : tie.Need-slice-reshare-prefix-answer-line invariant-loop decreases-loop
+slice-reshare-prefix-answer-line : tie.Need-slice_bounds-answer_line-end invariant-loop-next decreases-loop-next
 slice-reshare-prefix-answer-line c =
-    let g = gathered c.before in
-    omega (arith, fits g, g.gather.kept.0)
+    let g = c in
+    omega (arith, fits g, g.gather-g.kept.0)
 
-slice-aggregate-answer-line : tie.Need-slice-aggregate-answer-line invariant-loop decreases-loop
+slice-aggregate-answer-line : tie.Need-slice_bounds-answer_line-end-then-g invariant-loop-next decreases-loop-next
 slice-aggregate-answer-line c =
-    let g = gathered c.before.before in
-    sym (length-take-le _ _ (omega (arith, fits g, g.gather.kept.0)))
+    let g = c in
+    sym (length-take-le _ _ (omega (arith, fits g, g.gather-g.kept.0)))
 
-answer-line-requires : tie.Need-answer-line-requires invariant-loop decreases-loop
+answer-line-requires : tie.Need-answer_line-output-requires invariant-loop-next decreases-loop-next
 answer-line-requires c κs = tt
 
 -- a line ended
-loop-less : tie.Need-loop-smaller invariant-loop decreases-loop
+loop-less : tie.Need-loop-next-smaller-then-g invariant-loop-next decreases-loop-next
 loop-less c =
-    let g = gathered (ended (answered c)) in
-    omega (arith, more g, (test g).loop-test.taken)
+    let g = c in
+    omega (arith, more g, g.loop-test.taken)
 
-loop-again : tie.Need-loop-preserved invariant-loop decreases-loop
+loop-again : tie.Need-loop-next-preserved-then-g invariant-loop-next decreases-loop-next
 loop-again c =
-    let a = answered c in
-    let t = ended a in
-    let g = gathered t in
-    let l = top g in
-    let i = l.loop.inv in
-    let p = places l.loop.pool in
-    let same-places : p ≡ places (entry l).args.pool.now = ap places_in i.2 in
+    let a = c in
+    let t = c in
+    let g = c in
+    let l = c in
+    let i = l.loop-next.invariant in
+    let p = places l.loop-next.pool in
+    let same-places : p ≡ places l.args.pool.now = ap places_in i.2 in
     let turned =
-    turn-ended p l.loop.held (entry l).args.input.now l.loop.len l.loop.next g.gather.result _ (holds-25 g) g.gather.ensures
-    t.if2.taken i.1 (omega (arith, g.before.before.if1.left)) a.answer-line.ensures.0
+    turn-ended p l.loop-next.held l.args.input.now l.loop-next.len l.loop-next.next g.gather-g.result _ (holds-25 g) g.gather-g.ensures
+    t.if2.taken i.1 (omega (arith, g.if1.left)) a.answer_line-output.ensures.0
     in (
-      omega (arith, fits g, g.gather.kept.0),
-      a.answer-line.ensures.1.1 i.1,
-      a.answer-line.kept.0 ∙ i.2,
-      g.gather.kept.0 ∙ i.3,
-      a.answer-line.kept.1.1.0 ∙ i.4,
+      omega (arith, fits g, g.gather-g.kept.0),
+      a.answer_line-output.ensures.1.1 i.1,
+      a.answer_line-output.kept.0 ∙ i.2,
+      g.gather-g.kept.0 ∙ i.3,
+      a.answer_line-output.kept.1.1.0 ∙ i.4,
       omega (arith, i.5, more g),
       λ e. absurd (omega (arith, i.5, more g, e)),
       λ rest. rw (sym same-places) (turned rest) ∙ i.7 rest,
     )
 
 -- the piece ended first
-loop-less-2 : tie.Need-loop-smaller-2 invariant-loop decreases-loop
+loop-less-2 : tie.Need-loop-next-smaller invariant-loop-next decreases-loop-next
 loop-less-2 c =
-    let g = left_open c in
-    omega (arith, more g, (test g).loop-test.taken)
+    let g = c in
+    omega (arith, more g, g.loop-test.taken)
 
-loop-again-2 : tie.Need-loop-preserved-2 invariant-loop decreases-loop
+loop-again-2 : tie.Need-loop-next-preserved invariant-loop-next decreases-loop-next
 loop-again-2 c =
-    let g = left_open c in
-    let l = top g in
-    let i = l.loop.inv in
-    let p = places (entry l).args.pool.now in
+    let g = c in
+    let l = c in
+    let i = l.loop-next.invariant in
+    let p = places l.args.pool.now in
     let turned =
-    turn-open p l.loop.held (entry l).args.input.now l.loop.len l.loop.next g.gather.result _ (holds-25 g) g.gather.ensures c.if2.false
+    turn-open p l.loop-next.held l.args.input.now l.loop-next.len l.loop-next.next g.gather-g.result _ (holds-25 g) g.gather-g.ensures c.if-g.false
     in (
-      omega (arith, fits g, g.gather.kept.0),
+      omega (arith, fits g, g.gather-g.kept.0),
       i.1,
       i.2,
-      g.gather.kept.0 ∙ i.3,
+      g.gather-g.kept.0 ∙ i.3,
       i.4,
       omega (arith, i.5, more g),
       λ e. absurd (omega (arith, i.5, more g, e)),
-      λ rest. ap (λ (z : List ℕ). take l.loop.output l.loop.out ++ z) (turned rest) ∙ i.7 rest,
+      λ rest. ap (λ (z : List ℕ). take l.loop-next.output l.loop-next.out ++ z) (turned rest) ∙ i.7 rest,
     )
 
-same-length-4 : tie.Need-same-length-4 invariant-loop decreases-loop
-same-length-4 c = c.before.loop.invariant.2
+same-length-4 : tie.Need-shape_of-pool invariant-loop-next decreases-loop-next
+same-length-4 c = c.loop-next.invariant.2
 
-same-length-5 : tie.Need-same-length-5 invariant-loop decreases-loop
-same-length-5 c = c.before.loop.invariant.3
+same-length-5 : tie.Need-shape_of-held invariant-loop-next decreases-loop-next
+same-length-5 c = c.loop-next.invariant.3
 
-same-length-6 : tie.Need-same-length-6 invariant-loop decreases-loop
-same-length-6 c = c.before.loop.invariant.4
+same-length-6 : tie.Need-shape_of-out invariant-loop-next decreases-loop-next
+same-length-6 c = c.loop-next.invariant.4
 
 -- the whole piece is taken
-returns-2 : tie.Need-returns-2 invariant-loop decreases-loop
+returns-2 : tie.Need-returns invariant-loop-next decreases-loop-next
 returns-2 c =
-    let i = c.before.loop.invariant in
+    let i = c.loop-next.invariant in
     record {
       same = i.7;
       line_fits = i.0;
       output_fits = i.1;
-      further = λ k. omega (arith, c.loop-test.false);
-      stops = λ k. absurd (omega (arith, c.loop-test.false));
+      further = λ k. omega (arith, c.loop-next-test.false);
+      stops = λ k. absurd (omega (arith, c.loop-next-test.false));
     }
 
-pub answer-lines-spec : {M : Type 1} → statement M
-answer-lines-spec =
+pub answer_lines_spec : {M : Type 1} → statement M
+answer_lines_spec =
     tie.close
     (tie.spec
-    invariant-loop
-    decreases-loop
+    invariant-loop-next
+    decreases-loop-next
     loop-holds
     sub-if1
     same_length

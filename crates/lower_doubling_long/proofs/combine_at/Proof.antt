@@ -8,54 +8,51 @@ use borrow.Author.Rules.{rules}
 use Rattle.lower_doubling_long.proofs.combine_at.Statement.{statement}
 use Rattle.lower_doubling_long.proofs.combine_at.Tie as tie
 
-abbrev entry : tie.After-combine → tie.Start
-entry c = c.before.before.before
-
-enum_told : tie.Need-enum-told
+enum_told : tie.Need-enum_told-1
 enum_told c = search rules
 
-enum-known-combine : tie.Need-enum-known-combine
+enum-known-combine : tie.Need-enum_known-combine
 enum-known-combine c = search rules
 
-add_wide : tie.Need-overflow-add-wide
+add_wide : tie.Need-overflow_add-wide
 add_wide c = search rules
 
-extract-lane-requires : tie.Need-extract-lane-requires
+extract-lane-requires : tie.Need-extract_lane-prior-requires
 extract-lane-requires c κs =
-    let k = c.before.before in
-    let s = entry k in
+    let k = c in
+    let s = c in
     omega (
       arith,
-      s.pre,
-      s.pre.1.0.1 (ap accumulates k.combine.given.1),
-      lane-fits s.args.lane-bits s.args.index.0 s.args.lanes s.pre.1.1.2 s.pre.1.1.3,
+      s.requires,
+      s.requires.1.0.1 (ap accumulates k.combine-1.given.1),
+      lane-fits s.args.lane_bits s.args.index.0 s.args.lanes s.requires.1.1.2 s.requires.1.1.3,
     )
 
-join-requires : tie.Need-join-requires
+join-requires : tie.Need-join-sum-requires
 join-requires c κs = search rules
 
 clamp-requires : tie.Need-clamp-requires
 clamp-requires c κs = search rules
 
-returns : tie.Need-returns
+returns : tie.Need-returns-in-Nothing
 returns c =
-    let s = c.before.before.before in
-    combined-nothing s.args.lane-bits s.args.lanes s.args.index.0 c.enum_told.given.1 s.requires.1.0.0 refl refl
+    let s = c in
+    combined-nothing s.args.lane_bits s.args.lanes s.args.index.0 c.enum_told-1.given.1 s.requires.1.0.0 refl refl
 
-same_length : tie.Need-same-length
+same_length : tie.Need-shape_of-pool
 same_length c = search rules
 
-returns-2 : tie.Need-returns-2
+returns-2 : tie.Need-returns-in-With
 returns-2 c =
-    let clamp = c.before.before in
-    let sum = clamp.before.before.before.before in
-    let prior = sum.before.before.before.before in
-    let k = prior.before.before.before in
-    let p = (entry k).requires.1.1 in
-    combined-with p.0 p.2 k.combine.given.1 prior.extract-lane.ensures sum.join.ensures clamp.clamp.ensures
+    let clamp = c in
+    let sum = c in
+    let prior = c in
+    let k = c in
+    let p = k.requires.1.1 in
+    combined-with p.0 p.2 k.combine-1.given.1 prior.extract_lane-prior.ensures sum.join-sum.ensures clamp.clamp.ensures
 
-pub combine-at-spec : {M : Type 1} → statement M
-combine-at-spec =
+pub combine_at_spec : {M : Type 1} → statement M
+combine_at_spec =
     tie.close
     (tie.spec
     enum_told

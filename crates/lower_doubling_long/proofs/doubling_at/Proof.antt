@@ -9,78 +9,66 @@ use Rattle.lower_doubling_long.proofs.doubling_at.Tie as tie
 
 -- ---- places: the entry, and the factors, from their product
 
-abbrev entry : tie.After-source-lane → tie.Start
-entry c = c.before.before
-
-abbrev source : tie.After-extract-lane → tie.After-source-lane
-source a = a.before.before
-
-abbrev first : tie.After-second-lane → tie.After-extract-lane
-first b = b.before.before.before.before
-
-abbrev second : tie.After-doubling-product → tie.After-second-lane
-second x = x.before.before.before.before
-
 -- the lane that is multiplied ends within the register
-fits : (c : tie.After-source-lane) → let n = (entry c).args.lane-bits / 2 in n * c.source-lane.result.0 + n ≤ 128
+fits : (c : tie.After-source_lane-from) → let n = c.args.lane_bits / 2 in n * c.source_lane-from.result.0 + n ≤ 128
 fits c =
-    let a = (entry c).args in
-    let p = (entry c).requires.1.1 in
+    let a = c.args in
+    let p = c.requires.1.1 in
     omega (
       arith,
-      factor-fits a.upper a.lane-bits a.lanes p.2 c.source-lane.ensures,
+      factor-fits a.upper a.lane-bits a.lanes p.2 c.source_lane-from.ensures,
       factor-most a.upper a.lane-bits a.lanes p.3,
     )
 
 -- ---- needs
 
-source-lane-requires : tie.Need-source-lane-requires
+source-lane-requires : tie.Need-source_lane-from-requires
 source-lane-requires c κs =
-    let s = c.before in
-    (s.requires.1.1.2, lanes-most s.args.lane-bits s.args.lanes s.requires.1.1.0 s.requires.1.1.3)
+    let s = c in
+    (s.requires.1.1.2, lanes-most s.args.lane_bits s.args.lanes s.requires.1.1.0 s.requires.1.1.3)
 
-extract-lane-requires : tie.Need-extract-lane-requires
-extract-lane-requires c κs = omega (arith, (entry c.before).requires, fits c.before)
+extract-lane-requires : tie.Need-extract_lane-a-requires
+extract-lane-requires c κs = omega (arith, c.requires, fits c.before)
 
-second-lane-requires : tie.Need-second-lane-requires
+second-lane-requires : tie.Need-second_lane-b-requires
 second-lane-requires c κs =
-    let a = c.before.before.before in
-    omega (arith, (entry (source a)).requires, a.extract-lane.ensures.sized, fits (source a))
+    let a = c in
+    omega (arith, a.requires, a.extract_lane-a.ensures.sized, fits c.before.before.before.before.before)
 
-doubling-product-requires : tie.Need-doubling-product-requires
+doubling-product-requires : tie.Need-doubling_product-product-requires
 doubling-product-requires c κs = search rules
 
-combine-at-requires : tie.Need-combine-at-requires
+combine-at-requires : tie.Need-combine_at-requires
 combine-at-requires c κs =
-    let x = c.before.before.before in
-    let b = second x in
-    let a = first b in
-    let s = entry (source a) in
-    let more : s.args.count ≤ x.doubling-product.result.count
-    = omega (arith, a.extract-lane.ensures.sized, b.second_lane.ensures.sized, x.doubling-product.ensures.sized) in (
-      omega (arith, s.pre, a.extract-lane.ensures.sized, b.second_lane.ensures.sized, x.doubling-product.ensures.sized),
+    let x = c in
+    let b = c in
+    let a = c in
+    let s = c in
+    let more : s.args.count ≤ x.doubling_product-product.result.count
+    = omega (arith, a.extract_lane-a.ensures.sized, b.second_lane-b.ensures.sized, x.doubling_product-product.ensures.sized) in (
+      omega (arith, s.requires, a.extract_lane-a.ensures.sized, b.second_lane-b.ensures.sized, x.doubling_product-product.ensures.sized),
       (
-        (x.doubling-product.ensures.sized.under, λ u. lt_of_lt_of_le (s.pre.1.0.2 u) more),
-        omega (arith, s.pre),
+        (x.doubling_product-product.ensures.sized.under, λ u. lt_of_lt_of_le (s.requires.1.0.2 u) more),
+        omega (arith, s.requires),
       ),
     )
 
-same_length : tie.Need-same-length
+same_length : tie.Need-shape_of-pool
 same_length c = search rules
 
 returns : tie.Need-returns
 returns c =
-    let l = c.before.before in
-    let x = l.before.before.before.before in
-    let b = second x in
-    let a = first b in
-    let f = source a in
-    let s = entry f in
-    doubled-lane s.args.combine s.args.upper s.args.second s.pre.1.1.2 f.source-lane.ensures a.extract-lane.ensures
-    b.second_lane.ensures x.doubling-product.ensures l.combine-at.ensures
+    let l = c in
+    let x = c in
+    let b = c in
+    let a = c in
+    let f = c in
+    let s = c in
+    doubled-lane s.args.combine s.args.upper s.args.second s.requires.1.1.2 f.source_lane-from.ensures a.extract_lane-a.ensures
+    b.second_lane-b.ensures x.doubling_product-product.ensures l.combine_at.ensures
 
-pub doubling-at-spec : {M : Type 1} → statement M
-doubling-at-spec =
+pub doubling_at_spec : {M : Type 1} → statement M
+doubling_at_spec =
     tie.close
     (tie.spec
     source-lane-requires

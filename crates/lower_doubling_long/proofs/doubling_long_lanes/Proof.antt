@@ -9,52 +9,46 @@ use Rattle.lower_doubling_long.proofs.doubling_long_lanes.Tie as tie
 
 -- ---- places: the entry, where the second source is one element
 
-abbrev entry : tie.Then1 → tie.Start
-entry i = i.before.before
-
-abbrev element : tie.After-extract-lane → tie.Then1
-element l = l.before.before
-
 -- ---- needs
 
-extract-lane-requires : tie.Need-extract-lane-requires
+extract-lane-requires : tie.Need-extract_lane-one-requires
 extract-lane-requires c κs = search rules
 
-doubled-lanes-requires : tie.Need-doubled-lanes-requires
+doubled-lanes-requires : tie.Need-doubled_lanes-requires
 doubled-lanes-requires c κs =
-    let l = c.before.before.before.before in
-    let p = (entry (element l)).requires in
-    let n = l.extract-lane.ensures.sized in (
+    let l = c in
+    let p = l.requires in
+    let n = l.extract_lane-one.ensures.sized in (
       omega (arith, p, n),
       ((omega (arith, p, n), omega (arith, n), λ u. lt_of_lt_of_le (p.1.0.2 u) n.more), omega (arith, p)),
     )
 
-same_length : tie.Need-same-length
+same_length : tie.Need-shape_of-pool-then-by_element
 same_length c = search rules
 
-returns : tie.Need-returns
+returns : tie.Need-returns-then-by_element
 returns c =
-    let made = c.before.before in
-    let l = made.before.before.before.before.before in
-    let s = entry (element l) in
-    by-element s.args.lane-bits s.args.lanes s.args.element.0 s.args.combine s.args.upper s.args.by-element s.pre.1.1.4 (element l).if1.true
-    l.extract-lane.ensures made.doubled-lanes.ensures
+    let made = c in
+    let l = c in
+    let s = c in
+    by-element s.args.lane_bits s.args.lanes s.args.element.0 s.args.combine s.args.upper s.args.by_element s.requires.1.1.4 l.if-by_element.true
+    l.extract_lane-one.ensures made.doubled_lanes.ensures
 
-doubled-lanes-requires-2 : tie.Need-doubled-lanes-requires-2
+doubled-lanes-requires-2 : tie.Need-doubled_lanes-requires-2
 doubled-lanes-requires-2 c κs = search rules
 
-same-length-2 : tie.Need-same-length-2
+same-length-2 : tie.Need-shape_of-pool
 same-length-2 c = search rules
 
-returns-2 : tie.Need-returns-2
+returns-2 : tie.Need-returns
 returns-2 c =
-    let l = c.before.before in
-    let lanes = l.before.before in
-    let a = lanes.before.before.args in
-    by-lane a.lane-bits a.lanes a.element.0 a.combine a.upper a.by-element lanes.if1.false l.doubled-lanes2.ensures
+    let l = c in
+    let lanes = c in
+    let a = lanes.args in
+    by-lane a.lane-bits a.lanes a.element.0 a.combine a.upper a.by-element lanes.if-by_element.false l.doubled_lanes-2.ensures
 
-pub doubling-long-lanes-spec : {M : Type 1} → statement M
-doubling-long-lanes-spec =
+pub doubling_long_lanes_spec : {M : Type 1} → statement M
+doubling_long_lanes_spec =
     tie.close
     (tie.spec
     extract-lane-requires

@@ -4,24 +4,24 @@ use borrow.Author.Rules.{rules}
 use Rattle.lower_doubling_long.proofs.doubling_product.Statement.{statement}
 use Rattle.lower_doubling_long.proofs.doubling_product.Tie as tie
 
-add_wide : tie.Need-overflow-add-wide
+add_wide : tie.Need-overflow_add-wide
 add_wide c = search rules
 
-double-requires : tie.Need-double-requires
+double-requires : tie.Need-double-doubled-requires
 double-requires c κs = search rules
 
 clamp-requires : tie.Need-clamp-requires
 clamp-requires c κs = search rules
 
-same_length : tie.Need-same-length
+same_length : tie.Need-shape_of-pool
 same_length c = search rules
 
 returns : tie.Need-returns
 returns c =
-    let l-clamp = c.before.before in
-    let l-double = l-clamp.before.before.before.before in
-    let st = l-double.before.before.before in
-    product-made st.args.lane-bits l-double.double.ensures l-clamp.clamp.ensures
+    let l-clamp = c in
+    let l-double = c in
+    let st = c in
+    product-made st.args.lane_bits l-double.double-doubled.ensures l-clamp.clamp.ensures
 
-pub doubling-product-spec : {M : Type 1} → statement M
-doubling-product-spec = tie.close (tie.spec add_wide double-requires clamp-requires same_length returns)
+pub doubling_product_spec : {M : Type 1} → statement M
+doubling_product_spec = tie.close (tie.spec add_wide double-requires clamp-requires same_length returns)

@@ -7,35 +7,35 @@ use borrow.Author.Rules.{rules}
 use Rattle.lower_doubling_long.proofs.second_lane.Statement.{statement}
 use Rattle.lower_doubling_long.proofs.second_lane.Tie as tie
 
-enum-known-second : tie.Need-enum-known-second
+enum-known-second : tie.Need-enum_known-second
 enum-known-second c = search rules
 
-enum-known-second-2 : tie.Need-enum-known-second-2
+enum-known-second-2 : tie.Need-enum_known-second-in-PerLane-1
 enum-known-second-2 c = search rules
 
-extract-lane-requires : tie.Need-extract-lane-requires
+extract-lane-requires : tie.Need-extract_lane-requires
 extract-lane-requires c κs =
-    let l-second2 = c.before.before in
-    let st = l-second2.before.before.before in
-    omega (arith, st.requires, rw l-second2.second2.given.1 at st.requires.1.0)
+    let l-second2 = c in
+    let st = c in
+    omega (arith, st.requires, rw l-second2.second-in-PerLane-1.given.1 at st.requires.1.0)
 
-returns : tie.Need-returns
+returns : tie.Need-returns-in-One
 returns c =
-    let l-second = c.before in
-    let st = l-second.before.before.before in
-    element-one st.args.bits st.args.index.0 l-second.second.given.1 (rw l-second.second.given.1 at st.requires.1.0) refl refl
+    let l-second = c in
+    let st = c in
+    element-one st.args.bits st.args.index.0 l-second.second-1.given.1 (rw l-second.second-1.given.1 at st.requires.1.0) refl refl
 
-same_length : tie.Need-same-length
+same_length : tie.Need-shape_of-pool
 same_length c = search rules
 
-returns-2 : tie.Need-returns-2
+returns-2 : tie.Need-returns-in-PerLane
 returns-2 c =
-    let l-extract-lane = c.before.before in
-    let l-second2 = l-extract-lane.before.before.before in
-    element-lane l-second2.second2.given.1 l-extract-lane.extract-lane.ensures
+    let l-extract-lane = c in
+    let l-second2 = c in
+    element-lane l-second2.second-in-PerLane-1.given.1 l-extract-lane.extract_lane.ensures
 
-pub second-lane-spec : {M : Type 1} → statement M
-second-lane-spec =
+pub second_lane_spec : {M : Type 1} → statement M
+second_lane_spec =
     tie.close
     (tie.spec
     enum-known-second

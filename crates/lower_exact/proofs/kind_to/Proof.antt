@@ -4,44 +4,44 @@ use borrow.Author.Rules.{rules}
 use Rattle.lower_exact.proofs.kind_to.Statement.{statement}
 use Rattle.lower_exact.proofs.kind_to.Tie as tie
 
-enum-known-kind : tie.Need-enum-known-kind
+enum-known-kind : tie.Need-enum_known-kind
 enum-known-kind c = search rules
 
-enum_told : tie.Need-enum-told
+enum_told : tie.Need-enum_told-1
 enum_told c = search rules
 
-enum-known-kind-2 : tie.Need-enum-known-kind-2
+enum-known-kind-2 : tie.Need-enum_known-kind-in-Narrow-1
 enum-known-kind-2 c = search rules
 
-enum-known-kind-3 : tie.Need-enum-known-kind-3
+enum-known-kind-3 : tie.Need-enum_known-kind-in-ShiftNarrow-1
 enum-known-kind-3 c = search rules
 
-enum-told-2 : tie.Need-enum-told-2
+enum-told-2 : tie.Need-enum_told-in-Unary
 enum-told-2 c = search rules
 
-enum-told-3 : tie.Need-enum-told-3
+enum-told-3 : tie.Need-enum_told-in-DoublingMultiplyHigh
 enum-told-3 c = search rules
 
-returns : tie.Need-returns
-returns c = rw c.before.kind.given.1 refl
+returns : tie.Need-returns-in-AddSub
+returns c = rw c.kind-1.given.1 refl
 
-returns-2 : tie.Need-returns-2
+returns-2 : tie.Need-returns-in-Halving
 returns-2 c = search rules
 
-returns-3 : tie.Need-returns-3
-returns-3 c = rw c.before.kind2.given.1 refl
+returns-3 : tie.Need-returns-in-Narrow
+returns-3 c = rw c.kind-in-Narrow-1.given.1 refl
 
-returns-4 : tie.Need-returns-4
+returns-4 : tie.Need-returns-in-ShiftNarrow
 returns-4 c = search rules
 
-returns-5 : tie.Need-returns-5
-returns-5 c = rw c.enum-told2.given.1 refl
+returns-5 : tie.Need-returns-in-Unary
+returns-5 c = rw c.enum_told-in-Unary-1.given.1 refl
 
-returns-6 : tie.Need-returns-6
-returns-6 c = rw c.enum-told3.given.1 refl
+returns-6 : tie.Need-returns-in-DoublingMultiplyHigh
+returns-6 c = rw c.enum_told-in-DoublingMultiplyHigh-1.given.1 refl
 
-pub kind-to-spec : {M : Type 1} → statement M
-kind-to-spec =
+pub kind_to_spec : {M : Type 1} → statement M
+kind_to_spec =
     tie.close
     (tie.spec
     enum-known-kind

@@ -8,33 +8,33 @@ use borrow.Author.Rules.{rules}
 use Rattle.lower_high_narrow.proofs.high_narrow_lanes.Statement.{statement}
 use Rattle.lower_high_narrow.proofs.high_narrow_lanes.Tie as tie
 
-narrowed-lanes-requires : tie.Need-narrowed-lanes-requires
+narrowed-lanes-requires : tie.Need-narrowed_lanes-new-requires
 narrowed-lanes-requires c κs = search rules
 
-keep-lower-requires : tie.Need-keep-lower-requires
+keep-lower-requires : tie.Need-keep_lower-requires
 keep-lower-requires c κs =
-    let l-narrowed-lanes = c.before.before.before in
-    let st = l-narrowed-lanes.before.before.before in (
-      omega (arith, st.requires, l-narrowed-lanes.narrowed-lanes.ensures.sized),
+    let l-narrowed-lanes = c in
+    let st = c in (
+      omega (arith, st.requires, l-narrowed-lanes.narrowed_lanes-new.ensures.sized),
       (
-        omega (arith, l-narrowed-lanes.narrowed-lanes.ensures.sized),
-        λ u. lt_of_lt_of_le (st.requires.1.0.2 u) (omega (arith, l-narrowed-lanes.narrowed-lanes.ensures.sized)),
+        omega (arith, l-narrowed-lanes.narrowed_lanes-new.ensures.sized),
+        λ u. lt_of_lt_of_le (st.requires.1.0.2 u) (omega (arith, l-narrowed-lanes.narrowed_lanes-new.ensures.sized)),
         one-le-mul (omega (arith, st.requires)) st.requires.1.1.2,
         omega (arith, st.requires),
       ),
     )
 
-same_length : tie.Need-same-length
+same_length : tie.Need-shape_of-pool
 same_length c = search rules
 
 returns : tie.Need-returns
 unfolding Width.high_narrow_lanes
 returns c =
-    let l-keep-lower = c.before.before in
-    let l-narrowed-lanes = l-keep-lower.before.before.before.before in
-    let st = l-narrowed-lanes.before.before.before in
-    kept-below st.args.upper st.args.lane-bits st.args.lanes l-narrowed-lanes.narrowed-lanes.ensures l-keep-lower.keep-lower.ensures
+    let l-keep-lower = c in
+    let l-narrowed-lanes = c in
+    let st = c in
+    kept-below st.args.upper st.args.lane_bits st.args.lanes l-narrowed-lanes.narrowed_lanes-new.ensures l-keep-lower.keep_lower.ensures
 
-pub high-narrow-lanes-spec : {M : Type 1} → statement M
-high-narrow-lanes-spec =
+pub high_narrow_lanes_spec : {M : Type 1} → statement M
+high_narrow_lanes_spec =
     tie.close (tie.spec narrowed-lanes-requires keep-lower-requires same_length returns)

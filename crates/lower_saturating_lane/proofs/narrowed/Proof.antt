@@ -4,42 +4,42 @@ use borrow.Author.Rules.{rules}
 use Rattle.lower_saturating_lane.proofs.narrowed.Statement.{statement}
 use Rattle.lower_saturating_lane.proofs.narrowed.Tie as tie
 
-enum_told : tie.Need-enum-told
+enum_told : tie.Need-enum_told-1
 enum_told c = search rules
 
-sub-t11 : tie.Need-overflow-sub-t11
+sub-t11 : tie.Need-overflow_sub-lane_bits
 sub-t11 c = search rules
 
 extract-requires : tie.Need-extract-requires
 extract-requires c κs = search rules
 
-enum-known-to : tie.Need-enum-known-to
+enum-known-to : tie.Need-enum_known-to
 enum-known-to c = search rules
 
 clamp-requires : tie.Need-clamp-requires
 clamp-requires c κs = search rules
 
-same_length : tie.Need-same-length
+same_length : tie.Need-shape_of-pool-in-Never
 same_length c = search rules
 
-returns : tie.Need-returns
+returns : tie.Need-returns-in-Never
 returns c =
-    let l-extract = c.before.before in
-    let l-enum-told = l-extract.before.before in
-    let st = l-enum-told.before.before.before in
-    narrowed-never st.requires.1.1 st.requires.1.3 l-enum-told.enum_told.given.1 l-extract.extract.ensures
+    let l-extract = c in
+    let l-enum-told = c in
+    let st = c in
+    narrowed-never st.requires.1.1 st.requires.1.3 l-enum-told.enum_told-1.given.1 l-extract.extract.ensures
 
-same-length-2 : tie.Need-same-length-2
+same-length-2 : tie.Need-shape_of-pool-in-Into
 same-length-2 c = search rules
 
-returns-2 : tie.Need-returns-2
+returns-2 : tie.Need-returns-in-Into
 returns-2 c =
-    let l-clamp = c.before.before in
-    let l-to = l-clamp.before.before.before in
-    narrowed-into l-to.to.given.1 l-clamp.clamp.ensures
+    let l-clamp = c in
+    let l-to = c in
+    narrowed-into l-to.to-1.given.1 l-clamp.clamp.ensures
 
-pub narrowed-spec : {M : Type 1} → statement M
-narrowed-spec =
+pub narrowed_spec : {M : Type 1} → statement M
+narrowed_spec =
     tie.close
     (tie.spec
     enum_told

@@ -5,47 +5,44 @@ use borrow.Author.Rules.{rules}
 use Rattle.lower_shift.proofs.signed_amount.Statement.{statement}
 use Rattle.lower_shift.proofs.signed_amount.Tie as tie
 
-abbrev entry : tie.Then1 → tie.Start
-entry i = i.before.before
+mul-lo : tie.Need-overflow_mul-lo
+mul-lo c = omega (arith, c.requires)
 
-mul-lo : tie.Need-overflow-mul-lo
-mul-lo c = omega (arith, (entry c.before).requires)
+add-t11 : tie.Need-overflow_add-lo
+add-t11 c = omega (arith, c.requires)
 
-add-t11 : tie.Need-overflow-add-t11
-add-t11 c = omega (arith, (entry c.before.before).requires)
-
-extract-collapsing-requires : tie.Need-extract-collapsing-requires
+extract-collapsing-requires : tie.Need-extract_collapsing-byte-requires
 extract-collapsing-requires c κs =
-    let i = c.before.before in
-    let p = (entry i).requires in
-    (omega (arith, p.0), (p.1.0, omega arith, omega (arith, p.1, i.if1.true)))
+    let i = c in
+    let p = i.requires in
+    (omega (arith, p.0), (p.1.0, omega arith, omega (arith, p.1, i.if-lane_bits-gt8.true)))
 
-sign-ext-requires : tie.Need-sign-ext-requires
+sign-ext-requires : tie.Need-sign_ext-requires
 sign-ext-requires c κs = search rules
 
-same_length : tie.Need-same-length
+same_length : tie.Need-shape_of-pool-then-lane_bits-gt8
 same_length c = search rules
 
-returns : tie.Need-returns
+returns : tie.Need-returns-then-lane_bits-gt8
 returns c =
-    let e = c.before.before in
-    let x = e.before.before.before.before in
-    let i = x.before.before.before in
-    amount-byte i.if1.true (entry i).requires.1.2 x.extract-collapsing.ensures e.sign-ext.ensures
+    let e = c in
+    let x = c in
+    let i = c in
+    amount-byte i.if-lane_bits-gt8.true i.requires.1.2 x.extract_collapsing-byte.ensures e.sign_ext.ensures
 
-extract-lane-requires : tie.Need-extract-lane-requires
+extract-lane-requires : tie.Need-extract_lane-requires
 extract-lane-requires c κs = search rules
 
-same-length-2 : tie.Need-same-length-2
+same-length-2 : tie.Need-shape_of-pool
 same-length-2 c = search rules
 
-returns-2 : tie.Need-returns-2
+returns-2 : tie.Need-returns
 returns-2 c =
-    let x = c.before.before in
-    amount-whole x.before.before.if1.false x.extract-lane.ensures
+    let x = c in
+    amount-whole x.if-lane_bits-gt8.false x.extract_lane.ensures
 
-pub signed-amount-spec : {M : Type 1} → statement M
-signed-amount-spec =
+pub signed_amount_spec : {M : Type 1} → statement M
+signed_amount_spec =
     tie.close
     (tie.spec
     mul-lo

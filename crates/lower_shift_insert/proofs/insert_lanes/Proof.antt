@@ -8,30 +8,35 @@ use Rattle.trees.specs.Trees.{insert_at}
 use Rattle.lower_shift_insert.proofs.insert_lanes.Statement.{statement}
 use Rattle.lower_shift_insert.proofs.insert_lanes.Tie as tie
 
-abbrev invariant-loop : tie.invariant-loop
-invariant-loop pool₀ count left kept amount first d lane-bits lanes acc₀ i₀ pool acc i =
+abbrev invariant-loop-i : tie.invariant-loop-i
+invariant-loop-i pool₀ count left kept amount first d lane-bits lanes acc₀ i₀ pool acc i =
     Turning count 7 lane-bits lanes (read d (lane-bits * lanes)) (read first (lane-bits * lanes)) (read amount lane-bits)
     (insert_at left kept lane-bits) (amount.0 ∷ []) pool₀ acc₀ pool acc i
 
-abbrev decreases-loop : tie.decreases-loop
-decreases-loop pool₀ count left kept amount first d lane-bits lanes acc₀ i₀ pool acc i = lanes - i
+abbrev decreases-loop-i : tie.decreases-loop-i
+decreases-loop-i pool₀ count left kept amount first d lane-bits lanes acc₀ i₀ pool acc i = lanes - i
 
-now : (c : tie.At-loop invariant-loop decreases-loop) → SoFar c.loop.invariant c.before.before.before.before.before.before.before.args.pool.now
-now c = let l = c.before.before.before in let p = l.before.before.before.before.requires in
-    so_far c.loop.invariant p.0 p.1.1.0 p.1.1.3 l.before.first.ensures (omega arith) l.insert-at.ensures
+now : (c : tie.At-loop-i invariant-loop-i decreases-loop-i) → SoFar c.loop-i.invariant c.args.pool.now
+now c = let l = c in let p = l.requires in
+    so_far c.loop-i.invariant p.0 p.1.1.0 p.1.1.3 l.first.ensures (omega arith) l.insert_at-acc.ensures
 
-pub insert-lanes-spec : {M : Type 1} → statement M
-insert-lanes-spec =
-    tie.close (tie.spec invariant-loop decreases-loop (λ c κs. tt)
-    (λ c κs. let p = c.before.before.before.requires in let w = p.1.1 in
+pub insert_lanes_spec : {M : Type 1} → statement M
+insert_lanes_spec =
+    tie.close (tie.spec
+    invariant-loop-i
+    decreases-loop-i
+    (λ c κs. tt)
+    (λ c κs. let p = c.requires in let w = p.1.1 in
     (first-asks p.0 (omega arith) w.2, (p.1.0, (w.0, w.1, omega (arith, c.first.ensures, w.2), w.3))))
-    (λ c. begun c.before.before.before.before.before.before.requires.1.1.2)
-    (λ c κs. let t = c.before in let p = t.before.before.before.before.before.before.before.before.requires in let w = p.1.1 in
-    let (room, still) = lane-asks (now t.before) (omega arith) t.loop-test.true in
-    (room, ((still _ p.1.0.0, still _ p.1.0.1, still _ p.1.0.2, p.1.0.3), (w.0, w.1, t.loop-test.true, w.3))))
-    (λ c κs. let l = c.before.before.before in let t = l.before.before in
-    concat-asks (now t.before) (omega arith) t.loop-test.true l.insert-at2.ensures)
-    (λ c. omega (arith, (now c.before.before.before.before.before.before.before.before.before).most)) (λ c. omega arith)
-    (λ c. let j = c.before.before in let l = j.before.before.before.before in let t = l.before.before in
-    again (now t.before) (omega arith) t.loop-test.true l.insert-at2.ensures j.concat-lanes.ensures)
-    (λ c. (now c.before).made.sized.long) (λ c. whole (now c.before) c.loop-test.false))
+    (λ c. begun c.requires.1.1.2)
+    (λ c κs. let t = c in let p = t.requires in let w = p.1.1 in
+    let (room, still) = lane-asks (now c.before.before) (omega arith) t.loop-i-test.true in
+    (room, ((still _ p.1.0.0, still _ p.1.0.1, still _ p.1.0.2, p.1.0.3), (w.0, w.1, t.loop-i-test.true, w.3))))
+    (λ c κs. let l = c in let t = c in
+    concat-asks (now c.before.before.before.before.before.before.before.before) (omega arith) t.loop-i-test.true l.insert_at-lane.ensures)
+    (λ c. omega (arith, (now c.before.before.before.before.before.before.before.before.before.before.before).most))
+    (λ c. omega arith)
+    (λ c. let j = c in let l = c in let t = c in
+    again (now c.before.before.before.before.before.before.before.before.before.before.before) (omega arith) t.loop-i-test.true l.insert_at-lane.ensures j.concat_lanes-acc.ensures)
+    (λ c. (now c.before).made.sized.long)
+    (λ c. whole (now c.before) c.loop-i-test.false))

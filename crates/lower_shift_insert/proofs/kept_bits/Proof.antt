@@ -5,38 +5,35 @@ use Rattle.lower_shift_insert.proofs.kept_bits.Statement.{statement}
 use Rattle.lower_shift_insert.proofs.kept_bits.Tie as tie
 
 -- a right shift's entry
-abbrev entry : tie.After-low-bits2 → tie.Start
-entry c = c.before.before.before
-
-low-bits-requires : tie.Need-low-bits-requires
+low-bits-requires : tie.Need-low_bits-requires
 low-bits-requires c κs = search rules
 
-returns : tie.Need-returns
+returns : tie.Need-returns-then-left
 returns c =
-    let a = c.before.before.args in
-    kept-left a.lane-bits a.shift c.before.if1.true c.low_bits.ensures
+    let a = c.args in
+    kept-left a.lane-bits a.shift c.if-left.true c.low_bits.ensures
 
-unsigned-max-requires : tie.Need-unsigned-max-requires
+unsigned-max-requires : tie.Need-unsigned_max-requires
 unsigned-max-requires c κs = search rules
 
-sub-low-bits : tie.Need-overflow-sub-low-bits
+sub-low-bits : tie.Need-overflow_sub-lane_bits
 sub-low-bits c = search rules
 
-low-bits-requires-2 : tie.Need-low-bits-requires-2
+low-bits-requires-2 : tie.Need-low_bits-requires-2
 low-bits-requires-2 c κs = search rules
 
-sub-result : tie.Need-overflow-sub-result
+sub-result : tie.Need-overflow_sub-result
 sub-result c =
-    let a = (entry c).args in
-    low-le a.lane-bits a.shift c.before.unsigned-max.ensures c.low-bits2.ensures
+    let a = c.args in
+    low-le a.lane-bits a.shift c.unsigned_max.ensures c.low_bits-2.ensures
 
-returns-2 : tie.Need-returns-2
+returns-2 : tie.Need-returns
 returns-2 c =
-    let a = (entry c).args in
-    kept-right a.lane-bits a.shift c.before.before.if1.false c.before.unsigned-max.ensures c.low-bits2.ensures
+    let a = c.args in
+    kept-right a.lane-bits a.shift c.if-left.false c.unsigned_max.ensures c.low_bits-2.ensures
 
-pub kept-bits-spec : {M : Type 1} → statement M
-kept-bits-spec =
+pub kept_bits_spec : {M : Type 1} → statement M
+kept_bits_spec =
     tie.close
     (tie.spec
     low-bits-requires

@@ -10,85 +10,67 @@ use Rattle.lower_shift_lane.proofs.shift_lane.Tie as tie
 
 -- ---- places: the entry from where an arm's kind is known, and that place from the arm's calls
 
-abbrev left-entry : tie.After-kind → tie.Start
-left-entry c = c.before.before.before
-
-abbrev left-kind : tie.After-left-immediate → tie.After-kind
-left-kind l = l.before.before.before
-
-abbrev right-entry : tie.After-kind2 → tie.Start
-right-entry c = c.before.before.before
-
-abbrev right-kind : tie.After-konst → tie.After-kind2
-right-kind b = b.before.before.before
-
-abbrev register-entry : tie.After-kind3 → tie.Start
-register-entry c = c.before.before.before
-
-abbrev register-kind : tie.After-shift-register → tie.After-kind3
-register-kind l = l.before.before.before
-
 -- what the kind asks of the amount, once it is known to be kind
-amount-in : (s : tie.Start) {kind : ShiftKind} → s.args.kind ≡ kind → AmountIn kind s.args.lane-bits
-amount-in s e = subst (λ (k : ShiftKind). AmountIn k s.args.lane-bits) e s.requires.1.4
+amount-in : (s : tie.Start) {kind : ShiftKind} → s.args.kind ≡ kind → AmountIn kind s.args.lane_bits
+amount-in s e = subst (λ (k : ShiftKind). AmountIn k s.args.lane_bits) e s.requires.1.4
 
 -- ---- needs
 
-enum-known-kind : tie.Need-enum-known-kind
+enum-known-kind : tie.Need-enum_known-kind
 enum-known-kind c = search rules
 
-left-immediate-requires : tie.Need-left-immediate-requires
+left-immediate-requires : tie.Need-left_immediate-requires
 left-immediate-requires c κs =
-    let k = c.before.before in
-    omega (arith, (left-entry k).requires, amount-in (left-entry k) k.kind.given.1)
+    let k = c in
+    omega (arith, k.requires, amount-in k k.kind-1.given.1)
 
-enum-known-kind-2 : tie.Need-enum-known-kind-2
+enum-known-kind-2 : tie.Need-enum_known-kind-in-RightImmediate-1
 enum-known-kind-2 c = search rules
 
-konst-requires : tie.Need-konst-requires
+konst-requires : tie.Need-konst-by-requires
 konst-requires c κs = search rules
 
-shift-right-requires : tie.Need-shift-right-requires
+shift-right-requires : tie.Need-shift_right-requires
 shift-right-requires c κs =
-    let b = c.before.before.before in
-    let s = right-entry (right-kind b) in
-    omega (arith, s.pre, b.konst.ensures.sized, amount-in s (right-kind b).kind2.given.1)
+    let b = c in
+    let s = c in
+    omega (arith, s.requires, b.konst-by.ensures.sized, amount-in s b.kind-in-RightImmediate-1.given.1)
 
-enum-known-kind-3 : tie.Need-enum-known-kind-3
+enum-known-kind-3 : tie.Need-enum_known-kind-in-Register-1
 enum-known-kind-3 c = search rules
 
-shift-register-requires : tie.Need-shift-register-requires
+shift-register-requires : tie.Need-shift_register-requires
 shift-register-requires c κs = search rules
 
-same_length : tie.Need-same-length
+same_length : tie.Need-shape_of-pool-in-LeftImmediate
 same_length c = search rules
 
-returns : tie.Need-returns
+returns : tie.Need-returns-in-LeftImmediate
 returns c =
-    let k = left-kind c.before.before in
-    lane-left (left-entry k).args.signed k.kind.given.1 c.before.before.left-immediate.ensures
+    let k = c in
+    lane-left k.args.signed k.kind-1.given.1 c.left_immediate.ensures
 
-same-length-2 : tie.Need-same-length-2
+same-length-2 : tie.Need-shape_of-pool-in-RightImmediate
 same-length-2 c = search rules
 
-returns-2 : tie.Need-returns-2
+returns-2 : tie.Need-returns-in-RightImmediate
 returns-2 c =
-    let l = c.before.before in
-    let b = l.before.before.before.before in
-    let k = right-kind b in
-    let s = right-entry k in
-    lane-right s.args.signed k.kind2.given.1 (omega (arith, s.pre)) (amount-in s k.kind2.given.1).1 s.pre.1.3 b.konst.ensures l.shift-right.ensures
+    let l = c in
+    let b = c in
+    let k = c in
+    let s = c in
+    lane-right s.args.signed k.kind-in-RightImmediate-1.given.1 (omega (arith, s.requires)) (amount-in s k.kind-in-RightImmediate-1.given.1).1 s.requires.1.3 b.konst-by.ensures l.shift_right.ensures
 
-same-length-3 : tie.Need-same-length-3
+same-length-3 : tie.Need-shape_of-pool-in-Register
 same-length-3 c = search rules
 
-returns-3 : tie.Need-returns-3
+returns-3 : tie.Need-returns-in-Register
 returns-3 c =
-    let k = register-kind c.before.before in
-    lane-register (register-entry k).args.signed k.kind3.given.1 c.before.before.shift-register.ensures
+    let k = c in
+    lane-register k.args.signed k.kind-in-Register-1.given.1 c.shift_register.ensures
 
-pub shift-lane-spec : {M : Type 1} → statement M
-shift-lane-spec =
+pub shift_lane_spec : {M : Type 1} → statement M
+shift_lane_spec =
     tie.close
     (tie.spec
     enum-known-kind

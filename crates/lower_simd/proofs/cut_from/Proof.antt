@@ -6,64 +6,64 @@ use Rattle.lower_simd.proofs.Cutting.{Kept, kept-none, Rises, rising, kept_more,
 use Rattle.lower_simd.proofs.cut_from.Statement.{statement}
 use Rattle.lower_simd.proofs.cut_from.Tie as tie
 
-abbrev invariant-loop : tie.invariant-loop
-invariant-loop pool hi at₀ by₀ at by = Kept pool at₀ hi.0 at by
+abbrev invariant-loop-hi : tie.invariant-loop-hi
+invariant-loop-hi pool hi at₀ by₀ at by = Kept pool at₀ hi.0 at by
 
-abbrev decreases-loop : tie.decreases-loop
-decreases-loop pool hi at₀ by₀ at by = at
+abbrev decreases-loop-hi : tie.decreases-loop-hi
+decreases-loop-hi pool hi at₀ by₀ at by = at
 
-loop-holds : tie.Need-loop-init invariant-loop decreases-loop
-loop-holds c = kept-none _ _ _ c.before.requires.1
+loop-holds : tie.Need-loop-hi-init invariant-loop-hi decreases-loop-hi
+loop-holds c = kept-none _ _ _ c.requires.1
 
-add-t8 : tie.Need-overflow-add-t8 invariant-loop decreases-loop
-add-t8 c = omega (arith, c.before.loop.invariant.small)
+add-t8 : tie.Need-overflow_add-hi invariant-loop-hi decreases-loop-hi
+add-t8 c = omega (arith, c.loop-hi.invariant.small)
 
-rises-requires : tie.Need-rises-requires invariant-loop decreases-loop
+rises-requires : tie.Need-rises-requires invariant-loop-hi decreases-loop-hi
 rises-requires c κs =
-    let l = c.before in
-    let p = l.before.before.requires in
-    (omega (arith, l.loop.invariant.below, p.0), l.loop.invariant.small)
+    let l = c in
+    let p = l.requires in
+    (omega (arith, l.loop-hi.invariant.below, p.0), l.loop-hi.invariant.small)
 
-cut-lo-requires : tie.Need-cut-lo-requires invariant-loop decreases-loop
+cut-lo-requires : tie.Need-cut_lo-by-requires invariant-loop-hi decreases-loop-hi
 cut-lo-requires c κs =
-    let l = c.before.before.before in
-    omega (arith, l.loop.invariant.below, l.before.before.requires.0)
+    let l = c in
+    omega (arith, l.loop-hi.invariant.below, l.requires.0)
 
 -- the node that is left is an Extract
-risen : (c : tie.Then1 invariant-loop decreases-loop) → let l = c.before.before.before in
-    Rises l.before.before.args.pool.now l.loop.at (l.before.before.args.hi.0 + l.loop.by)
-risen c = rising _ _ _ (sym c.before.rises.ensures ∙ c.if1.true)
+risen : (c : tie.In-loop-hi invariant-loop-hi decreases-loop-hi) → let l = c in
+    Rises l.args.pool.now l.loop-hi.at (l.args.hi.0 + l.loop-hi.by)
+risen c = rising _ _ _ (sym c.rises.ensures ∙ c.loop-hi-test.true)
 
-add-by : tie.Need-overflow-add-by invariant-loop decreases-loop
+add-by : tie.Need-overflow_add-by invariant-loop-hi decreases-loop-hi
 add-by c =
-    let lo = c.before in
-    omega (arith, lo.cut-lo.ensures, (risen lo.before).room, lo.before.before.before.before.loop.invariant.small)
+    let lo = c in
+    omega (arith, lo.cut_lo-by.ensures, (risen c.before.before).room, lo.loop-hi.invariant.small)
 
-first-requires : tie.Need-first-requires invariant-loop decreases-loop
+first-requires : tie.Need-first-at-requires invariant-loop-hi decreases-loop-hi
 first-requires c κs =
-    let l = c.before.before.before.before.before in
-    omega (arith, l.loop.invariant.below, l.before.before.requires.0)
+    let l = c in
+    omega (arith, l.loop-hi.invariant.below, l.requires.0)
 
-loop-less : tie.Need-loop-smaller invariant-loop decreases-loop
-loop-less c = omega (arith, c.first.ensures, (risen c.before.before.before).down)
+loop-less : tie.Need-loop-hi-smaller invariant-loop-hi decreases-loop-hi
+loop-less c = omega (arith, c.first-at.ensures, (risen c.before.before.before).down)
 
-loop-again : tie.Need-loop-preserved invariant-loop decreases-loop
+loop-again : tie.Need-loop-hi-preserved invariant-loop-hi decreases-loop-hi
 loop-again c =
-    let lo = c.before.before in
-    let l = lo.before.before.before.before in
-    rw (c.first.ensures, lo.cut-lo.ensures) (kept_more l.loop.invariant (risen lo.before))
+    let lo = c in
+    let l = c in
+    rw (c.first-at.ensures, lo.cut_lo-by.ensures) (kept_more l.loop-hi.invariant (risen c.before.before.before))
 
-returns : tie.Need-returns invariant-loop decreases-loop
+returns : tie.Need-returns invariant-loop-hi decreases-loop-hi
 returns c =
-    let r = c.before in
-    from-kept r.before.before.loop.invariant (sym r.rises.ensures ∙ c.if1.false)
+    let r = c in
+    from-kept r.loop-hi.invariant (sym r.rises.ensures ∙ c.loop-hi-test.false)
 
-pub cut-from-spec : {M : Type 1} → statement M
-cut-from-spec =
+pub cut_from_spec : {M : Type 1} → statement M
+cut_from_spec =
     tie.close
     (tie.spec
-    invariant-loop
-    decreases-loop
+    invariant-loop-hi
+    decreases-loop-hi
     loop-holds
     add-t8
     rises-requires

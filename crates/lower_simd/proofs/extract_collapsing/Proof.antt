@@ -4,26 +4,26 @@ use borrow.Author.Rules.{rules}
 use Rattle.lower_simd.proofs.extract_collapsing.Statement.{statement}
 use Rattle.lower_simd.proofs.extract_collapsing.Tie as tie
 
-cut-from-requires : tie.Need-cut-from-requires
+cut-from-requires : tie.Need-cut_from-from-requires
 cut-from-requires c κs = search rules
 
-add-t11 : tie.Need-overflow-add-t11
+add-t11 : tie.Need-overflow_add-hi
 add-t11 c = search rules
 
-add-t13 : tie.Need-overflow-add-t13
+add-t13 : tie.Need-overflow_add-lo
 add-t13 c = search rules
 
 extract-requires : tie.Need-extract-requires
 extract-requires c κs = search rules
 
-same_length : tie.Need-same-length
+same_length : tie.Need-shape_of-pool
 same_length c = search rules
 
 returns : tie.Need-returns
 returns c =
-    let l-extract = c.before.before in
-    let l-cut-from = l-extract.before.before.before.before.before.before in
-    cut-built l-cut-from.cut-from.ensures l-extract.extract.ensures
+    let l-extract = c in
+    let l-cut-from = c in
+    cut-built l-cut-from.cut_from-from.ensures l-extract.extract.ensures
 
-pub extract-collapsing-spec : {M : Type 1} → statement M
-extract-collapsing-spec = tie.close (tie.spec cut-from-requires add-t11 add-t13 extract-requires same_length returns)
+pub extract_collapsing_spec : {M : Type 1} → statement M
+extract_collapsing_spec = tie.close (tie.spec cut-from-requires add-t11 add-t13 extract-requires same_length returns)

@@ -54,45 +54,45 @@ table-code o a l m h =
     ∙ lane-of-lanes 8 7 (form_code_at (suc (o - 1))) (code-at-lt (suc (o - 1))) a (omega arith)
     ∙ ap (λ (k : ℕ). form_code_at k a) (omega arith)
 
-returns : tie.Need-returns
+returns : tie.Need-returns-then-operation-lt1
 unfolding form_code_at
-returns c = rw (lt-leb 1 c.before.args.operation c.if1.true)
+returns c = rw (lt-leb 1 c.args.operation c.if-operation-lt1.true)
 
-returns-2 : tie.Need-returns-2
+returns-2 : tie.Need-returns-then-operation-gt67
 unfolding form_code_at
 returns-2 c =
     rw (
-      le-leb 1 c.before.before.args.operation c.before.if1.false,
-      lt-leb c.before.before.args.operation 67 c.if2.true,
+      le-leb 1 c.args.operation c.if-operation-lt1.false,
+      lt-leb c.args.operation 67 c.if-operation-gt67.true,
     )
 
-returns-3 : tie.Need-returns-3
+returns-3 : tie.Need-returns-then-arrangement-gt6
 unfolding form_code_at
 returns-3 c =
     rw (
-      le-leb 1 c.before.before.before.args.operation c.before.before.if1.false,
-      le-leb c.before.before.before.args.operation 67 c.before.if2.false,
-      lt-leb c.before.before.before.args.arrangement 6 c.if3.true,
+      le-leb 1 c.args.operation c.if-operation-lt1.false,
+      le-leb c.args.operation 67 c.if-operation-gt67.false,
+      lt-leb c.args.arrangement 6 c.if-arrangement-gt6.true,
     )
 
-mul-result : tie.Need-overflow-mul-result
+mul-result : tie.Need-offset_bounds-k
 mul-result c = search rules
 
-array-read-result : tie.Need-array-read-result
+array-read-result : tie.Need-bounds-k
 array-read-result c = search rules
 
-mul-result-2 : tie.Need-overflow-mul-result-2
+mul-result-2 : tie.Need-overflow_mul-result
 mul-result-2 c = search rules
 
-shr-result : tie.Need-overflow-shr-result
+shr-result : tie.Need-overflow_shr-result
 shr-result c = search rules
 
-returns-4 : tie.Need-returns-4
+returns-4 : tie.Need-returns
 unfolding table tabulate word lanes form_code_at form_code op_at operations arrangement_at arrangements
 returns-4 c =
-    table-code c.before.before.before.args.operation c.before.before.before.args.arrangement c.before.before.if1.false
-    c.before.if2.false c.if3.false
+    table-code c.args.operation c.args.arrangement c.if-operation-lt1.false
+    c.if-operation-gt67.false c.if-arrangement-gt6.false
 
-pub form-code-spec : {M : Type 1} → statement M
-form-code-spec =
+pub form_code_spec : {M : Type 1} → statement M
+form_code_spec =
     tie.close (tie.spec returns returns-2 returns-3 mul-result array-read-result mul-result-2 shr-result returns-4)

@@ -7,5 +7,5 @@ use Rattle.neon_form.proofs.by_element.Tie as tie
 returns : tie.Need-returns
 returns c = λ o v h e. rw (parts _ o v h e).row (element-row (form o).immediate)
 
-pub by-element-spec : {M : Type 1} → statement M
-by-element-spec = tie.close (tie.spec returns)
+pub by_element_spec : {M : Type 1} → statement M
+by_element_spec = tie.close (tie.spec returns)

@@ -6,5 +6,5 @@ use Rattle.neon_form.proofs.first_full.Tie as tie
 returns : tie.Need-returns
 returns c = λ o v h e. (parts _ o v h e).first
 
-pub first-full-spec : {M : Type 1} → statement M
-first-full-spec = tie.close (tie.spec returns)
+pub first_full_spec : {M : Type 1} → statement M
+first_full_spec = tie.close (tie.spec returns)

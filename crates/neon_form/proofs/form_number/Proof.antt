@@ -17,97 +17,88 @@ use Rattle.neon_form.proofs.form_number.Tie as tie
 -- ---- the places past each test, and what is known there
 
 -- one of the 67 operations
-abbrev entry : tie.Else2 → tie.Start
-entry c = c.before.before
+abbrev op : tie.Else-operation-gt67 → Op
+op c = op_at c.args.operation
 
-abbrev op : tie.Else2 → Op
-op c = op_at (entry c).args.operation
+abbrev arrangement : tie.Else-operation-gt67 → Arrangement
+arrangement c = arrangement_at c.args.arrangement
 
-abbrev arrangement : tie.Else2 → Arrangement
-arrangement c = arrangement_at (entry c).args.arrangement
-
-known : (c : tie.Else2) → is_operation (entry c).args.operation ≡ true
-known c = rw (le-leb 1 (entry c).args.operation c.before.if1.false, le-leb (entry c).args.operation 67 c.if2.false)
+known : (c : tie.Else-operation-gt67) → is_operation c.args.operation ≡ true
+known c = rw (le-leb 1 c.args.operation c.if-operation-lt1.false, le-leb c.args.operation 67 c.if-operation-gt67.false)
 
 -- with a form of that arrangement
-abbrev past : tie.Else3 → tie.Else2
-past c = c.before.before
-
-formed : (c : tie.Else3) → let a = (entry (past c)).args in (is_arrangement a.arrangement ≡ true) × (has_form (op (past c)) (arrangement (past c)) ≡ true)
-    × (form_code_at a.operation a.arrangement ≡ form_code (op (past c)) (arrangement (past c)))
+formed : (c : tie.Else-code-eq0) → let a = c.args in (is_arrangement a.arrangement ≡ true) × (has_form (op c.before.before) (arrangement c.before.before) ≡ true)
+    × (form_code_at a.operation a.arrangement ≡ form_code (op c.before.before) (arrangement c.before.before))
 formed c =
-    let o = past c in
-    with-form _ _ o.before.if1.left o.if2.left (λ z. c.if3.false (c.before.form-code.ensures ∙ z))
+    let o = c in
+    with-form _ _ o.if1.left o.if2.left (λ z. c.if-code-eq0.false (c.form_code-code.ensures ∙ z))
 
-left : (c : tie.Else3) → let a = (entry (past c)).args in
+left : (c : tie.Else-code-eq0) → let a = c.args in
     form_number a.operation a.arrangement a.i 0
-    ≡ cond (leb (least (op (past c))) a.i && leb a.i (most (op (past c)) (bits_of_lane (arrangement (past c))))) 0 4
-left c = rw (known (past c), (formed c).0, (formed c).1)
+    ≡ cond (leb (least (op c.before.before)) a.i && leb a.i (most (op c.before.before) (bits_of_lane (arrangement c.before.before)))) 0 4
+left c = rw (known c.before.before, (formed c).0, (formed c).1)
 
 -- the ends of its immediates
-least-is : (c : tie.After-least-immediate) → c.least-immediate.result ≡ least (op (past c.before))
-least-is c = let f = formed c.before in c.least-immediate.ensures _ _ f.1 (c.before.before.form-code.ensures ∙ f.2)
+least-is : (c : tie.After-least_immediate) → c.least_immediate.result ≡ least (op c.before.before.before)
+least-is c = let f = formed c.before in c.least_immediate.ensures _ _ f.1 (c.form_code-code.ensures ∙ f.2)
 
-abbrev to-least : tie.After-most-immediate → tie.After-least-immediate
-to-least c = c.before.before.before
-
-most-is : (c : tie.After-most-immediate) → let o = past (to-least c).before in c.most-immediate.result ≡ most (op o) (bits_of_lane (arrangement o))
+most-is : (c : tie.After-most_immediate) → let o = c in c.most_immediate.result ≡ most (op c.before.before.before.before.before.before) (bits_of_lane (arrangement c.before.before.before.before.before.before))
 most-is c =
-    let k = (to-least c).before in
-    let f = formed k in
-    c.most-immediate.ensures _ _ f.1 (k.before.form-code.ensures ∙ f.2) ∙ ap (λ (n : ℕ). most (op (past k)) n) c.before.lane-bits.ensures
+    let k = c in
+    let f = formed c.before.before.before.before in
+    c.most_immediate.ensures _ _ f.1 (k.form_code-code.ensures ∙ f.2) ∙ ap (λ (n : ℕ). most (op c.before.before.before.before.before.before) n) c.lane_bits.ensures
 
 -- ---- the needs
 
-returns : tie.Need-returns
-returns c = rw (lt-leb 1 c.before.args.operation c.if1.true)
+returns : tie.Need-returns-then-operation-lt1
+returns c = rw (lt-leb 1 c.args.operation c.if-operation-lt1.true)
 
-returns-2 : tie.Need-returns-2
+returns-2 : tie.Need-returns-then-operation-gt67
 returns-2 c =
-    let n = c.before.before.args.operation in
-    rw (le-leb 1 n c.before.if1.false, lt-leb n 67 c.if2.true)
+    let n = c.args.operation in
+    rw (le-leb 1 n c.if-operation-lt1.false, lt-leb n 67 c.if-operation-gt67.true)
 
-form-code-requires : tie.Need-form-code-requires
+form-code-requires : tie.Need-form_code-code-requires
 form-code-requires c κs = search rules
 
-returns-3 : tie.Need-returns-3
+returns-3 : tie.Need-returns-then-code-eq0
 returns-3 c =
-    let o = c.before.before in
-    rw (known o, without _ _ o.before.if1.false o.if2.false (sym c.before.form-code.ensures ∙ c.if3.true))
+    let o = c in
+    rw (known c.before.before, without _ _ o.if-operation-lt1.false o.if-operation-gt67.false (sym c.form_code-code.ensures ∙ c.if-code-eq0.true))
 
-least-immediate-requires : tie.Need-least-immediate-requires
+least-immediate-requires : tie.Need-least_immediate-requires
 least-immediate-requires c κs = search rules
 
-returns-4 : tie.Need-returns-4
+returns-4 : tie.Need-returns-then-i-least_immediate
 returns-4 c =
-    let o = past c.before.before in
-    rw (left c.before.before, lt-leb (least (op o)) (entry o).args.i (omega (arith, c.if4.true, least-is c.before)))
+    let o = c in
+    rw (left c.before.before, lt-leb (least (op c.before.before.before.before)) o.args.i (omega (arith, c.if-i-least_immediate.true, least-is c.before)))
 
-lane-bits-requires : tie.Need-lane-bits-requires
+lane-bits-requires : tie.Need-lane_bits-requires
 lane-bits-requires c κs = leb-true _ 6 (formed c.before.before).0
 
-most-immediate-requires : tie.Need-most-immediate-requires
+most-immediate-requires : tie.Need-most_immediate-requires
 most-immediate-requires c κs =
-    let w = sized (arrangement (past c.before.before.before)) in
-    (omega (arith, c.lane-bits.ensures, w.eight), omega (arith, c.lane-bits.ensures, w.most))
+    let w = sized (arrangement c.before.before.before.before.before) in
+    (omega (arith, c.lane_bits.ensures, w.eight), omega (arith, c.lane_bits.ensures, w.most))
 
 -- the immediate is not below its least: the last test decides
-last : (c : tie.After-most-immediate) → let a = (entry (past (to-least c).before)).args in
-    form_number a.operation a.arrangement a.i 0 ≡ cond (leb a.i c.most-immediate.result) 0 4
+last : (c : tie.After-most_immediate) → let a = c.args in
+    form_number a.operation a.arrangement a.i 0 ≡ cond (leb a.i c.most_immediate.result) 0 4
 last c =
-    let l = to-least c in
-    let o = past l.before in
-    let i = (entry o).args.i in
-    rw (left l.before, le-leb (least (op o)) i (omega (arith, c.before.before.if4.false, least-is l))) (ap (λ (n : ℕ). cond (leb i n) 0 4) (sym (most-is c)))
+    let l = c in
+    let o = c in
+    let i = o.args.i in
+    rw (left c.before.before.before.before, le-leb (least (op c.before.before.before.before.before.before)) i (omega (arith, c.if-i-least_immediate.false, least-is c.before.before.before))) (ap (λ (n : ℕ). cond (leb i n) 0 4) (sym (most-is c)))
 
-returns-5 : tie.Need-returns-5
-returns-5 c = rw (last c.before, lt-leb _ _ c.if5.true)
+returns-5 : tie.Need-returns-then-most_immediate-i
+returns-5 c = rw (last c.before, lt-leb _ _ c.if-most_immediate-i.true)
 
-returns-6 : tie.Need-returns-6
-returns-6 c = rw (last c.before, le-leb _ _ c.if5.false)
+returns-6 : tie.Need-returns
+returns-6 c = rw (last c.before, le-leb _ _ c.if-most_immediate-i.false)
 
-pub form-number-spec : {M : Type 1} → statement M
-form-number-spec =
+pub form_number_spec : {M : Type 1} → statement M
+form_number_spec =
     tie.close
     (tie.spec
     returns

@@ -6,5 +6,5 @@ use Rattle.neon_form.proofs.has_second.Tie as tie
 returns : tie.Need-returns
 returns c = λ o v h e. (parts _ o v h e).second
 
-pub has-second-spec : {M : Type 1} → statement M
-has-second-spec = tie.close (tie.spec returns)
+pub has_second_spec : {M : Type 1} → statement M
+has_second_spec = tie.close (tie.spec returns)

@@ -5,37 +5,37 @@ use Rattle.neon.specs.Op.{arrangement_at, arrangements}
 use Rattle.neon_form.proofs.is_full.Statement.{statement}
 use Rattle.neon_form.proofs.is_full.Tie as tie
 
-returns : tie.Need-returns
+returns : tie.Need-returns-in-0
 unfolding arrangement_at arrangements
 returns c = rw c.match.keys1 refl
 
-returns-2 : tie.Need-returns-2
+returns-2 : tie.Need-returns-in-1
 unfolding arrangement_at arrangements
 returns-2 c = rw c.match.keys2 refl
 
-returns-3 : tie.Need-returns-3
+returns-3 : tie.Need-returns-in-2
 unfolding arrangement_at arrangements
 returns-3 c = rw c.match.keys3 refl
 
-returns-4 : tie.Need-returns-4
+returns-4 : tie.Need-returns-in-3
 unfolding arrangement_at arrangements
 returns-4 c = rw c.match.keys4 refl
 
-returns-5 : tie.Need-returns-5
+returns-5 : tie.Need-returns-in-4
 unfolding arrangement_at arrangements
 returns-5 c = rw c.match.keys5 refl
 
-returns-6 : tie.Need-returns-6
+returns-6 : tie.Need-returns-in-5
 unfolding arrangement_at arrangements
 returns-6 c = rw c.match.keys6 refl
 
-returns-7 : tie.Need-returns-7
+returns-7 : tie.Need-returns-in_default
 unfolding arrangement_at arrangements
 returns-7 c =
-    let st = c.before in
+    let st = c in
     let e : st.args.arrangement ≡ 6 = omega (arith, st.requires, c.match.rest) in
     rw e refl
 
-pub is-full-spec : {M : Type 1} → statement M
-is-full-spec =
+pub is_full_spec : {M : Type 1} → statement M
+is_full_spec =
     tie.close (tie.spec returns returns-2 returns-3 returns-4 returns-5 returns-6 returns-7)

@@ -6,5 +6,5 @@ use Rattle.neon_form.proofs.reads_d.Tie as tie
 returns : tie.Need-returns
 returns c = λ o v h e. (parts _ o v h e).old
 
-pub reads-d-spec : {M : Type 1} → statement M
-reads-d-spec = tie.close (tie.spec returns)
+pub reads_d_spec : {M : Type 1} → statement M
+reads_d_spec = tie.close (tie.spec returns)

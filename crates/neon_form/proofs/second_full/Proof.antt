@@ -6,5 +6,5 @@ use Rattle.neon_form.proofs.second_full.Tie as tie
 returns : tie.Need-returns
 returns c = λ o v h e. (parts _ o v h e).last
 
-pub second-full-spec : {M : Type 1} → statement M
-second-full-spec = tie.close (tie.spec returns)
+pub second_full_spec : {M : Type 1} → statement M
+second_full_spec = tie.close (tie.spec returns)

@@ -9,19 +9,19 @@ use Rattle.pool_check.proofs.check_plain.Tie as tie
 places-requires : tie.Need-places-requires
 places-requires c κs = search rules
 
-returns : tie.Need-returns
+returns : tie.Need-returns-then-places-count
 returns c =
-    let a = c.before.before.before.args in
-    rw (lt-leb a.count (places a.pool.now) (omega (arith, c.before.places.ensures, c.if1.true)))
+    let a = c.args in
+    rw (lt-leb a.count (places a.pool.now) (omega (arith, c.places.ensures, c.if-places-count.true)))
 
-first-refused-requires : tie.Need-first-refused-requires
+first-refused-requires : tie.Need-first_refused-requires
 first-refused-requires c κs = search rules
 
-returns-2 : tie.Need-returns-2
+returns-2 : tie.Need-returns
 returns-2 c =
-    let test = c.before.before in
-    let a = test.before.before.before.args in
-    rw (le-leb a.count (places a.pool.now) (omega (arith, test.before.places.ensures, test.if1.false))) c.before.first-refused.ensures
+    let test = c in
+    let a = test.args in
+    rw (le-leb a.count (places a.pool.now) (omega (arith, test.places.ensures, test.if-places-count.false))) c.first_refused.ensures
 
-pub check-plain-spec : {M : Type 1} → statement M
-check-plain-spec = tie.close (tie.spec places-requires returns first-refused-requires returns-2)
+pub check_plain_spec : {M : Type 1} → statement M
+check_plain_spec = tie.close (tie.spec places-requires returns first-refused-requires returns-2)

@@ -8,31 +8,28 @@ use borrow.Author.Rules.{rules}
 use Rattle.pool_check.proofs.node_number.Statement.{statement}
 use Rattle.pool_check.proofs.node_number.Tie as tie
 
-pool-check-requires : tie.Need-pool-check-requires
+pool-check-requires : tie.Need-pool_check-requires
 pool-check-requires c κs = search rules
 
-abbrev entry : tie.After-pool-check → tie.Start
-entry c = c.before.before
+valid : (c : tie.Else-not-pool_check) → let a = c.args in pool_ok a.pool.now a.count ≡ true
+valid c = sym c.pool_check.ensures ∙ not-false _ c.if-not-pool_check.false-raw
 
-valid : (c : tie.Else1) → let a = (entry c.before).args in pool_ok a.pool.now a.count ≡ true
-valid c = sym c.before.pool-check.ensures ∙ not-false _ c.if1.false
-
-returns : tie.Need-returns
+returns : tie.Need-returns-then-not-pool_check
 returns c =
-    let a = (entry c.before).args in
-    sym (bad-pool a.pool.now a.count a.n.0 0 (sym c.before.pool-check.ensures ∙ not-true _ c.if1.true))
+    let a = c.args in
+    sym (bad-pool a.pool.now a.count a.n.0 0 (sym c.pool_check.ensures ∙ not-true _ c.if-not-pool_check.true-raw))
 
-returns-2 : tie.Need-returns-2
+returns-2 : tie.Need-returns-then-count-n
 returns-2 c =
-    let passed = c.before.before in
-    let a = (entry passed.before).args in
-    sym (bad-node a.pool.now a.count a.n.0 0 (valid passed) c.if2.true)
+    let passed = c in
+    let a = passed.args in
+    sym (bad-node a.pool.now a.count a.n.0 0 (valid c.before.before) c.if-count-n.true)
 
-returns-3 : tie.Need-returns-3
+returns-3 : tie.Need-returns
 returns-3 c =
-    let below = c.before.before in
-    let a = (entry below.before).args in
-    sym (good-node a.pool.now a.count a.n.0 0 (valid below) c.if2.false)
+    let below = c in
+    let a = below.args in
+    sym (good-node a.pool.now a.count a.n.0 0 (valid c.before.before) c.if-count-n.false)
 
-pub node-number-spec : {M : Type 1} → statement M
-node-number-spec = tie.close (tie.spec pool-check-requires returns returns-2 returns-3)
+pub node_number_spec : {M : Type 1} → statement M
+node_number_spec = tie.close (tie.spec pool-check-requires returns returns-2 returns-3)

@@ -4,17 +4,17 @@ use borrow.Author.Rules.{rules}
 use Rattle.pool_check.proofs.of_width.Statement.{statement}
 use Rattle.pool_check.proofs.of_width.Tie as tie
 
-width-of-requires : tie.Need-width-of-requires
+width-of-requires : tie.Need-width_of-requires
 width-of-requires c κs = search rules
 
-returns : tie.Need-returns
+returns : tie.Need-returns-then-n-count
 returns c =
-    let below = c.before in
-    let a = below.before.before.before.args in
-    rw (lt-ltb a.n.0 a.count below.if1.true, c.width_of_lem.ensures.0)
+    let below = c in
+    let a = below.args in
+    rw (lt-ltb a.n.0 a.count below.if-n-count.true, c.width_of.ensures.0)
 
-returns-2 : tie.Need-returns-2
-returns-2 c = let a = c.before.before.before.args in rw (le-ltb a.n.0 a.count c.if1.false)
+returns-2 : tie.Need-returns
+returns-2 c = let a = c.args in rw (le-ltb a.n.0 a.count c.if-n-count.false)
 
-pub of-width-spec : {M : Type 1} → statement M
-of-width-spec = tie.close (tie.spec width-of-requires returns returns-2)
+pub of_width_spec : {M : Type 1} → statement M
+of_width_spec = tie.close (tie.spec width-of-requires returns returns-2)

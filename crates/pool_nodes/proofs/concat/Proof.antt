@@ -10,38 +10,38 @@ width-requires c κs = search rules
 width-requires-2 : tie.Need-width-requires-2
 width-requires-2 c κs = search rules
 
-add-bits : tie.Need-overflow-add-bits
+add-bits : tie.Need-overflow_add-bits
 add-bits c = search rules
 
 union-requires : tie.Need-union-requires
 union-requires c κs = search rules
 
-kind-word-requires : tie.Need-kind-word-requires
+kind-word-requires : tie.Need-kind_word-w0-requires
 kind-word-requires c κs = search rules
 
-operands-word-requires : tie.Need-operands-word-requires
+operands-word-requires : tie.Need-operands_word-requires
 operands-word-requires c κs = search rules
 
 push-requires : tie.Need-push-requires
 push-requires c κs = search rules
 
-same_length : tie.Need-same-length
+same_length : tie.Need-shape_of-pool
 same_length c = search rules
 
 returns : tie.Need-returns
 returns c =
-    let l-push = c.before.before in
-    let l-operands-word = l-push.before in
-    let l-kind-word = l-operands-word.before.before in
-    let l-union = l-kind-word.before in
-    let l-width2 = l-union.before.before in
-    let l-width = l-width2.before.before in
-    let st = l-width.before.before.before in
-    concat-built st.requires.0 st.requires.1.0 st.requires.1.1 l-width.width.ensures.0 l-width2.width2.ensures.0 l-union.union.ensures.0 l-kind-word.kind-word.ensures
-    l-operands-word.operands-word.ensures l-push.push.ensures
+    let l-push = c in
+    let l-operands-word = c in
+    let l-kind-word = c in
+    let l-union = c in
+    let l-width2 = c in
+    let l-width = c in
+    let st = c in
+    concat-built st.requires.0 st.requires.1.0 st.requires.1.1 l-width.width.ensures.0 l-width2.width-2.ensures.0 l-union.union.ensures.0 l-kind-word.kind_word-w0.ensures
+    l-operands-word.operands_word.ensures l-push.push.ensures
 
-pub concat-spec : {M : Type 1} → statement M
-concat-spec =
+pub concat_spec : {M : Type 1} → statement M
+concat_spec =
     tie.close
     (tie.spec
     width-requires

@@ -4,32 +4,32 @@ use borrow.Author.Rules.{rules}
 use Rattle.pool_nodes.proofs.sign_ext.Statement.{statement}
 use Rattle.pool_nodes.proofs.sign_ext.Tie as tie
 
-set-of-requires : tie.Need-set-of-requires
+set-of-requires : tie.Need-set_of-requires
 set-of-requires c κs = search rules
 
-kind-word-requires : tie.Need-kind-word-requires
+kind-word-requires : tie.Need-kind_word-w0-requires
 kind-word-requires c κs = search rules
 
-operands-word-requires : tie.Need-operands-word-requires
+operands-word-requires : tie.Need-operands_word-requires
 operands-word-requires c κs = search rules
 
 push-requires : tie.Need-push-requires
 push-requires c κs = search rules
 
-same_length : tie.Need-same-length
+same_length : tie.Need-shape_of-pool
 same_length c = search rules
 
 returns : tie.Need-returns
 returns c =
-    let l-push = c.before.before in
-    let l-operands-word = l-push.before in
-    let l-kind-word = l-operands-word.before.before in
-    let l-set-of = l-kind-word.before in
-    let st = l-set-of.before.before.before in
-    sext-built st.requires.0 st.requires.1.0 st.requires.1.1 l-set-of.set-of.ensures.0 l-kind-word.kind-word.ensures l-operands-word.operands-word.ensures l-push.push.ensures
+    let l-push = c in
+    let l-operands-word = c in
+    let l-kind-word = c in
+    let l-set-of = c in
+    let st = c in
+    sext-built st.requires.0 st.requires.1.0 st.requires.1.1 l-set-of.set_of.ensures.0 l-kind-word.kind_word-w0.ensures l-operands-word.operands_word.ensures l-push.push.ensures
 
-pub sign-ext-spec : {M : Type 1} → statement M
-sign-ext-spec =
+pub sign_ext_spec : {M : Type 1} → statement M
+sign_ext_spec =
     tie.close
     (tie.spec
     set-of-requires

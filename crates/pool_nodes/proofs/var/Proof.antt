@@ -7,29 +7,29 @@ use borrow.Author.Rules.{rules}
 use Rattle.pool_nodes.proofs.var.Statement.{statement}
 use Rattle.pool_nodes.proofs.var.Tie as tie
 
-shl-kind-word : tie.Need-overflow-shl-kind-word
+shl-kind-word : tie.Need-overflow_shl-register
 shl-kind-word c = search rules
 
 push-requires : tie.Need-push-requires
 push-requires c κs = search rules
 
-same_length : tie.Need-same-length
+same_length : tie.Need-shape_of-pool
 same_length c = search rules
 
-kind-word-requires : tie.Need-kind-word-requires
+kind-word-requires : tie.Need-kind_word-requires
 kind-word-requires c κs =
-    let st = c.before.before in
+    let st = c in
     (omega arith, omega arith, rw (shifted st.args.register (omega (arith, st.requires.1.1))) (pow-lt {i = st.args.register} {j = 32} st.requires.1.1))
 
 returns : tie.Need-returns
 returns c =
-    let l-push = c.before.before in
-    let l-kind-word = l-push.before in
-    let st = l-kind-word.before.before.before in
-    var-built st.requires.0 st.requires.1.0 (shifted st.args.register (omega (arith, st.requires.1.1))) l-kind-word.kind-word.ensures l-push.push.ensures
+    let l-push = c in
+    let l-kind-word = c in
+    let st = c in
+    var-built st.requires.0 st.requires.1.0 (shifted st.args.register (omega (arith, st.requires.1.1))) l-kind-word.kind_word.ensures l-push.push.ensures
 
-pub var-spec : {M : Type 1} → statement M
-var-spec =
+pub var_spec : {M : Type 1} → statement M
+var_spec =
     tie.close
     (tie.spec
     shl-kind-word

@@ -10,34 +10,31 @@ use borrow.Author.Rules.{rules}
 use Rattle.pool_registers.proofs.registers_of.Statement.{statement}
 use Rattle.pool_registers.proofs.registers_of.Tie as tie
 
-abbrev entry : tie.Else1 → tie.Start
-entry c = c.before.before.before
-
 -- past the test the pool is good, and the node is below the count
-zero : (c : tie.Else1) → c.before.node-number.result ≡ 0
-zero c = omega (arith, c.if1.false)
+zero : (c : tie.Else-number-gt0) → c.node_number-number.result ≡ 0
+zero c = omega (arith, c.if-number-gt0.false)
 
-good : (c : tie.Else1) → let a = (entry c).args in (pool_ok a.pool.now a.count ≡ true) × (a.node < a.count)
+good : (c : tie.Else-number-gt0) → let a = c.args in (pool_ok a.pool.now a.count ≡ true) × (a.node < a.count)
 good c =
-    let a = (entry c).args in
-    let k = accepted a.pool.now a.count a.node 0 (sym c.before.node-number.ensures ∙ zero c) in (k.0, k.1)
+    let a = c.args in
+    let k = accepted a.pool.now a.count a.node 0 (sym c.node_number-number.ensures ∙ zero c) in (k.0, k.1)
 
-node-number-requires : tie.Need-node-number-requires
+node-number-requires : tie.Need-node_number-number-requires
 node-number-requires c κs = search rules
 
-returns : tie.Need-returns
+returns : tie.Need-returns-then-number-gt0
 returns c =
-    let n = c.before in
-    let a = n.before.before.args in refused a.pool.now a.count a.node _ n.node-number.ensures c.if1.true
+    let n = c in
+    let a = n.args in refused a.pool.now a.count a.node _ n.node_number-number.ensures c.if-number-gt0.true
 
-set-of-requires : tie.Need-set-of-requires
-set-of-requires c κs = let a = (entry c).args in inside a.pool.now a.count a.node (good c).0 (good c).1
+set-of-requires : tie.Need-set_of-requires
+set-of-requires c κs = let a = c.args in inside a.pool.now a.count a.node (good c).0 (good c).1
 
-returns-2 : tie.Need-returns-2
+returns-2 : tie.Need-returns
 returns-2 c =
-    let e = c.before in
-    let a = (entry e).args in
-    told a.pool.now a.count a.node e.before.node-number.ensures (zero e) (good e).0 (good e).1 c.set-of.ensures.0
+    let e = c in
+    let a = e.args in
+    told a.pool.now a.count a.node e.node_number-number.ensures (zero c.before) (good c.before).0 (good c.before).1 c.set_of.ensures.0
 
-pub registers-of-spec : {M : Type 1} → statement M
-registers-of-spec = tie.close (tie.spec node-number-requires returns set-of-requires returns-2)
+pub registers_of_spec : {M : Type 1} → statement M
+registers_of_spec = tie.close (tie.spec node-number-requires returns set-of-requires returns-2)

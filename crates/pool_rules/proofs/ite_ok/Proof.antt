@@ -6,34 +6,34 @@ use borrow.Author.Rules.{rules}
 use Rattle.pool_rules.proofs.ite_ok.Statement.{statement}
 use Rattle.pool_rules.proofs.ite_ok.Tie as tie
 
-first-requires : tie.Need-first-requires
+first-requires : tie.Need-first-a-requires
 first-requires c κs = search rules
 
-second-requires : tie.Need-second-requires
+second-requires : tie.Need-second-b-requires
 second-requires c κs = search rules
 
-third-requires : tie.Need-third-requires
+third-requires : tie.Need-third-c-requires
 third-requires c κs = search rules
 
-returns : tie.Need-returns
+returns : tie.Need-returns-then-n-a
 returns c =
-    let first = c.before.before.before.before.before in
-    let st = first.before.before in
-    ite-late-a st.args.p.now st.args.n.0 (omega (arith, first.first.ensures, c.if1.true))
+    let first = c in
+    let st = c in
+    ite-late-a st.args.p.now st.args.n.0 (omega (arith, first.first-a.ensures, c.if-n-a.true))
 
-returns-2 : tie.Need-returns-2
+returns-2 : tie.Need-returns-then-n-b
 returns-2 c =
-    let l-second = c.before.before.before.before.before.before.before in
-    let st = l-second.before.before.before in
-    ite-late-b st.args.p.now st.args.n.0 (omega (arith, l-second.second.ensures, c.if2.true))
+    let l-second = c in
+    let st = c in
+    ite-late-b st.args.p.now st.args.n.0 (omega (arith, l-second.second-b.ensures, c.if-n-b.true))
 
-returns-3 : tie.Need-returns-3
+returns-3 : tie.Need-returns-then-n-c
 returns-3 c =
-    let l-third = c.before.before.before.before.before.before.before.before.before in
-    let st = l-third.before.before.before.before in
-    ite-late-c st.args.p.now st.args.n.0 (omega (arith, l-third.third.ensures, c.if3.true))
+    let l-third = c in
+    let st = c in
+    ite-late-c st.args.p.now st.args.n.0 (omega (arith, l-third.third-c.ensures, c.if-n-c.true))
 
-width-of-requires : tie.Need-width-of-requires
+width-of-requires : tie.Need-width_of-width-requires
 width-of-requires c κs = search rules
 
 low-requires : tie.Need-low-requires
@@ -42,28 +42,28 @@ low-requires c κs = search rules
 high-requires : tie.Need-high-requires
 high-requires c κs = search rules
 
-width-of-requires-2 : tie.Need-width-of-requires-2
+width-of-requires-2 : tie.Need-width_of-requires
 width-of-requires-2 c κs = search rules
 
-width-of-requires-3 : tie.Need-width-of-requires-3
+width-of-requires-3 : tie.Need-width_of-requires-2
 width-of-requires-3 c κs = search rules
 
-width-of-requires-4 : tie.Need-width-of-requires-4
+width-of-requires-4 : tie.Need-width_of-requires-3
 width-of-requires-4 c κs = search rules
 
-set-of-requires : tie.Need-set-of-requires
+set-of-requires : tie.Need-set_of-requires
 set-of-requires c κs = search rules
 
-set-of-requires-2 : tie.Need-set-of-requires-2
+set-of-requires-2 : tie.Need-set_of-requires-2
 set-of-requires-2 c κs = search rules
 
-set-of-requires-3 : tie.Need-set-of-requires-3
+set-of-requires-3 : tie.Need-set_of-requires-3
 set-of-requires-3 c κs = search rules
 
-set-of-requires-4 : tie.Need-set-of-requires-4
+set-of-requires-4 : tie.Need-set_of-requires-4
 set-of-requires-4 c κs = search rules
 
-returns-4 : tie.Need-returns-4
+returns-4 : tie.Need-returns
 returns-4 c =
     let l-set-of4 = c in
     let l-set-of3 = l-set-of4.before in
@@ -84,20 +84,20 @@ returns-4 c =
     let st = l-first.before.before in
     let ws = st.args.p.now in
     let n = st.args.n.0 in
-    let own : Own ws n l-width-of.width_of_lem.result l-low.low.result l-high.high.result l-set-of.set-of.result =
-    record { width_is = l-width-of.width_of_lem.ensures.0; x-is = l-low.low.ensures; y-is = l-high.high.ensures; set_is = l-set-of.set-of.ensures.0 } in
-    let la : l-first.first.result.0 < n = omega (arith, l-if1.if1.false) in
-    let lb : l-second.second.result.0 < n = omega (arith, l-if2.if2.false) in
-    let lc : l-third.third.result.0 < n = omega (arith, l-if3.if3.false) in
-    let ea = l-first.first.ensures in
-    let eb = l-second.second.ensures in
-    let ec = l-third.third.ensures in
-    ite-at ws n own (rw ea at la) (rw eb at lb) (rw ec at lc) (width-before ws n ea la l-width-of2.width-of2.ensures.0)
-    (width-before ws n eb lb l-width-of3.width-of3.ensures.0) (width-before ws n ec lc l-width-of4.width-of4.ensures.0)
-    (set_before ws n ea la l-set-of2.set-of2.ensures.0) (set_before ws n eb lb l-set-of3.set-of3.ensures.0) (set_before ws n ec lc l-set-of4.set-of4.ensures.0)
+    let own : Own ws n l-width-of.width_of-width.result l-low.low.result l-high.high.result l-set-of.set_of.result =
+    record { width_is = l-width-of.width_of-width.ensures.0; x-is = l-low.low.ensures; y-is = l-high.high.ensures; set_is = l-set-of.set_of.ensures.0 } in
+    let la : l-first.first-a.result.0 < n = omega (arith, l-if1.if-n-a.false) in
+    let lb : l-second.second-b.result.0 < n = omega (arith, l-if2.if-n-b.false) in
+    let lc : l-third.third-c.result.0 < n = omega (arith, l-if3.if-n-c.false) in
+    let ea = l-first.first-a.ensures in
+    let eb = l-second.second-b.ensures in
+    let ec = l-third.third-c.ensures in
+    ite-at ws n own (rw ea at la) (rw eb at lb) (rw ec at lc) (width-before ws n ea la l-width-of2.width_of.ensures.0)
+    (width-before ws n eb lb l-width-of3.width_of-2.ensures.0) (width-before ws n ec lc l-width-of4.width_of-3.ensures.0)
+    (set_before ws n ea la l-set-of2.set_of-2.ensures.0) (set_before ws n eb lb l-set-of3.set_of-3.ensures.0) (set_before ws n ec lc l-set-of4.set_of-4.ensures.0)
 
-pub ite-ok-spec : {M : Type 1} → statement M
-ite-ok-spec =
+pub ite_ok_spec : {M : Type 1} → statement M
+ite_ok_spec =
     tie.close
     (tie.spec
     first-requires

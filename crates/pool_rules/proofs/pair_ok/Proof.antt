@@ -10,40 +10,37 @@ use borrow.Author.Rules.{rules}
 use Rattle.pool_rules.proofs.pair_ok.Statement.{statement}
 use Rattle.pool_rules.proofs.pair_ok.Tie as tie
 
-abbrev entry : tie.After-first → tie.Start
-entry c = c.before.before
-
 is-pair : (st : tie.Start) → IsPair st.args.kind
 is-pair st = let h = st.requires.1 in record { from = h.0; below = h.1; no-ite = h.2; no_extract = h.3 }
 
-first-requires : tie.Need-first-requires
+first-requires : tie.Need-first-a-requires
 first-requires c κs = search rules
 
-second-and-third-requires : tie.Need-second-and-third-requires
+second-and-third-requires : tie.Need-second_and_third-rest-requires
 second-and-third-requires c κs = search rules
 
-returns : tie.Need-returns
+returns : tie.Need-returns-then-n-a
 returns c =
-    let l-first = c.before.before.before.before in
-    let st = entry l-first in
-    late-a st.args.p.now st.args.n.0 st.args.kind (is-pair st) (omega (arith, l-first.first.ensures, c.if1.true))
+    let l-first = c in
+    let st = c in
+    late-a st.args.p.now st.args.n.0 st.args.kind (is-pair c.before.before.before.before.before.before) (omega (arith, l-first.first-a.ensures, c.if-n-a.true))
 
-returns-2 : tie.Need-returns-2
+returns-2 : tie.Need-returns-then-n-rest
 returns-2 c =
-    let l-second-and-third = c.before.before.before.before in
-    let st = entry l-second-and-third.before in
-    late-rest st.args.p.now st.args.n.0 st.args.kind (is-pair st) (omega (arith, l-second-and-third.second-and-third.ensures, c.if2.true))
+    let l-second-and-third = c in
+    let st = c in
+    late-rest st.args.p.now st.args.n.0 st.args.kind (is-pair c.before.before.before.before.before.before.before) (omega (arith, l-second-and-third.second_and_third-rest.ensures, c.if-n-rest.true))
 
-width-of-requires : tie.Need-width-of-requires
+width-of-requires : tie.Need-width_of-wa-requires
 width-of-requires c κs = search rules
 
-width-of-requires-2 : tie.Need-width-of-requires-2
+width-of-requires-2 : tie.Need-width_of-wb-requires
 width-of-requires-2 c κs = search rules
 
-width-of-requires-3 : tie.Need-width-of-requires-3
+width-of-requires-3 : tie.Need-width_of-width-requires
 width-of-requires-3 c κs = search rules
 
-width-over-requires : tie.Need-width-over-requires
+width-over-requires : tie.Need-width_over-requires
 width-over-requires c κs = search rules
 
 low-requires : tie.Need-low-requires
@@ -52,16 +49,16 @@ low-requires c κs = search rules
 high-requires : tie.Need-high-requires
 high-requires c κs = search rules
 
-set-of-requires : tie.Need-set-of-requires
+set-of-requires : tie.Need-set_of-requires
 set-of-requires c κs = search rules
 
-set-of-requires-2 : tie.Need-set-of-requires-2
+set-of-requires-2 : tie.Need-set_of-requires-2
 set-of-requires-2 c κs = search rules
 
-set-of-requires-3 : tie.Need-set-of-requires-3
+set-of-requires-3 : tie.Need-set_of-requires-3
 set-of-requires-3 c κs = search rules
 
-returns-3 : tie.Need-returns-3
+returns-3 : tie.Need-returns
 returns-3 c =
     let l-set-of3 = c in
     let l-set-of2 = l-set-of3.before in
@@ -79,20 +76,20 @@ returns-3 c =
     let st = entry l-first in
     let ws = st.args.p.now in
     let n = st.args.n.0 in
-    let own : Own ws n l-width-of3.width-of3.result l-low.low.result l-high.high.result l-set-of.set-of.result =
-    record { width_is = l-width-of3.width-of3.ensures.0; x-is = l-low.low.ensures; y-is = l-high.high.ensures; set_is = l-set-of.set-of.ensures.0 } in
-    let word = l-second-and-third.second-and-third.ensures in
-    let la : l-first.first.result.0 < n = omega (arith, l-if1.if1.false) in
-    let rest : word_at ws n 1 / 65536 < n = omega (arith, word, l-if2.if2.false) in
-    let no-c : op_c ws n ≡ 0 = omega (arith, rest, st.pre.0.1) in
-    let at_b : l-second-and-third.second-and-third.result ≡ op_b ws n = omega (arith, word, no-c) in
-    let lb : l-second-and-third.second-and-third.result < n = omega (arith, l-if2.if2.false) in
-    pair-at ws n (omega (arith, l-first.first.ensures, la)) (rw at_b at lb) no-c st.args.kind (is-pair st) own
-    (width-before ws n l-first.first.ensures la l-width-of.width_of_lem.ensures.0) (width-before ws n at_b lb l-width-of2.width-of2.ensures.0)
-    (set_before ws n l-first.first.ensures la l-set-of2.set-of2.ensures.0) (set_before ws n at_b lb l-set-of3.set-of3.ensures.0) l-width-over.width-over.ensures
+    let own : Own ws n l-width-of3.width_of-width.result l-low.low.result l-high.high.result l-set-of.set_of.result =
+    record { width_is = l-width-of3.width_of-width.ensures.0; x-is = l-low.low.ensures; y-is = l-high.high.ensures; set_is = l-set-of.set_of.ensures.0 } in
+    let word = l-second-and-third.second_and_third-rest.ensures in
+    let la : l-first.first-a.result.0 < n = omega (arith, l-if1.if-n-a.false) in
+    let rest : word_at ws n 1 / 65536 < n = omega (arith, word, l-if2.if-n-rest.false) in
+    let no-c : op_c ws n ≡ 0 = omega (arith, rest, st.requires.0.1) in
+    let at_b : l-second-and-third.second_and_third-rest.result ≡ op_b ws n = omega (arith, word, no-c) in
+    let lb : l-second-and-third.second_and_third-rest.result < n = omega (arith, l-if2.if-n-rest.false) in
+    pair-at ws n (omega (arith, l-first.first-a.ensures, la)) (rw at_b at lb) no-c st.args.kind (is-pair st) own
+    (width-before ws n l-first.first-a.ensures la l-width-of.width_of-wa.ensures.0) (width-before ws n at_b lb l-width-of2.width_of-wb.ensures.0)
+    (set_before ws n l-first.first-a.ensures la l-set-of2.set_of-2.ensures.0) (set_before ws n at_b lb l-set-of3.set_of-3.ensures.0) l-width-over.width_over.ensures
 
-pub pair-ok-spec : {M : Type 1} → statement M
-pair-ok-spec =
+pub pair_ok_spec : {M : Type 1} → statement M
+pair_ok_spec =
     tie.close
     (tie.spec
     first-requires

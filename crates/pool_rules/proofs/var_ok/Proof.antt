@@ -6,34 +6,31 @@ use borrow.Author.Rules.{rules}
 use Rattle.pool_rules.proofs.var_ok.Statement.{statement}
 use Rattle.pool_rules.proofs.var_ok.Tie as tie
 
-abbrev entry : tie.After-low → tie.Start
-entry c = c.before.before
-
-low-requires : tie.Need-low-requires
+low-requires : tie.Need-low-x-requires
 low-requires c κs = search rules
 
-returns : tie.Need-returns
+returns : tie.Need-returns-then-x-ge32
 returns c =
-    let l-low = c.before in
-    let st = entry l-low in
-    var-late st.args.p.now st.args.n.0 (omega (arith, l-low.low.ensures, c.if1.true))
+    let l-low = c in
+    let st = c in
+    var-late st.args.p.now st.args.n.0 (omega (arith, l-low.low-x.ensures, c.if-x-ge32.true))
 
-width-of-requires : tie.Need-width-of-requires
+width-of-requires : tie.Need-width_of-requires
 width-of-requires c κs = search rules
 
-operand-word-requires : tie.Need-operand-word-requires
+operand-word-requires : tie.Need-operand_word-requires
 operand-word-requires c κs = search rules
 
 high-requires : tie.Need-high-requires
 high-requires c κs = search rules
 
-set-of-requires : tie.Need-set-of-requires
+set-of-requires : tie.Need-set_of-requires
 set-of-requires c κs = search rules
 
-shl-result : tie.Need-overflow-shl-result
+shl-result : tie.Need-overflow_shl-result
 shl-result c = search rules
 
-returns-2 : tie.Need-returns-2
+returns-2 : tie.Need-returns
 returns-2 c =
     let l-set-of = c in
     let l-high = l-set-of.before in
@@ -44,12 +41,12 @@ returns-2 c =
     let st = entry l-low in
     let ws = st.args.p.now in
     let n = st.args.n.0 in
-    let own : Own ws n l-width-of.width_of_lem.result l-low.low.result l-high.high.result l-set-of.set-of.result =
-    record { width_is = l-width-of.width_of_lem.ensures.0; x-is = l-low.low.ensures; y-is = l-high.high.ensures; set_is = l-set-of.set-of.ensures.0 } in
-    var-at ws n own l-if1.if1.false l-operand-word.operand-word.ensures (shifted l-low.low.result (omega (arith, l-if1.if1.false)))
+    let own : Own ws n l-width-of.width_of.result l-low.low-x.result l-high.high.result l-set-of.set_of.result =
+    record { width_is = l-width-of.width_of.ensures.0; x-is = l-low.low-x.ensures; y-is = l-high.high.ensures; set_is = l-set-of.set_of.ensures.0 } in
+    var-at ws n own l-if1.if-x-ge32.false l-operand-word.operand_word.ensures (shifted l-low.low-x.result (omega (arith, l-if1.if-x-ge32.false)))
 
-pub var-ok-spec : {M : Type 1} → statement M
-var-ok-spec =
+pub var_ok_spec : {M : Type 1} → statement M
+var_ok_spec =
     tie.close
     (tie.spec
     low-requires

@@ -4,19 +4,19 @@ use borrow.Author.Rules.{rules}
 use Rattle.pool_rules.proofs.width_over.Statement.{statement}
 use Rattle.pool_rules.proofs.width_over.Tie as tie
 
-add-result : tie.Need-overflow-add-result
+add-result : tie.Need-overflow_add-result
 add-result c = search rules
 
-returns : tie.Need-returns
-returns c = rw (eq-eqb c.before.args.kind 17 c.if1.true)
+returns : tie.Need-returns-then-kind-eq-CONCAT
+returns c = rw (eq-eqb c.args.kind 17 c.if-kind-eq-CONCAT.true)
 
-returns-2 : tie.Need-returns-2
+returns-2 : tie.Need-returns-then-kind-lt-EQ
 returns-2 c =
-    let e = c.before in rw (ne_eqb e.before.args.kind 17 e.if1.false, lt-ltb e.before.args.kind 12 c.if2.true)
+    let e = c in rw (ne_eqb e.args.kind 17 e.if-kind-eq-CONCAT.false, lt-ltb e.args.kind 12 c.if-kind-lt-EQ.true)
 
-returns-3 : tie.Need-returns-3
+returns-3 : tie.Need-returns
 returns-3 c =
-    let e = c.before in rw (ne_eqb e.before.args.kind 17 e.if1.false, le-ltb e.before.args.kind 12 c.if2.false)
+    let e = c in rw (ne_eqb e.args.kind 17 e.if-kind-eq-CONCAT.false, le-ltb e.args.kind 12 c.if-kind-lt-EQ.false)
 
-pub width-over-spec : {M : Type 1} → statement M
-width-over-spec = tie.close (tie.spec add-result returns returns-2 returns-3)
+pub width_over_spec : {M : Type 1} → statement M
+width_over_spec = tie.close (tie.spec add-result returns returns-2 returns-3)

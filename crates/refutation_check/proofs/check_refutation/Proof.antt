@@ -13,105 +13,96 @@ use borrow.Author.Rules.{rules}
 use Rattle.refutation_check.proofs.check_refutation.Statement.{statement}
 use Rattle.refutation_check.proofs.check_refutation.Tie as tie
 
-abbrev entry : tie.After-graph-check → tie.Start
-entry c = c.before.before.before.before.before
+good : (c : tie.Else-not-graph_check) → let a = c.args in graph_ok a.graph.now a.count ≡ true
+good c = sym c.graph_check.ensures ∙ not-false _ c.if-not-graph_check.false-raw
 
-good : (c : tie.Else1) → let a = (entry c.before).args in graph_ok a.graph.now a.count ≡ true
-good c = sym c.before.graph-check.ensures ∙ not-false _ c.if1.false
-
-fits : (c : tie.Else1) → let a = (entry c.before).args in a.count ≤ length a.graph.now
-fits c = let a = (entry c.before).args in count_fits a.graph.now a.count (good c)
+fits : (c : tie.Else-not-graph_check) → let a = c.args in a.count ≤ length a.graph.now
+fits c = let a = c.args in count_fits a.graph.now a.count (good c)
 
 -- past the tests
-abbrev passed : tie.Else4 → tie.Else1
-passed c = c.before.before.before
-
-abbrev called : tie.After-refused-step → tie.Else4
-called c = c.before.before.before
-
 -- the marks that are lent on, one for each literal
-prefix : (c : tie.Else4) → let a = (entry (passed c).before).args in length (take (literal_of a.count) a.marks.now) ≡ literal_of a.count
-prefix c = let a = (entry (passed c).before).args in length-take-le (literal_of a.count) a.marks.now c.before.if3.false
+prefix : (c : tie.Else-starts-words) → let a = c.args in length (take (literal_of a.count) a.marks.now) ≡ literal_of a.count
+prefix c = let a = c.args in length-take-le (literal_of a.count) a.marks.now c.if-marks-limit.false
 
-graph-check-requires : tie.Need-graph-check-requires
+graph-check-requires : tie.Need-graph_check-requires
 graph-check-requires c κs = search rules
 
-returns : tie.Need-returns
+returns : tie.Need-returns-then-not-graph_check
 returns c =
-    let a = (entry c.before).args in
+    let a = c.args in
     bad-graph a.graph.now a.count a.l.0 a.words.now (length a.marks.now) (length a.starts.now)
-    (sym c.before.graph-check.ensures ∙ not-true _ c.if1.true)
+    (sym c.graph_check.ensures ∙ not-true _ c.if-not-graph_check.true-raw)
 
-add-variables : tie.Need-overflow-add-variables
-add-variables c = omega (arith, fits c, (entry c.before).well-formed)
+add-variables : tie.Need-overflow_add-variables
+add-variables c = omega (arith, fits c, c.well-formed)
 
-returns-2 : tie.Need-returns-2
+returns-2 : tie.Need-returns-then-variables-literal
 returns-2 c =
-    let a = (entry c.before.before).args in
-    bad-literal a.graph.now a.count a.l.0 a.words.now (length a.marks.now) (length a.starts.now) (good c.before) c.if2.true
+    let a = c.args in
+    bad-literal a.graph.now a.count a.l.0 a.words.now (length a.marks.now) (length a.starts.now) (good c.before) c.if-variables-literal.true
 
-mul-limit : tie.Need-overflow-mul-limit
-mul-limit c = omega (arith, fits c.before, (entry c.before.before).well-formed)
+mul-limit : tie.Need-overflow_mul-limit
+mul-limit c = omega (arith, fits c.before, c.well-formed)
 
-returns-3 : tie.Need-returns-3
+returns-3 : tie.Need-returns-then-marks-limit
 returns-3 c =
-    let z = c.before.before in
-    let a = (entry z.before).args in
-    short-marks a.graph.now a.count a.l.0 a.words.now (length a.marks.now) (length a.starts.now) (good z)
-    c.before.if2.false c.if3.true
+    let z = c in
+    let a = z.args in
+    short-marks a.graph.now a.count a.l.0 a.words.now (length a.marks.now) (length a.starts.now) (good c.before.before)
+    c.if-variables-literal.false c.if-marks-limit.true
 
-returns-4 : tie.Need-returns-4
+returns-4 : tie.Need-returns-then-starts-words
 returns-4 c =
-    let m = c.before in
-    let z = m.before.before in
-    let a = (entry z.before).args in
-    short-starts a.graph.now a.count a.l.0 a.words.now (length a.marks.now) (length a.starts.now) (good z) m.before.if2.false
-    m.if3.false c.if4.true
+    let m = c in
+    let z = c in
+    let a = z.args in
+    short-starts a.graph.now a.count a.l.0 a.words.now (length a.marks.now) (length a.starts.now) (good c.before.before.before) m.if-variables-literal.false
+    m.if-marks-limit.false c.if-starts-words.true
 
-slice-relend-prefix-refused-step : tie.Need-slice-relend-prefix-refused-step
+slice-relend-prefix-refused-step : tie.Need-slice_bounds-refused_step-end
 slice-relend-prefix-refused-step c = search rules
 
-slice-aggregate-refused-step : tie.Need-slice-aggregate-refused-step
+slice-aggregate-refused-step : tie.Need-slice_bounds-refused_step-end-2
 slice-aggregate-refused-step c = sym (prefix c.before.before)
 
-refused-step-requires : tie.Need-refused-step-requires
+refused-step-requires : tie.Need-refused_step-step-requires
 refused-step-requires c κs =
-    let s = c.before.before in (good (passed s), s.before.before.if2.false, prefix s, s.if4.false)
+    let s = c in (good c.before.before.before.before.before, s.if-variables-literal.false, prefix c.before.before, s.if-starts-words.false)
 
-same_length : tie.Need-same-length
+same_length : tie.Need-shape_of-marks-then-step-eq0
 same_length c = search rules
 
-same-length-2 : tie.Need-same-length-2
+same-length-2 : tie.Need-shape_of-starts-then-step-eq0
 same-length-2 c = search rules
 
-returns-5 : tie.Need-returns-5
+returns-5 : tie.Need-returns-then-step-eq0
 returns-5 c =
-    let r = c.before.before.before.before.before in
-    let s = called r in
-    let m = s.before in
-    let z = passed s in
-    let a = (entry z.before).args in
-    accepted a.graph.now a.count a.l.0 a.words.now (length a.marks.now) (length a.starts.now) (good z) m.before.if2.left
-    m.if3.left s.if4.left (sym r.refused-step.ensures ∙ c.if5.true)
+    let r = c in
+    let s = c in
+    let m = c in
+    let z = c in
+    let a = z.args in
+    accepted a.graph.now a.count a.l.0 a.words.now (length a.marks.now) (length a.starts.now) (good c.before.before.before.before.before.before.before.before.before.before.before) m.if2.left
+    m.if3.left s.if4.left (sym r.refused_step-step.ensures ∙ c.if-step-eq0.true)
 
-same-length-3 : tie.Need-same-length-3
+same-length-3 : tie.Need-shape_of-marks
 same-length-3 c = search rules
 
-same-length-4 : tie.Need-same-length-4
+same-length-4 : tie.Need-shape_of-starts
 same-length-4 c = search rules
 
-returns-6 : tie.Need-returns-6
+returns-6 : tie.Need-returns
 returns-6 c =
-    let r = c.before.before.before.before.before in
-    let s = called r in
-    let m = s.before in
-    let z = passed s in
-    let a = (entry z.before).args in
-    refused a.graph.now a.count a.l.0 a.words.now (length a.marks.now) (length a.starts.now) (good z) m.before.if2.left
-    m.if3.left s.if4.left (λ e. c.if5.false (r.refused-step.ensures ∙ e)) r.refused-step.result r.refused-step.ensures
+    let r = c in
+    let s = c in
+    let m = c in
+    let z = c in
+    let a = z.args in
+    refused a.graph.now a.count a.l.0 a.words.now (length a.marks.now) (length a.starts.now) (good c.before.before.before.before.before.before.before.before.before.before.before) m.if2.left
+    m.if3.left s.if4.left (λ e. c.if-step-eq0.false (r.refused_step-step.ensures ∙ e)) r.refused_step-step.result r.refused_step-step.ensures
 
-pub check-refutation-spec : {M : Type 1} → statement M
-check-refutation-spec =
+pub check_refutation_spec : {M : Type 1} → statement M
+check_refutation_spec =
     tie.close
     (tie.spec
     graph-check-requires

@@ -9,85 +9,79 @@ use borrow.Author.Rules.{rules}
 use Rattle.refutation_check.proofs.graph_check.Statement.{statement}
 use Rattle.refutation_check.proofs.graph_check.Tie as tie
 
-abbrev invariant-loop : tie.invariant-loop
-invariant-loop graph count n₀ n = (n ≤ count) × (gates_ok graph n ≡ true)
+abbrev invariant-loop-n : tie.invariant-loop-n
+invariant-loop-n graph count n₀ n = (n ≤ count) × (gates_ok graph n ≡ true)
 
-abbrev decreases-loop : tie.decreases-loop
-decreases-loop graph count n₀ n = count - n
+abbrev decreases-loop-n : tie.decreases-loop-n
+decreases-loop-n graph count n₀ n = count - n
 
-abbrev entry : tie.At-loop invariant-loop decreases-loop → tie.Start invariant-loop decreases-loop
-entry c = c.before.before.before
+returns : tie.Need-returns-then-graph-count invariant-loop-n decreases-loop-n
+returns c = let a = c.args in sym (graph-short a.graph.now a.count c.if-graph-count.true)
 
-abbrev turn : tie.After-left-of invariant-loop decreases-loop → tie.In-loop invariant-loop decreases-loop
-turn c = c.before.before
+loop-holds : tie.Need-loop-n-init invariant-loop-n decreases-loop-n
+loop-holds c = (omega arith, no-gates c.args.graph.now)
 
-returns : tie.Need-returns invariant-loop decreases-loop
-returns c = let a = c.before.before.args in sym (graph-short a.graph.now a.count c.if1.true)
-
-loop-holds : tie.Need-loop-init invariant-loop decreases-loop
-loop-holds c = (omega arith, no-gates c.before.before.args.graph.now)
-
-mul-w : tie.Need-overflow-mul-w invariant-loop decreases-loop
+mul-w : tie.Need-offset_bounds-graph-n invariant-loop-n decreases-loop-n
 mul-w c = omega arith
 
-shared-slice-read-w : tie.Need-shared-slice-read-w invariant-loop decreases-loop
+shared-slice-read-w : tie.Need-bounds-graph-n invariant-loop-n decreases-loop-n
 shared-slice-read-w c = omega arith
 
-add-limit : tie.Need-overflow-add-limit invariant-loop decreases-loop
+add-limit : tie.Need-overflow_add-limit invariant-loop-n decreases-loop-n
 add-limit c = omega arith
 
-mul-limit : tie.Need-overflow-mul-limit invariant-loop decreases-loop
+mul-limit : tie.Need-overflow_mul-limit invariant-loop-n decreases-loop-n
 mul-limit c = omega arith
 
-left-of-requires : tie.Need-left-of-requires invariant-loop decreases-loop
+left-of-requires : tie.Need-left_of-requires invariant-loop-n decreases-loop-n
 left-of-requires c κs = search rules
 
-returns-2 : tie.Need-returns-2 invariant-loop decreases-loop
+returns-2 : tie.Need-returns-then-limit-left_of invariant-loop-n decreases-loop-n
 returns-2 c =
-    let t = turn c.before in
-    let a = (entry t.before).args in
-    sym (left-bad a.graph.now a.count t.before.loop.n t.loop-test.taken (rw c.before.left-of.ensures at c.if2.true))
+    let t = c in
+    let a = t.args in
+    sym (left-bad a.graph.now a.count t.loop-n.n t.loop-test.taken (rw c.left_of.ensures at c.if-limit-left_of.true))
 
-right-of-requires : tie.Need-right-of-requires invariant-loop decreases-loop
+right-of-requires : tie.Need-right_of-requires invariant-loop-n decreases-loop-n
 right-of-requires c κs = search rules
 
-returns-3 : tie.Need-returns-3 invariant-loop decreases-loop
+returns-3 : tie.Need-returns-then-limit-right_of invariant-loop-n decreases-loop-n
 returns-3 c =
-    let t = turn c.before.before.before in
-    let a = (entry t.before).args in
-    sym (right-bad a.graph.now a.count t.before.loop.n t.loop-test.taken (rw c.before.right_of.ensures at c.if3.true))
+    let t = c in
+    let a = t.args in
+    sym (right-bad a.graph.now a.count t.loop-n.n t.loop-test.taken (rw c.right_of.ensures at c.if-limit-right_of.true))
 
-add-n : tie.Need-overflow-add-n invariant-loop decreases-loop
+add-n : tie.Need-overflow_add-n invariant-loop-n decreases-loop-n
 add-n c = omega arith
 
-loop-less : tie.Need-loop-smaller invariant-loop decreases-loop
+loop-less : tie.Need-loop-n-smaller invariant-loop-n decreases-loop-n
 loop-less c = omega arith
 
-loop-again : tie.Need-loop-preserved invariant-loop decreases-loop
+loop-again : tie.Need-loop-n-preserved invariant-loop-n decreases-loop-n
 loop-again c =
-    let r = c.before in
-    let o = r.before.before in
-    let t = turn o in
-    let a = (entry t.before).args in
-    let l = t.before.loop in (
+    let r = c in
+    let o = c in
+    let t = c in
+    let a = t.args in
+    let l = t.loop-n in (
       omega arith,
-      gates-more a.graph.now l.n l.inv.1 (rw o.left-of.ensures at r.before.if2.false) (rw r.right_of.ensures at c.if3.false),
+      gates-more a.graph.now l.n l.inv.1 (rw o.left_of.ensures at r.if-limit-left_of.false) (rw r.right_of.ensures at c.if-limit-right_of.false),
     )
 
-returns-4 : tie.Need-returns-4 invariant-loop decreases-loop
+returns-4 : tie.Need-returns invariant-loop-n decreases-loop-n
 returns-4 c =
-    let l = c.before.loop in
-    let s = entry c.before in
+    let l = c.loop-n in
+    let s = c in
     let a = s.args in
     let e : l.n ≡ a.count = omega arith in
-    sym (graph-good a.graph.now a.count c.before.before.if1.false (rw e at l.invariant.1))
+    sym (graph-good a.graph.now a.count c.if-graph-count.false (rw e at l.invariant.1))
 
-pub graph-check-spec : {M : Type 1} → statement M
-graph-check-spec =
+pub graph_check_spec : {M : Type 1} → statement M
+graph_check_spec =
     tie.close
     (tie.spec
-    invariant-loop
-    decreases-loop
+    invariant-loop-n
+    decreases-loop-n
     returns
     loop-holds
     mul-w

@@ -13,58 +13,52 @@ use borrow.Author.Rules.{rules}
 use Rattle.refutation_check.proofs.refused_step.Statement.{statement}
 use Rattle.refutation_check.proofs.refused_step.Tie as tie
 
-abbrev invariant-loop : tie.invariant-loop
-invariant-loop graph count l words starts₀ marks₀ k₀ at₀ starts marks k at = Going graph count l words starts k at marks × (length starts ≡ length starts₀)
+abbrev invariant-loop-count : tie.invariant-loop-count
+invariant-loop-count graph count l words starts₀ marks₀ k₀ at₀ starts marks k at = Going graph count l words starts k at marks × (length starts ≡ length starts₀)
 
-abbrev decreases-loop : tie.decreases-loop
-decreases-loop graph count l words starts₀ marks₀ k₀ at₀ starts marks k at = length words - at
+abbrev decreases-loop-count : tie.decreases-loop-count
+decreases-loop-count graph count l words starts₀ marks₀ k₀ at₀ starts marks k at = length words - at
 
-abbrev entry : tie.At-loop invariant-loop decreases-loop → tie.Start invariant-loop decreases-loop
-entry c = c.before.before.before.before.before.before.before.before.before
-
-abbrev turn : tie.After-step invariant-loop decreases-loop → tie.At-loop invariant-loop decreases-loop
-turn c = c.before.before.before
-
-abbrev ok_at : tie.At-loop invariant-loop decreases-loop → Bool
+abbrev ok_at : tie.At-loop-count invariant-loop-count decreases-loop-count → Bool
 ok_at c =
-    let a = (entry c).args in
-    let l = c.loop in step_ok a.graph.now a.count (clauses_to a.words.now l.starts a.l l.k) (drop l.at a.words.now)
+    let a = c.args in
+    let l = c.loop-count in step_ok a.graph.now a.count (clauses_to a.words.now l.starts a.l l.k) (drop l.at a.words.now)
 
-abbrev marks_now : tie.After-step invariant-loop decreases-loop → List ℕ
-marks_now c = c.step.new.1.1.1.1.1.1.1.0
+abbrev marks_now : tie.After-step-next invariant-loop-count decreases-loop-count → List ℕ
+marks_now c = c.step-next.new.1.1.1.1.1.1.1.0
 
 -- the step is accepted, and the next one's place
 accepted :
-    (c : tie.Else1 invariant-loop decreases-loop)
+    (c : tie.Else-next-eq0 invariant-loop-count decreases-loop-count)
     → let s = c.before.before.before in let t = turn s in
-    (ok_at t ≡ true) × (s.step.result ≡ after_step (entry t).args.words.now t.loop.at)
+    (ok_at t ≡ true) × (s.step-next.result ≡ after_step (entry t).args.words.now t.loop-count.at)
 accepted c =
     let s = c.before.before.before in
     let t = turn s in
     let ws = (entry t).args.words.now in
-    let h = skipped ws t.loop.at in skip-some (ok_at t) (h + get_or ws h 0) s.step.result s.step.ensures.0 c.if1.false
+    let h = skipped ws t.loop-count.at in skip-some (ok_at t) (h + get_or ws h 0) s.step-next.result s.step-next.ensures.0 c.if-next-eq0.false
 
 long :
-    (c : tie.After-step invariant-loop decreases-loop) → length (marks_now c) ≡ length (entry (turn c)).args.marks.now
-long c = c.step.auto.1.1.1.1.1.1.1.0 ∙ (turn c).loop.invariant.0.ready.room ∙ sym (entry (turn c)).pre.2
+    (c : tie.After-step-next invariant-loop-count decreases-loop-count) → length (marks_now c) ≡ length (entry (turn c)).args.marks.now
+long c = c.step-next.auto.1.1.1.1.1.1.1.0 ∙ (turn c).loop-count.invariant.0.ready.room ∙ sym (entry (turn c)).requires.2
 
 -- the step's place is in the words, and it has a place of its own
 within :
-    (c : tie.Else1 invariant-loop decreases-loop)
-    → let t = turn c.before.before.before in let ws = (entry t).args.words.now in let l = t.loop in
+    (c : tie.Else-next-eq0 invariant-loop-count decreases-loop-count)
+    → let t = turn c.before.before.before in let ws = (entry t).args.words.now in let l = t.loop-count in
     (l.at < after_step ws l.at) × (after_step ws l.at ≤ length ws) × (l.k < length l.starts)
     × (length l.starts ≡ length (entry t).args.starts.now)
 within c =
-    let l = (turn c.before.before.before).loop in
+    let l = (turn c.before.before.before).loop-count in
     let ok = (accepted c).0 in (omega arith, step-ends l.inv.0 ok, place-left l.inv.0 ok, l.inv.1)
 
-clear-requires : tie.Need-clear-requires invariant-loop decreases-loop
+clear-requires : tie.Need-clear-requires invariant-loop-count decreases-loop-count
 clear-requires c κs = search rules
 
-loop-holds : tie.Need-loop-init invariant-loop decreases-loop
+loop-holds : tie.Need-loop-count-init invariant-loop-count decreases-loop-count
 loop-holds c =
-    let f = c.before.before in
-    let s = f.before.before.before.before.before.before in
+    let f = c in
+    let s = c in
     let a = s.args in
     let p = s.requires in (
       going-first a.graph.now a.count a.l a.words.now a.starts.now f.clear.new.0 p.0 p.1 (f.clear.auto.0 ∙ p.2) p.3
@@ -72,70 +66,70 @@ loop-holds c =
       refl,
     )
 
-step-requires : tie.Need-step-requires invariant-loop decreases-loop
-step-requires c κs = let g = c.before.before.loop.invariant.0 in (g.ready, g.before)
+step-requires : tie.Need-step-next-requires invariant-loop-count decreases-loop-count
+step-requires c κs = let g = c.loop-count.invariant.0 in (g.ready, g.before)
 
-same_length : tie.Need-same-length invariant-loop decreases-loop
-same_length c = (turn c.before.before.before).loop.inv.1
+same_length : tie.Need-shape_of-starts-then-next-eq0 invariant-loop-count decreases-loop-count
+same_length c = c.loop-count.invariant.1
 
-same-length-2 : tie.Need-same-length-2 invariant-loop decreases-loop
+same-length-2 : tie.Need-shape_of-marks-then-next-eq0 invariant-loop-count decreases-loop-count
 same-length-2 c = long c.before.before.before
 
-returns : tie.Need-returns invariant-loop decreases-loop
+returns : tie.Need-returns-then-next-eq0 invariant-loop-count decreases-loop-count
 returns c =
-    let s = c.before.before.before in
-    let t = turn s in
-    let ws = (entry t).args.words.now in
-    let h = skipped ws t.loop.at in
-    going-refused t.loop.inv.0 (skip-none (ok_at t) (h + get_or ws h 0) s.step.result s.step.ensures.0 c.if1.true)
+    let s = c in
+    let t = c in
+    let ws = t.args.words.now in
+    let h = skipped ws t.loop-count.at in
+    going-refused t.loop-count.invariant.0 (skip-none (ok_at c.before.before.before.before.before) (h + get_or ws h 0) s.step-next.result s.step-next.ensures.0 c.if-next-eq0.true)
 
-mul-if2 : tie.Need-overflow-mul-if2 invariant-loop decreases-loop
-mul-if2 c = let s = entry (turn c.before.before.before) in omega (arith, within c, s.good)
+mul-if2 : tie.Need-offset_bounds-words-at invariant-loop-count decreases-loop-count
+mul-if2 c = let s = c in omega (arith, within c, s.good)
 
-shared-slice-read-if2 : tie.Need-shared-slice-read-if2 invariant-loop decreases-loop
+shared-slice-read-if2 : tie.Need-bounds-words-at invariant-loop-count decreases-loop-count
 shared-slice-read-if2 c = omega (arith, within c.before)
 
-same-length-3 : tie.Need-same-length-3 invariant-loop decreases-loop
-same-length-3 c = (turn c.before.before.before.before.before).loop.inv.1
+same-length-3 : tie.Need-shape_of-starts-then-words-at-eq0 invariant-loop-count decreases-loop-count
+same-length-3 c = c.loop-count.invariant.1
 
-same-length-4 : tie.Need-same-length-4 invariant-loop decreases-loop
+same-length-4 : tie.Need-shape_of-marks-then-words-at-eq0 invariant-loop-count decreases-loop-count
 same-length-4 c = long c.before.before.before.before.before
 
-returns-2 : tie.Need-returns-2 invariant-loop decreases-loop
+returns-2 : tie.Need-returns-then-words-at-eq0 invariant-loop-count decreases-loop-count
 returns-2 c =
-    let z = c.before.before in
-    let t = turn z.before.before.before in
-    going_done t.loop.inv.0 (accepted z).0 c.if2.true
+    let z = c in
+    let t = c in
+    going_done t.loop-count.invariant.0 (accepted z).0 c.if-words-at-eq0.true
 
-mul-starts : tie.Need-overflow-mul-starts invariant-loop decreases-loop
-mul-starts c = let s = entry (turn c.before.before.before.before.before) in omega (arith, within c.before.before, s.good)
+mul-starts : tie.Need-offset_bounds-starts-k invariant-loop-count decreases-loop-count
+mul-starts c = let s = c in omega (arith, within c.before.before, s.good)
 
-slice-write-starts : tie.Need-slice-write-starts invariant-loop decreases-loop
+slice-write-starts : tie.Need-bounds-starts-k invariant-loop-count decreases-loop-count
 slice-write-starts c = (within c.before.before).2
 
-add-k : tie.Need-overflow-add-k invariant-loop decreases-loop
-add-k c = let s = entry (turn c.before.before.before.before.before) in omega (arith, within c.before.before, s.good)
+add-k : tie.Need-overflow_add-k invariant-loop-count decreases-loop-count
+add-k c = let s = c in omega (arith, within c.before.before, s.good)
 
-loop-less : tie.Need-loop-smaller invariant-loop decreases-loop
-loop-less c = let z = c.before.before in omega (arith, within z, (accepted z).1)
+loop-less : tie.Need-loop-count-smaller invariant-loop-count decreases-loop-count
+loop-less c = let z = c in omega (arith, within z, (accepted z).1)
 
-loop-again : tie.Need-loop-preserved invariant-loop decreases-loop
+loop-again : tie.Need-loop-count-preserved invariant-loop-count decreases-loop-count
 loop-again c =
-    let z = c.before.before in
-    let s = z.before.before.before in
-    let t = turn s in
-    let l = t.loop in
+    let z = c in
+    let s = c in
+    let t = c in
+    let l = t.loop-count in
     let p = accepted z in (
-      rw p.1 (going_on l.inv.0 p.0 (marks_now s) c.if2.false s.step.auto.1.1.1.1.1.1.1.0 s.step.ensures.1),
+      rw p.1 (going_on l.inv.0 p.0 (marks_now c.before.before.before.before.before) c.if-words-at-eq0.false s.step-next.auto.1.1.1.1.1.1.1.0 s.step-next.ensures.1),
       length-set l.starts l.k l.at ∙ l.inv.1,
     )
 
-pub refused-step-spec : {M : Type 1} → statement M
-refused-step-spec =
+pub refused_step_spec : {M : Type 1} → statement M
+refused_step_spec =
     tie.close
     (tie.spec
-    invariant-loop
-    decreases-loop
+    invariant-loop-count
+    decreases-loop-count
     clear-requires
     loop-holds
     step-requires

@@ -18,9 +18,6 @@ use borrow.Author.Rules.{rules}
 use Rattle.refutation_check.proofs.step.Statement.{statement}
 use Rattle.refutation_check.proofs.step.Tie as tie
 
-abbrev entry : tie.After-skip → tie.Start
-entry c = c.before.before.before.before.before
-
 abbrev words_in : tie.Start → List ℕ
 words_in s = s.args.words.now
 
@@ -29,27 +26,27 @@ steps_in s = let a = s.args in clauses_to a.words.now a.starts.now a.l a.k
 
 -- the clause is there, and the hints after it
 clause-there :
-    (c : tie.Else1)
-    → let s = entry c.before in (whole (drop s.args.at (words_in s)) ≡ true) × (c.before.skip.result ≡ skipped (words_in s) s.args.at)
+    (c : tie.Else-hints-eq0)
+    → let s = entry c.before in (whole (drop s.args.at (words_in s)) ≡ true) × (c.before.skip-hints.result ≡ skipped (words_in s) s.args.at)
 clause-there c =
     let s = entry c.before in
     let at = s.args.at in
-    skip-some (whole (drop at (words_in s))) (at + get_or (words_in s) at 0) c.before.skip.result c.before.skip.ensures c.if1.false
+    skip-some (whole (drop at (words_in s))) (at + get_or (words_in s) at 0) c.before.skip-hints.result c.before.skip-hints.ensures c.if-hints-eq0.false
 
 hints-there :
-    (c : tie.Else2)
-    → let h = c.before.before.before in let ws = words_in (entry h) in let at = h.skip.result in
-    (whole (drop at ws) ≡ true) × (c.before.skip2.result ≡ skipped ws at)
+    (c : tie.Else-end-eq0)
+    → let h = c.before.before.before in let ws = words_in (entry h) in let at = h.skip-hints.result in
+    (whole (drop at ws) ≡ true) × (c.before.skip-end.result ≡ skipped ws at)
 hints-there c =
     let h = c.before.before.before in
     let ws = words_in (entry h) in
-    let at = h.skip.result in skip-some (whole (drop at ws)) (at + get_or ws at 0) c.before.skip2.result c.before.skip2.ensures c.if2.false
+    let at = h.skip-hints.result in skip-some (whole (drop at ws)) (at + get_or ws at 0) c.before.skip-end.result c.before.skip-end.ensures c.if-end-eq0.false
 
 -- the ends of the clause and of the hints
 ends :
-    (c : tie.Else2)
-    → let h = c.before.before.before in let s = entry h in let e = c.before.skip2.result in
-    (s.args.at + 1 ≤ h.skip.result) × (h.skip.result + 1 ≤ e) × (e ≤ length (words_in s))
+    (c : tie.Else-end-eq0)
+    → let h = c.before.before.before in let s = entry h in let e = c.before.skip-end.result in
+    (s.args.at + 1 ≤ h.skip-hints.result) × (h.skip-hints.result + 1 ≤ e) × (e ≤ length (words_in s))
 ends c =
     let h = c.before.before.before in
     let s = entry h in
@@ -57,33 +54,24 @@ ends c =
     let q = hints-there c in (
       omega (arith, p.1),
       omega (arith, q.1),
-      omega (arith, q.1, whole-fits (words_in s) h.skip.result q.0),
+      omega (arith, q.1, whole-fits (words_in s) h.skip-hints.result q.0),
     )
 
 -- past the marks
-abbrev both : tie.Else3 → tie.Else2
-both c = c.before.before.before.before.before
+abbrev marks_now : tie.Else-not-set_false → List ℕ
+marks_now c = c.set_false.new.1.1.1.1.0
 
-abbrev marks_now : tie.Else3 → List ℕ
-marks_now c = c.before.before.before.set-false.new.1.1.1.1.0
+same-marks : (c : tie.Else-not-set_false) → length (marks_now c) ≡ length c.args.marks.now
+same-marks c = c.set_false.auto.1.1.1.1.0
 
-same-marks : (c : tie.Else3) → length (marks_now c) ≡ length (entry (both c).before.before.before).args.marks.now
-same-marks c = c.before.before.before.set-false.auto.1.1.1.1.0
-
-some-mark : (c : tie.Else3) → 0 < length (marks_now c)
-some-mark c = omega (arith, same-marks c, (entry (both c).before.before.before).requires.0.room)
+some-mark : (c : tie.Else-not-set_false) → 0 < length (marks_now c)
+some-mark c = omega (arith, same-marks c, c.requires.0.room)
 
 all-below :
-    (c : tie.Else3)
-    → let h = (both c).before.before.before in let s = entry h in
-    all_below (literal_of s.args.count) (slice (s.args.at + 1) h.skip.result (words_in s)) ≡ true
-all-below c = sym c.before.before.before.set-false.ensures.answer ∙ not-false _ c.if3.false
-
-abbrev passed : tie.Else4 → tie.Else3
-passed c = c.before.before.before.before.before
-
-abbrev tried : tie.Then4 → tie.Else3
-tried c = c.before.before.before.before.before
+    (c : tie.Else-not-set_false)
+    → let h = c in let s = c in
+    all_below (literal_of s.args.count) (slice (s.args.at + 1) h.skip-hints.result (words_in c.before.before.before.before.before.before.before.before.before.before.before.before.before)) ≡ true
+all-below c = sym c.set_false.ensures.answer ∙ not-false _ c.if-not-set_false.false-raw
 
 -- the answer of `conflict` is that of the step
 step_is :
@@ -97,16 +85,16 @@ step_is c =
     let s = entry h in
     let a = s.args in
     let ws = words_in s in
-    let at = h.skip.result in
-    let end = b.before.skip2.result in
+    let at = h.skip-hints.result in
+    let end = b.before.skip-end.result in
     let clause = slice (a.at + 1) at ws in
     let f = clause-there b.before.before in
     let t = hints-there b in
-    let m = z.before.before.before.set-false.ensures.marks_are (not-false _ z.if3.false) in
+    let m = z.before.before.before.set_false.ensures.marks_are (not-false _ z.if-not-set_false.false-raw) in
     c.conflict.ensures.0
     ∙ ap (λ (x : ℕ → Bool). refutation.conflict a.graph.now a.count (steps_in s) x (slice (at + 1) end ws))
     (marked_more (marks_now z) 0 a.k (some-mark z)
-    ∙ ap (λ (x : ℕ → Bool). and_false x 0) (marked-clause a.marks.now (marks_now z) a.k clause s.pre.1 m))
+    ∙ ap (λ (x : ℕ → Bool). and_false x 0) (marked-clause a.marks.now (marks_now z) a.k clause s.requires.1 m))
     ∙ sym (low a.graph.now a.count (steps_in s) ws a.at at end f.1 t.1 f.0 t.0 (all-below z))
 
 after-conflict :
@@ -116,101 +104,101 @@ after-conflict c =
     let z = c.before.before in
     c.conflict.auto.1.1.1.1.1.1.1.1.0 ∙ length-set (marks_now z) 0 (entry (both z).before.before.before).args.k ∙ same-marks z
 
-skip-requires : tie.Need-skip-requires
+skip-requires : tie.Need-skip-hints-requires
 skip-requires c κs = search rules
 
-returns : tie.Need-returns
+returns : tie.Need-returns-then-hints-eq0
 returns c =
-    let h = c.before in
-    let s = entry h in
+    let h = c in
+    let s = c in
     let a = s.args in
-    let ws = words_in s in
-    let no = skip-none (whole (drop a.at ws)) (a.at + get_or ws a.at 0) h.skip.result h.skip.ensures c.if1.true in
-    (rw (no-clause a.graph.now a.count (steps_in s) ws a.at no) refl, λ x. omega (arith, s.pre.1 x))
+    let ws = words_in c.before.before.before.before.before.before in
+    let no = skip-none (whole (drop a.at ws)) (a.at + get_or ws a.at 0) h.skip-hints.result h.skip-hints.ensures c.if-hints-eq0.true in
+    (rw (no-clause a.graph.now a.count (steps_in c.before.before.before.before.before.before) ws a.at no) refl, λ x. omega (arith, s.requires.1 x))
 
-skip-requires-2 : tie.Need-skip-requires-2
+skip-requires-2 : tie.Need-skip-end-requires
 skip-requires-2 c κs = search rules
 
-returns-2 : tie.Need-returns-2
+returns-2 : tie.Need-returns-then-end-eq0
 returns-2 c =
-    let e = c.before.before in
-    let h = e.before in
-    let s = entry h in
+    let e = c in
+    let h = c in
+    let s = c in
     let a = s.args in
-    let ws = words_in s in
-    let at = h.skip.result in
+    let ws = words_in c.before.before.before.before.before.before.before.before in
+    let at = h.skip-hints.result in
     let f = clause-there e in
-    let no = skip-none (whole (drop at ws)) (at + get_or ws at 0) c.before.skip2.result c.before.skip2.ensures c.if2.true in
-    (rw (no-hints a.graph.now a.count (steps_in s) ws a.at at f.1 f.0 no) refl, λ x. omega (arith, s.pre.1 x))
+    let no = skip-none (whole (drop at ws)) (at + get_or ws at 0) c.skip-end.result c.skip-end.ensures c.if-end-eq0.true in
+    (rw (no-hints a.graph.now a.count (steps_in c.before.before.before.before.before.before.before.before) ws a.at at f.1 f.0 no) refl, λ x. omega (arith, s.requires.1 x))
 
-add-set-false : tie.Need-overflow-add-set-false
+add-set-false : tie.Need-overflow_add-at
 add-set-false c = omega (arith, ends c)
 
-add-set-false-2 : tie.Need-overflow-add-set-false-2
+add-set-false-2 : tie.Need-overflow_add-count
 add-set-false-2 c = search rules
 
-mul-set-false : tie.Need-overflow-mul-set-false
+mul-set-false : tie.Need-overflow_mul-count
 mul-set-false c = search rules
 
-set-false-requires : tie.Need-set-false-requires
+set-false-requires : tie.Need-set_false-requires
 set-false-requires c κs =
-    let b = c.before in
-    let s = entry b.before.before.before in
-    let e = ends b in (e.0, omega (arith, e), omega (arith, s.pre.0.room), λ x. omega (arith, s.pre.1 x))
+    let b = c in
+    let s = c in
+    let e = ends b in (e.0, omega (arith, e), omega (arith, s.requires.0.room), λ x. omega (arith, s.requires.1 x))
 
-same_length : tie.Need-same-length
+same_length : tie.Need-shape_of-marks-then-not-set_false
 same_length c = search rules
 
-returns-3 : tie.Need-returns-3
+returns-3 : tie.Need-returns-then-not-set_false
 returns-3 c =
-    let f = c.before.before.before in
-    let b = f.before.before in
-    let h = b.before.before.before in
-    let s = entry h in
+    let f = c in
+    let b = c in
+    let h = c in
+    let s = c in
     let a = s.args in
     let p = clause-there b.before.before in
     let t = hints-there b in
-    let no = sym f.set-false.ensures.answer ∙ not-true _ c.if3.true in (
-      rw (not_low a.graph.now a.count (steps_in s) (words_in s) a.at h.skip.result b.before.skip2.result p.1 t.1 p.0 t.0 no) refl,
-      f.set-false.ensures.at_most,
+    let no = sym f.set_false.ensures.answer ∙ not-true _ c.if-not-set_false.true-raw in (
+      rw (not_low a.graph.now a.count (steps_in c.before.before.before.before.before.before.before.before.before.before.before.before.before) (words_in c.before.before.before.before.before.before.before.before.before.before.before.before.before) a.at h.skip-hints.result b.skip-end.result p.1 t.1 p.0 t.0 no) refl,
+      f.set_false.ensures.at_most,
     )
 
-slice-write-marks : tie.Need-slice-write-marks
+slice-write-marks : tie.Need-bounds-marks-0
 slice-write-marks c = some-mark c
 
-add-conflict : tie.Need-overflow-add-conflict
-add-conflict c = omega (arith, ends (both c))
+add-conflict : tie.Need-overflow_add-hints
+add-conflict c = omega (arith, ends c)
 
 conflict-requires : tie.Need-conflict-requires
 conflict-requires c κs =
-    let z = c.before in
-    let b = both z in
-    let s = entry b.before.before.before in
+    let z = c in
+    let b = c in
+    let s = c in
     let e = ends b in
-    let f = z.before.before.before in (
-      ready-again s.pre.0 (length-set (marks_now z) 0 s.args.k ∙ same-marks z),
+    let f = c in (
+      ready-again s.requires.0 (length-set (marks_now c.before) 0 s.args.k ∙ same-marks c.before),
       e.1,
       e.2,
-      at-most-set (marks_now z) 0 s.args.k (some-mark z) f.set-false.ensures.at_most,
+      at-most-set (marks_now c.before) 0 s.args.k (some-mark c.before) f.set_false.ensures.at_most,
     )
 
-same-length-2 : tie.Need-same-length-2
+same-length-2 : tie.Need-shape_of-marks-then-not-conflict
 same-length-2 c = after-conflict c.before.before.before
 
-returns-4 : tie.Need-returns-4
+returns-4 : tie.Need-returns-then-not-conflict
 returns-4 c =
-    let f = c.before.before.before in
-    (rw (sym (step_is f) ∙ not-true _ c.if4.true) refl, f.conflict.ensures.1)
+    let f = c in
+    (rw (sym (step_is f) ∙ not-true _ c.if-not-conflict.true-raw) refl, f.conflict.ensures.1)
 
-same-length-3 : tie.Need-same-length-3
+same-length-3 : tie.Need-shape_of-marks
 same-length-3 c = after-conflict c.before.before.before
 
-returns-5 : tie.Need-returns-5
+returns-5 : tie.Need-returns
 returns-5 c =
-    let f = c.before.before.before in
-    let b = both f.before.before in
-    let ws = words_in (entry b.before.before.before) in
-    (rw (sym (step_is f) ∙ not-false _ c.if4.false) ((hints-there b).1 ∙ ap (skipped ws) (clause-there b.before.before).1), f.conflict.ensures.1)
+    let f = c in
+    let b = c in
+    let ws = words_in c.before.before.before.before.before.before.before.before.before.before.before.before.before.before.before.before.before.before in
+    (rw (sym (step_is f) ∙ not-false _ c.if-not-conflict.false-raw) ((hints-there b).1 ∙ ap (skipped ws) (clause-there b.before.before).1), f.conflict.ensures.1)
 
 pub step_spec : {M : Type 1} → statement M
 step_spec =

@@ -20,66 +20,60 @@ use borrow.Author.Rules.{rules}
 use Rattle.refutation_hints.proofs.conflict.Statement.{statement}
 use Rattle.refutation_hints.proofs.conflict.Tie as tie
 
-abbrev invariant-loop : tie.invariant-loop
-invariant-loop graph count l words starts k from to marks₀ i₀ marks i =
+abbrev invariant-loop-i : tie.invariant-loop-i
+invariant-loop-i graph count l words starts k from to marks₀ i₀ marks i =
     (i ≤ to) × (length marks ≡ length marks₀) × AtMost k marks
     × (refutation.conflict graph count (clauses_to words starts l k) (marked marks k) (slice i to words)
     ≡ refutation.conflict graph count (clauses_to words starts l k) (marked marks₀ k) (slice from to words))
 
-abbrev decreases-loop : tie.decreases-loop
-decreases-loop graph count l words starts k from to marks₀ i₀ marks i = to - i
+abbrev decreases-loop-i : tie.decreases-loop-i
+decreases-loop-i graph count l words starts k from to marks₀ i₀ marks i = to - i
 
-abbrev entry : tie.At-loop invariant-loop decreases-loop → tie.Start invariant-loop decreases-loop
-entry c = c.before.before.before.before.before
-
-abbrev turn : tie.After-left-of-hint invariant-loop decreases-loop → tie.In-loop invariant-loop decreases-loop
-turn c = c.before.before.before.before
-
-abbrev steps_in : tie.Start invariant-loop decreases-loop → List (List ℕ)
+abbrev steps_in : tie.Start invariant-loop-i decreases-loop-i → List (List ℕ)
 steps_in s = let a = s.args in clauses_to a.words.now a.starts.now a.l a.k
 
 ready :
-    (c : tie.At-loop invariant-loop decreases-loop)
-    → let a = (entry c).args in Ready a.graph.now a.count a.l a.words.now a.starts.now a.k c.loop.marks
-ready c = ready-again (entry c).requires.0 c.loop.invariant.1
+    (c : tie.At-loop-i invariant-loop-i decreases-loop-i)
+    → let a = (entry c).args in Ready a.graph.now a.count a.l a.words.now a.starts.now a.k c.loop-i.marks
+ready c = ready-again (entry c).requires.0 c.loop-i.invariant.1
 
 -- what the hint at i leaves
 left_is :
-    (c : tie.After-left-of-hint invariant-loop decreases-loop)
-    → let l = (turn c).before.loop in let s = entry (turn c).before in let a = s.args in
-    c.left-of-hint.result ≡ cited a.graph.now a.count (steps_in s) (marked l.marks a.k) (get_or a.words.now l.i 0)
+    (c : tie.After-left_of_hint-left invariant-loop-i decreases-loop-i)
+    → let l = (turn c).before.loop-i in let s = entry (turn c).before in let a = s.args in
+    c.left_of_hint-left.result ≡ cited a.graph.now a.count (steps_in s) (marked l.marks a.k) (get_or a.words.now l.i 0)
 left_is c =
-    let l = (turn c).before.loop in
+    let l = (turn c).before.loop-i in
     let s = entry (turn c).before in
     let a = s.args in
-    c.left-of-hint.ensures ∙ ap (cited a.graph.now a.count (steps_in s) (marked l.marks a.k)) c.before.wide.ensures.0
+    c.left_of_hint-left.ensures ∙ ap (cited a.graph.now a.count (steps_in s) (marked l.marks a.k)) c.before.wide.ensures.0
 
 -- it is nothing, too much, or a literal of the graph
-left-low : (c : tie.After-left-of-hint invariant-loop decreases-loop) → c.left-of-hint.result < literal_of (entry (turn c).before).args.count + 2
+left-low : (c : tie.After-left_of_hint-left invariant-loop-i decreases-loop-i) → c.left_of_hint-left.result < literal_of c.args.count + 2
 left-low c =
-    let l = (turn c).before.loop in
-    let a = (entry (turn c).before).args in
+    let l = c.loop-i in
+    let a = c.args in
     subst (λ (n : ℕ). n < literal_of a.count + 2) (sym (left_is c))
-    (cited-low (ready (turn c).before) (marked l.marks a.k) (get_or a.words.now l.i 0))
+    (cited-low (ready c.before) (marked l.marks a.k) (get_or a.words.now l.i 0))
 
-two : (c : tie.Else2 invariant-loop decreases-loop) → 2 ≤ c.before.before.left-of-hint.result
-two c = omega (arith, c.before.if1.false, c.if2.false)
+two : (c : tie.Else-left-eq1 invariant-loop-i decreases-loop-i) → 2 ≤ c.left_of_hint-left.result
+two c = omega (arith, c.if-left-eq0.false, c.if-left-eq1.false)
 
 -- the mark that is set
 place-low :
-    (c : tie.After-negate invariant-loop decreases-loop) → let t = (turn c.before.before.before).before in c.negate.result < length t.loop.marks
+    (c : tie.After-negate invariant-loop-i decreases-loop-i) → let t = (turn c.before.before.before).before in c.negate.result < length t.loop-i.marks
 place-low c =
     let h = c.before.before.before in
     let t = (turn h).before in
     let n = inputs + (entry t).args.count in
     let room = (ready t).room in
     rw c.negate.ensures
-    (negated-low (h.left-of-hint.result - 2) n (length t.loop.marks) (omega (arith, left-low h, two c.before)) (omega (arith, room)))
+    (negated-low (h.left_of_hint-left.result - 2) n (length t.loop-i.marks) (omega (arith, left-low h, two c.before)) (omega (arith, room)))
 
 -- the hints from i on
 from-here :
-    (c : tie.After-left-of-hint invariant-loop decreases-loop)
-    → let t = turn c in let l = t.before.loop in let s = entry t.before in let a = s.args in let left = c.left-of-hint.result in
+    (c : tie.After-left_of_hint-left invariant-loop-i decreases-loop-i)
+    → let t = turn c in let l = t.before.loop-i in let s = entry t.before in let a = s.args in let left = c.left_of_hint-left.result in
     let m = marked l.marks a.k in
     cond (eqb left 0) true
     (cond (eqb left 1) false
@@ -87,98 +81,98 @@ from-here :
     ≡ refutation.conflict a.graph.now a.count (steps_in s) (marked a.marks.now a.k) (slice a.from a.to a.words.now)
 from-here c =
     let t = turn c in
-    let l = t.before.loop in
+    let l = t.before.loop-i in
     let s = entry t.before in
     let a = s.args in
     let m = marked l.marks a.k in
-    sym (conflict-one a.graph.now a.count (steps_in s) m a.words.now l.i a.to c.left-of-hint.result t.loop-test.taken s.pre.2
+    sym (conflict-one a.graph.now a.count (steps_in s) m a.words.now l.i a.to c.left_of_hint-left.result t.loop-test.taken s.requires.2
     (left_is c))
     ∙ l.inv.3
 
-loop-holds : tie.Need-loop-init invariant-loop decreases-loop
-loop-holds c = (c.before.before.before.before.requires.1, refl, c.before.before.before.before.requires.3, refl)
+loop-holds : tie.Need-loop-i-init invariant-loop-i decreases-loop-i
+loop-holds c = (c.requires.1, refl, c.requires.3, refl)
 
-mul_wide : tie.Need-overflow-mul-wide invariant-loop decreases-loop
+mul_wide : tie.Need-offset_bounds-words-i invariant-loop-i decreases-loop-i
 mul_wide c = omega arith
 
-shared-slice-read-wide : tie.Need-shared-slice-read-wide invariant-loop decreases-loop
+shared-slice-read-wide : tie.Need-bounds-words-i invariant-loop-i decreases-loop-i
 shared-slice-read-wide c = omega arith
 
-wide-requires : tie.Need-wide-requires invariant-loop decreases-loop
+wide-requires : tie.Need-wide-requires invariant-loop-i decreases-loop-i
 wide-requires c κs = search rules
 
-left-of-hint-requires : tie.Need-left-of-hint-requires invariant-loop decreases-loop
+left-of-hint-requires : tie.Need-left_of_hint-left-requires invariant-loop-i decreases-loop-i
 left-of-hint-requires c κs = ready c.before.before.before.before
 
-same_length : tie.Need-same-length invariant-loop decreases-loop
-same_length c = (turn c.before).before.loop.inv.1
+same_length : tie.Need-shape_of-marks-then-left-eq0 invariant-loop-i decreases-loop-i
+same_length c = c.loop-i.invariant.1
 
-returns : tie.Need-returns invariant-loop decreases-loop
-returns c = (rw (eq-eqb _ _ c.if1.true) at (from-here c.before), (turn c.before).before.loop.inv.2)
+returns : tie.Need-returns-then-left-eq0 invariant-loop-i decreases-loop-i
+returns c = (rw (eq-eqb _ _ c.if-left-eq0.true) at (from-here c.before), c.loop-i.invariant.2)
 
-same-length-2 : tie.Need-same-length-2 invariant-loop decreases-loop
-same-length-2 c = (turn c.before.before).before.loop.inv.1
+same-length-2 : tie.Need-shape_of-marks-then-left-eq1 invariant-loop-i decreases-loop-i
+same-length-2 c = c.loop-i.invariant.1
 
-returns-2 : tie.Need-returns-2 invariant-loop decreases-loop
+returns-2 : tie.Need-returns-then-left-eq1 invariant-loop-i decreases-loop-i
 returns-2 c =
-    let h = c.before.before in
-    (rw (ne_eqb _ _ c.before.if1.false, eq-eqb _ _ c.if2.true) at (from-here h), (turn h).before.loop.invariant.2)
+    let h = c in
+    (rw (ne_eqb _ _ c.if-left-eq0.false, eq-eqb _ _ c.if-left-eq1.true) at (from-here h), h.loop-i.invariant.2)
 
-sub-negate : tie.Need-overflow-sub-negate invariant-loop decreases-loop
+sub-negate : tie.Need-overflow_sub-left invariant-loop-i decreases-loop-i
 sub-negate c = two c
 
-negate-requires : tie.Need-negate-requires invariant-loop decreases-loop
+negate-requires : tie.Need-negate-requires invariant-loop-i decreases-loop-i
 negate-requires c κs =
-    let h = c.before.before in
-    let t = (turn h).before in
-    omega (arith, left-low h, (ready t).room, t.loop.inv.1, (entry t).good)
+    let h = c in
+    let t = c in
+    omega (arith, left-low c.before.before, (ready t).room, t.loop-i.invariant.1, t.good)
 
-mul-marks : tie.Need-overflow-mul-marks invariant-loop decreases-loop
+mul-marks : tie.Need-offset_bounds-marks-negate invariant-loop-i decreases-loop-i
 mul-marks c =
-    let t = (turn c.before.before.before).before in
-    omega (arith, place-low c, t.loop.inv.1, (entry t).good)
+    let t = c in
+    omega (arith, place-low c, t.loop-i.invariant.1, t.good)
 
-slice-write-marks : tie.Need-slice-write-marks invariant-loop decreases-loop
+slice-write-marks : tie.Need-bounds-marks-negate invariant-loop-i decreases-loop-i
 slice-write-marks c = place-low c
 
-add-i : tie.Need-overflow-add-i invariant-loop decreases-loop
+add-i : tie.Need-overflow_add-i invariant-loop-i decreases-loop-i
 add-i c = omega arith
 
-loop-less : tie.Need-loop-smaller invariant-loop decreases-loop
+loop-less : tie.Need-loop-i-smaller invariant-loop-i decreases-loop-i
 loop-less c = omega arith
 
-loop-again : tie.Need-loop-preserved invariant-loop decreases-loop
+loop-again : tie.Need-loop-i-preserved invariant-loop-i decreases-loop-i
 loop-again c =
-    let z = c.before in
-    let h = z.before.before in
-    let t = (turn h).before in
-    let l = t.loop in
-    let a = (entry t).args in
+    let z = c in
+    let h = c in
+    let t = c in
+    let l = t.loop-i in
+    let a = t.args in
     let at = c.negate.result in (
       omega arith,
       length-set l.marks at a.k ∙ l.inv.1,
       at-most-set l.marks at a.k (place-low c) l.inv.2,
       rw (marked_more l.marks at a.k (place-low c), c.negate.ensures)
-          (rw (ne_eqb _ _ z.before.if1.false, ne_eqb _ _ z.if2.false) at (from-here h)),
+          (rw (ne_eqb _ _ z.if-left-eq0.false, ne_eqb _ _ z.if-left-eq1.false) at (from-here h)),
     )
 
-same-length-3 : tie.Need-same-length-3 invariant-loop decreases-loop
-same-length-3 c = c.before.loop.invariant.1
+same-length-3 : tie.Need-shape_of-marks invariant-loop-i decreases-loop-i
+same-length-3 c = c.loop-i.invariant.1
 
-returns-3 : tie.Need-returns-3 invariant-loop decreases-loop
+returns-3 : tie.Need-returns invariant-loop-i decreases-loop-i
 returns-3 c =
-    let l = c.before.loop in
-    let s = entry c.before in
+    let l = c.loop-i in
+    let s = c in
     let a = s.args in
     let e : l.i ≡ a.to = omega arith in
-    (sym (sym l.invariant.3 ∙ conflict-end a.graph.now a.count (steps_in s) (marked l.marks a.k) a.words.now l.i a.to e), l.invariant.2)
+    (sym (sym l.invariant.3 ∙ conflict-end a.graph.now a.count (steps_in c.before.before.before.before.before.before) (marked l.marks a.k) a.words.now l.i a.to e), l.invariant.2)
 
-pub conflict-spec : {M : Type 1} → statement M
-conflict-spec =
+pub conflict_spec : {M : Type 1} → statement M
+conflict_spec =
     tie.close
     (tie.spec
-    invariant-loop
-    decreases-loop
+    invariant-loop-i
+    decreases-loop-i
     loop-holds
     mul_wide
     shared-slice-read-wide

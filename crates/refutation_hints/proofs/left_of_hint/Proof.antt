@@ -10,75 +10,69 @@ use Rattle.refutation_hints.proofs.left_of_hint.Statement.{statement}
 use Rattle.refutation_hints.proofs.left_of_hint.Tie as tie
 
 -- past the test whether the hint cites a step
-abbrev of-step : tie.Then1 → tie.Start
-of-step c = c.before.before.before.before.before
-
-abbrev of-gate : tie.Else1 → tie.Start
-of-gate c = c.before.before.before.before.before
-
-returns : tie.Need-returns
+returns : tie.Need-returns-then-k-n
 returns c =
-    let a = (of-step c.before).args in
+    let a = c.args in
     sym (no_step a.words.now a.starts.now a.l a.graph.now a.count a.k (marked a.marks.now a.k) a.v
-    c.before.if1.true c.if2.true)
+    c.if-part-eq3.true c.if-k-n.true)
 
 look-requires : tie.Need-look-requires
 look-requires c κs = search rules
 
-returns-2 : tie.Need-returns-2
+returns-2 : tie.Need-returns-then-n-eq0
 returns-2 c =
-    let t = c.before.before in
-    let a = (of-step t.before).args in
+    let t = c in
+    let a = t.args in
     let m = marked a.marks.now a.k in
-    let e : a.v / 4 ≡ 0 = c.before.if3.true in
+    let e : a.v / 4 ≡ 0 = c.if-n-eq0.true in
     c.look.ensures
-    ∙ sym (cited-step a.words.now a.starts.now a.l a.graph.now a.count a.k m a.v t.before.if1.true t.if2.false
+    ∙ sym (cited-step a.words.now a.starts.now a.l a.graph.now a.count a.k m a.v t.if-part-eq3.true t.if-k-n.false
     ∙ rw e (one_left m a.l))
 
-mul-left-of-list : tie.Need-overflow-mul-left-of-list
+mul-left-of-list : tie.Need-offset_bounds-starts-n
 mul-left-of-list c = search rules
 
-shared-slice-read-left-of-list : tie.Need-shared-slice-read-left-of-list
+shared-slice-read-left-of-list : tie.Need-bounds-starts-n
 shared-slice-read-left-of-list c = search rules
 
-left-of-list-requires : tie.Need-left-of-list-requires
+left-of-list-requires : tie.Need-left_of_list-requires
 left-of-list-requires c κs =
-    let t = c.before in
-    let s = of-step t.before.before in
-    let p = s.pre.placed (s.args.v / 4) (omega (arith, t.if3.false)) (omega arith) in (p.0, rw s.pre.room p.1)
+    let t = c in
+    let s = c in
+    let p = s.requires.placed (s.args.v / 4) (omega (arith, t.if-n-eq0.false)) (omega arith) in (p.0, rw s.requires.room p.1)
 
-returns-3 : tie.Need-returns-3
+returns-3 : tie.Need-returns-then-part-eq3
 returns-3 c =
-    let z = c.before.before in
-    let t = z.before in
-    let a = (of-step t.before).args in
+    let z = c in
+    let t = c in
+    let a = t.args in
     let m = marked a.marks.now a.k in
-    c.left-of-list.ensures
-    ∙ sym (cited-step a.words.now a.starts.now a.l a.graph.now a.count a.k m a.v t.before.if1.true t.if2.false
-    ∙ rw (ne_eqb (a.v / 4) 0 z.if3.false) refl)
+    c.left_of_list.ensures
+    ∙ sym (cited-step a.words.now a.starts.now a.l a.graph.now a.count a.k m a.v t.if-part-eq3.true t.if-k-n.false
+    ∙ rw (ne_eqb (a.v / 4) 0 z.if-n-eq0.false) refl)
 
-returns-4 : tie.Need-returns-4
+returns-4 : tie.Need-returns-then-count-n
 returns-4 c =
-    let a = (of-gate c.before).args in
+    let a = c.args in
     sym (no-gate a.words.now a.starts.now a.l a.graph.now a.count a.k (marked a.marks.now a.k) a.v
-    c.before.if1.false c.if4.true)
+    c.if-part-eq3.false c.if-count-n.true)
 
-left-of-gate-requires : tie.Need-left-of-gate-requires
+left-of-gate-requires : tie.Need-left_of_gate-requires
 left-of-gate-requires c κs =
-    let s = of-gate c.before in
-    let q = gate-at s.args.graph.now s.args.count (s.args.v / 4) s.pre.good c.if4.false in
-    ((q.0, omega (arith, s.pre.room, c.if4.false)), (q.1, q.2))
+    let s = c in
+    let q = gate-at s.args.graph.now s.args.count (s.args.v / 4) s.requires.good c.if-count-n.false in
+    ((q.0, omega (arith, s.requires.room, c.if-count-n.false)), (q.1, q.2))
 
-returns-5 : tie.Need-returns-5
+returns-5 : tie.Need-returns
 returns-5 c =
-    let g = c.before in
-    let a = (of-gate g.before).args in
+    let g = c in
+    let a = g.args in
     let m = marked a.marks.now a.k in
-    c.left-of-gate.ensures
-    ∙ sym (cited-gate a.words.now a.starts.now a.l a.graph.now a.count a.k m a.v g.before.if1.false g.if4.false)
+    c.left_of_gate.ensures
+    ∙ sym (cited-gate a.words.now a.starts.now a.l a.graph.now a.count a.k m a.v g.if-part-eq3.false g.if-count-n.false)
 
-pub left-of-hint-spec : {M : Type 1} → statement M
-left-of-hint-spec =
+pub left_of_hint_spec : {M : Type 1} → statement M
+left_of_hint_spec =
     tie.close
     (tie.spec
     returns

@@ -16,7 +16,7 @@ look-requires-3 c κs = search rules
 
 returns : tie.Need-returns
 unfolding remains
-returns c = rw (c.look3.ensures, c.before.look2.ensures, c.before.before.look.ensures) refl
+returns c = rw (c.look-3.ensures, c.look-2.ensures, c.look.ensures) refl
 
-pub left-of-three-spec : {M : Type 1} → statement M
-left-of-three-spec = tie.close (tie.spec look-requires look-requires-2 look-requires-3 returns)
+pub left_of_three_spec : {M : Type 1} → statement M
+left_of_three_spec = tie.close (tie.spec look-requires look-requires-2 look-requires-3 returns)

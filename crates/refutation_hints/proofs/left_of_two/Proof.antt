@@ -13,7 +13,7 @@ look-requires-2 c κs = search rules
 
 returns : tie.Need-returns
 unfolding remains
-returns c = rw (c.look2.ensures, c.before.look.ensures) refl
+returns c = rw (c.look-2.ensures, c.look.ensures) refl
 
-pub left-of-two-spec : {M : Type 1} → statement M
-left-of-two-spec = tie.close (tie.spec look-requires look-requires-2 returns)
+pub left_of_two_spec : {M : Type 1} → statement M
+left_of_two_spec = tie.close (tie.spec look-requires look-requires-2 returns)

@@ -10,63 +10,60 @@ use Rattle.run_block.proofs.Runs.{ran-start, ran-next, ran-all}
 use Rattle.run_block.proofs.run_records.Statement.{statement}
 use Rattle.run_block.proofs.run_records.Tie as tie
 
-abbrev invariant-loop : tie.invariant-loop
-invariant-loop records count regs₀ saturated₀ j₀ regs saturated j = (count ≡ length records / 6) × (j ≤ count) × RanBy (records_from records 0 j) regs₀.words regs.words saturated
+abbrev invariant-loop-j : tie.invariant-loop-j
+invariant-loop-j records count regs₀ saturated₀ j₀ regs saturated j = (count ≡ length records / 6) × (j ≤ count) × RanBy (records_from records 0 j) regs₀.words regs.words saturated
 
-abbrev decreases-loop : tie.decreases-loop
-decreases-loop records count regs₀ saturated₀ j₀ regs saturated j = count - j
+abbrev decreases-loop-j : tie.decreases-loop-j
+decreases-loop-j records count regs₀ saturated₀ j₀ regs saturated j = count - j
 
-abbrev entry : tie.At-loop invariant-loop decreases-loop → tie.Start invariant-loop decreases-loop
-entry c = c.before.before
+in-records : (c : tie.In-loop-j invariant-loop-j decreases-loop-j) → c.loop-j.j < length c.args.records.now / 6
+in-records c = omega (arith, c.loop-j.invariant.0, c.loop-j-test.true)
 
-in-records : (c : tie.In-loop invariant-loop decreases-loop) → c.before.loop.j < length (entry c.before).args.records.now / 6
-in-records c = omega (arith, c.before.loop.invariant.0, c.loop-test.true)
-
-loop-holds : tie.Need-loop-init invariant-loop decreases-loop
+loop-holds : tie.Need-loop-j-init invariant-loop-j decreases-loop-j
 loop-holds c = (refl, omega arith, ran-start _ _)
 
-record-at-requires : tie.Need-record-at-requires invariant-loop decreases-loop
+record-at-requires : tie.Need-record_at-c-requires invariant-loop-j decreases-loop-j
 record-at-requires c κs = omega (arith, in-records c)
 
-step-requires : tie.Need-step-requires invariant-loop decreases-loop
+step-requires : tie.Need-step-t-requires invariant-loop-j decreases-loop-j
 step-requires c κs =
-    let at-loop = c.before.before in
-    let s = entry at-loop in
-    rw c.record-at.ensures (legal-here s.args.records.now at-loop.loop.j s.pre (in-records c.before))
+    let at-loop = c in
+    let s = c in
+    rw c.record_at-c.ensures (legal-here s.args.records.now at-loop.loop-j.j s.requires (in-records c.before))
 
-add-j : tie.Need-overflow-add-j invariant-loop decreases-loop
+add-j : tie.Need-overflow_add-j invariant-loop-j decreases-loop-j
 add-j c = omega arith
 
-loop-less : tie.Need-loop-smaller invariant-loop decreases-loop
-loop-less c = omega (arith, c.before.before.before.before.loop-test.true)
+loop-less : tie.Need-loop-j-smaller invariant-loop-j decreases-loop-j
+loop-less c = omega (arith, c.loop-j-test.true)
 
-loop-again : tie.Need-loop-preserved invariant-loop decreases-loop
+loop-again : tie.Need-loop-j-preserved invariant-loop-j decreases-loop-j
 loop-again c =
-    let at-step = c.before.before in
-    let at-record-at = at-step.before in
-    let at-loop-test = at-record-at.before in
-    let at-loop = at-loop-test.before in
-    let s = entry at-loop in (
-      at-loop.loop.invariant.0,
-      omega (arith, at-loop-test.loop-test.true),
-      ran-next s.args.records.now at-loop.loop.j
-          (legal-here s.args.records.now at-loop.loop.j s.pre (in-records (at-loop-test))) at-loop.loop.invariant.2
-          (rw at-record-at.record-at.ensures at at-step.step.ensures),
+    let at-step = c in
+    let at-record-at = c in
+    let at-loop-test = c in
+    let at-loop = c in
+    let s = c in (
+      at-loop.loop-j.invariant.0,
+      omega (arith, at-loop-test.loop-j-test.true),
+      ran-next s.args.records.now at-loop.loop-j.j
+          (legal-here s.args.records.now at-loop.loop-j.j s.requires (in-records c.before.before.before.before)) at-loop.loop-j.invariant.2
+          (rw at-record-at.record_at-c.ensures at at-step.step-t.ensures),
     )
 
-returns : tie.Need-returns invariant-loop decreases-loop
+returns : tie.Need-returns invariant-loop-j decreases-loop-j
 returns c =
-    let at-loop = c.before in
-    let s = entry at-loop in
-    ran-all s.args.records.now at-loop.loop.j (omega (arith, at-loop.loop.invariant.0, at-loop.loop.invariant.1, c.loop-test.false))
-    at-loop.loop.invariant.2
+    let at-loop = c in
+    let s = c in
+    ran-all s.args.records.now at-loop.loop-j.j (omega (arith, at-loop.loop-j.invariant.0, at-loop.loop-j.invariant.1, c.loop-j-test.false))
+    at-loop.loop-j.invariant.2
 
-pub run-records-spec : {M : Type 1} → statement M
-run-records-spec =
+pub run_records_spec : {M : Type 1} → statement M
+run_records_spec =
     tie.close
     (tie.spec
-    invariant-loop
-    decreases-loop
+    invariant-loop-j
+    decreases-loop-j
     loop-holds
     record-at-requires
     step-requires

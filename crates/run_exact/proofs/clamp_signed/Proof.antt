@@ -9,16 +9,16 @@ use borrow.Author.Rules.{rules}
 use Rattle.run_exact.proofs.clamp_signed.Statement.{statement}
 use Rattle.run_exact.proofs.clamp_signed.Tie as tie
 
-sub-power : tie.Need-overflow-sub-power
+sub-power : tie.Need-overflow_sub-n
 sub-power c = search rules
 
-power-requires : tie.Need-power-requires
+power-requires : tie.Need-power-half-requires
 power-requires c κs = search rules
 
 signed-requires : tie.Need-signed-requires
-signed-requires c κs = (omega arith, omega arith, rw c.power.ensures (half_lt _ (omega arith)))
+signed-requires c κs = (omega arith, omega arith, rw c.power-half.ensures (half_lt _ (omega arith)))
 
-sub-unsigned : tie.Need-overflow-sub-unsigned
+sub-unsigned : tie.Need-overflow_sub-half
 sub-unsigned c = search rules
 
 unsigned-requires : tie.Need-unsigned-requires
@@ -30,13 +30,13 @@ clamp-requires c κs = search rules
 returns : tie.Need-returns
 unfolding c_s beyond_s
 returns c =
-    let at-signed = c.before.before in
-    let at-power = at-signed.before in
-    λ z p. c.clamp.ensures _ _ z (low_held (omega arith) (omega arith) at-power.power.ensures at-signed.signed.ensures)
-    (word_held (ap (λ (t : ℕ). t - 1) at-power.power.ensures) c.before.unsigned.ensures) p
+    let at-signed = c in
+    let at-power = c in
+    λ z p. c.clamp.ensures _ _ z (low_held (omega arith) (omega arith) at-power.power-half.ensures at-signed.signed.ensures)
+    (word_held (ap (λ (t : ℕ). t - 1) at-power.power-half.ensures) c.unsigned.ensures) p
 
-pub clamp-signed-spec : {M : Type 1} → statement M
-clamp-signed-spec =
+pub clamp_signed_spec : {M : Type 1} → statement M
+clamp_signed_spec =
     tie.close
     (tie.spec
     sub-power

@@ -3,35 +3,35 @@ use borrow.Author.Rules.{rules}
 use Rattle.run_exact.proofs.clamp_to.Statement.{statement}
 use Rattle.run_exact.proofs.clamp_to.Tie as tie
 
-enum_told : tie.Need-enum-told
+enum_told : tie.Need-enum_told-1
 enum_told c = search rules
 
-clamp-signed-requires : tie.Need-clamp-signed-requires
+clamp-signed-requires : tie.Need-clamp_signed-requires
 clamp-signed-requires c κs = search rules
 
-enum-told-2 : tie.Need-enum-told-2
+enum-told-2 : tie.Need-enum_told-in-Unsigned
 enum-told-2 c = search rules
 
-clamp-unsigned-requires : tie.Need-clamp-unsigned-requires
+clamp-unsigned-requires : tie.Need-clamp_unsigned-requires
 clamp-unsigned-requires c κs = search rules
 
-enum-told-3 : tie.Need-enum-told-3
+enum-told-3 : tie.Need-enum_told-in-SignedToUnsigned
 enum-told-3 c = search rules
 
-clamp-unsigned-requires-2 : tie.Need-clamp-unsigned-requires-2
+clamp-unsigned-requires-2 : tie.Need-clamp_unsigned-requires-in-SignedToUnsigned
 clamp-unsigned-requires-2 c κs = search rules
 
-returns : tie.Need-returns
-returns c = λ z p. rw c.before.enum_told.given.1 (c.clamp-signed.ensures z p)
+returns : tie.Need-returns-in-Signed
+returns c = λ z p. rw c.enum_told-1.given.1 (c.clamp_signed.ensures z p)
 
-returns-2 : tie.Need-returns-2
-returns-2 c = λ z p. rw c.before.enum-told2.given.1 (c.clamp-unsigned.ensures z p)
+returns-2 : tie.Need-returns-in-Unsigned
+returns-2 c = λ z p. rw c.enum_told-in-Unsigned-1.given.1 (c.clamp_unsigned.ensures z p)
 
-returns-3 : tie.Need-returns-3
-returns-3 c = λ z p. rw c.before.enum-told3.given.1 (c.clamp-unsigned2.ensures z p)
+returns-3 : tie.Need-returns-in-SignedToUnsigned
+returns-3 c = λ z p. rw c.enum_told-in-SignedToUnsigned-1.given.1 (c.clamp_unsigned-in-SignedToUnsigned.ensures z p)
 
-pub clamp-to-spec : {M : Type 1} → statement M
-clamp-to-spec =
+pub clamp_to_spec : {M : Type 1} → statement M
+clamp_to_spec =
     tie.close
     (tie.spec
     enum_told

@@ -10,7 +10,7 @@ use Rattle.run_exact.proofs.clamp_unsigned.Tie as tie
 unsigned-requires : tie.Need-unsigned-requires
 unsigned-requires c κs = search rules
 
-unsigned-max-requires : tie.Need-unsigned-max-requires
+unsigned-max-requires : tie.Need-unsigned_max-requires
 unsigned-max-requires c κs = search rules
 
 unsigned-requires-2 : tie.Need-unsigned-requires-2
@@ -22,12 +22,12 @@ clamp-requires c κs = search rules
 returns : tie.Need-returns
 unfolding c_u beyond_u
 returns c =
-    let at-unsigned-max = c.before.before in
-    let at-unsigned = at-unsigned-max.before in
+    let at-unsigned-max = c in
+    let at-unsigned = c in
     λ z p. c.clamp.ensures _ _ z (word_held refl at-unsigned.unsigned.ensures)
-    (word_held at-unsigned-max.unsigned-max.ensures c.before.unsigned2.ensures) p
+    (word_held at-unsigned-max.unsigned_max.ensures c.unsigned-2.ensures) p
 
-pub clamp-unsigned-spec : {M : Type 1} → statement M
-clamp-unsigned-spec =
+pub clamp_unsigned_spec : {M : Type 1} → statement M
+clamp_unsigned_spec =
     tie.close
     (tie.spec unsigned-requires unsigned-max-requires unsigned-requires-2 clamp-requires returns)

@@ -19,10 +19,10 @@ shl-requires c κs = search rules
 
 returns : tie.Need-returns
 returns c =
-    let at-signed = c.before.before in
-    let at-signed2 = at-signed.before in
-    doubled-held (omega arith) (omega arith) at-signed2.signed.ensures at-signed.signed2.ensures c.before.mul.ensures c.shl.ensures
+    let at-signed = c in
+    let at-signed2 = c in
+    doubled-held (omega arith) (omega arith) at-signed2.signed.ensures at-signed.signed-2.ensures c.mul.ensures c.shl.ensures
 
-pub doubled-product-spec : {M : Type 1} → statement M
-doubled-product-spec =
+pub doubled_product_spec : {M : Type 1} → statement M
+doubled_product_spec =
     tie.close (tie.spec signed-requires signed-requires-2 mul-requires shl-requires returns)

@@ -5,7 +5,7 @@ use borrow.Author.Rules.{rules}
 use Rattle.run_exact.proofs.keep.Statement.{statement}
 use Rattle.run_exact.proofs.keep.Tie as tie
 
-low-bits-requires : tie.Need-low-bits-requires
+low-bits-requires : tie.Need-low_bits-requires
 low-bits-requires c κs = search rules
 
 returns : tie.Need-returns

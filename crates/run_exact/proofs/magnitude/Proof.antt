@@ -9,25 +9,25 @@ use Rattle.run_exact.proofs.magnitude.Tie as tie
 unsigned-requires : tie.Need-unsigned-requires
 unsigned-requires c κs = search rules
 
-bv-slt-requires : tie.Need-bv-slt-requires
+bv-slt-requires : tie.Need-bv_slt-requires
 bv-slt-requires c κs = search rules
 
 negative-requires : tie.Need-negative-requires
 negative-requires c κs = search rules
 
-returns : tie.Need-returns
+returns : tie.Need-returns-then-bv_slt
 returns c =
-    let at-bv-slt = c.before.before in
-    let at-unsigned = at-bv-slt.before in
-    λ w z hw h p. magnitude-low z (sym (less-is at-bv-slt.bv-slt.ensures (fitting h p) (fitting (omega arith) at-unsigned.unsigned.ensures))
-    ∙ c.before.if1.true) (c.negative.ensures w z hw p)
+    let at-bv-slt = c in
+    let at-unsigned = c in
+    λ w z hw h p. magnitude-low z (sym (less-is at-bv-slt.bv_slt.ensures (fitting h p) (fitting (omega arith) at-unsigned.unsigned.ensures))
+    ∙ c.if-bv_slt.true) (c.negative.ensures w z hw p)
 
-returns-2 : tie.Need-returns-2
+returns-2 : tie.Need-returns
 returns-2 c =
-    let at-unsigned = c.before.before in
-    λ w z hw h p. magnitude-high z (sym (less-is c.before.bv-slt.ensures (fitting h p) (fitting (omega arith) at-unsigned.unsigned.ensures))
-    ∙ c.if1.false) p
+    let at-unsigned = c in
+    λ w z hw h p. magnitude-high z (sym (less-is c.bv_slt.ensures (fitting h p) (fitting (omega arith) at-unsigned.unsigned.ensures))
+    ∙ c.if-bv_slt.false) p
 
-pub magnitude-spec : {M : Type 1} → statement M
-magnitude-spec =
+pub magnitude_spec : {M : Type 1} → statement M
+magnitude_spec =
     tie.close (tie.spec unsigned-requires bv-slt-requires negative-requires returns returns-2)

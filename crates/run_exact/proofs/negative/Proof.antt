@@ -11,7 +11,7 @@ sub-requires : tie.Need-sub-requires
 sub-requires c κs = search rules
 
 returns : tie.Need-returns
-returns c = negative-held c.before.unsigned.ensures c.sub.ensures
+returns c = negative-held c.unsigned.ensures c.sub.ensures
 
-pub negative-spec : {M : Type 1} → statement M
-negative-spec = tie.close (tie.spec unsigned-requires sub-requires returns)
+pub negative_spec : {M : Type 1} → statement M
+negative_spec = tie.close (tie.spec unsigned-requires sub-requires returns)

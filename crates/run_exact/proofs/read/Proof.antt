@@ -8,14 +8,14 @@ use Rattle.run_exact.proofs.read.Tie as tie
 signed-requires : tie.Need-signed-requires
 signed-requires c κs = search rules
 
-returns : tie.Need-returns
-returns c = rw c.before.if1.true (fitting (omega arith) c.signed.ensures)
+returns : tie.Need-returns-then-as_signed
+returns c = rw c.if-as_signed.true (fitting (omega arith) c.signed.ensures)
 
 unsigned-requires : tie.Need-unsigned-requires
 unsigned-requires c κs = search rules
 
-returns-2 : tie.Need-returns-2
-returns-2 c = rw c.before.if1.false c.unsigned.ensures
+returns-2 : tie.Need-returns
+returns-2 c = rw c.if-as_signed.false c.unsigned.ensures
 
 pub read_spec : {M : Type 1} → statement M
 read_spec = tie.close (tie.spec signed-requires returns unsigned-requires returns-2)

@@ -9,7 +9,7 @@ use Rattle.run_exact.proofs.right.Tie as tie
 unsigned-requires : tie.Need-unsigned-requires
 unsigned-requires c κs = search rules
 
-sub-shl : tie.Need-overflow-sub-shl
+sub-shl : tie.Need-overflow_sub-k
 sub-shl c = search rules
 
 shl-requires : tie.Need-shl-requires
@@ -18,32 +18,32 @@ shl-requires c κs = search rules
 add-requires : tie.Need-add-requires
 add-requires c κs = search rules
 
-unsigned-requires-2 : tie.Need-unsigned-requires-2
+unsigned-requires-2 : tie.Need-unsigned-requires-then-rounding
 unsigned-requires-2 c κs = search rules
 
-bv-ashr-requires : tie.Need-bv-ashr-requires
+bv-ashr-requires : tie.Need-bv_ashr-requires
 bv-ashr-requires c κs = (omega arith, omega arith, num-lt _ (omega arith))
 
-returns : tie.Need-returns
+returns : tie.Need-returns-then-rounding
 returns c =
-    let at-add = c.before.before in
-    let at-shl = at-add.before in
-    let at-unsigned = at-shl.before in
-    let at-if = at-unsigned.before in
-    rw at-if.if1.true (round-held (omega arith) (omega arith) at-unsigned.unsigned.ensures at-shl.shl.ensures at-add.add.ensures
-    c.before.unsigned2.ensures c.bv-ashr.ensures)
+    let at-add = c in
+    let at-shl = c in
+    let at-unsigned = c in
+    let at-if = c in
+    rw at-if.if-rounding.true (round-held (omega arith) (omega arith) at-unsigned.unsigned.ensures at-shl.shl.ensures at-add.add.ensures
+    c.unsigned-then-rounding.ensures c.bv_ashr.ensures)
 
-unsigned-requires-3 : tie.Need-unsigned-requires-3
+unsigned-requires-3 : tie.Need-unsigned-requires-2
 unsigned-requires-3 c κs = search rules
 
-bv-ashr-requires-2 : tie.Need-bv-ashr-requires-2
+bv-ashr-requires-2 : tie.Need-bv_ashr-requires-2
 bv-ashr-requires-2 c κs = (omega arith, omega arith, num-lt _ (omega arith))
 
-returns-2 : tie.Need-returns-2
-returns-2 c = rw c.before.before.if1.false (floor-held (omega arith) c.before.unsigned3.ensures c.bv-ashr2.ensures)
+returns-2 : tie.Need-returns
+returns-2 c = rw c.if-rounding.false (floor-held (omega arith) c.unsigned-2.ensures c.bv_ashr-2.ensures)
 
-pub right-spec : {M : Type 1} → statement M
-right-spec =
+pub right_spec : {M : Type 1} → statement M
+right_spec =
     tie.close
     (tie.spec
     unsigned-requires

@@ -8,7 +8,7 @@ shl-requires : tie.Need-shl-requires
 shl-requires c κs = search rules
 
 returns : tie.Need-returns
-returns c = scaled-held c.before.args.k c.shl.ensures
+returns c = scaled-held c.args.k c.shl.ensures
 
-pub scaled-spec : {M : Type 1} → statement M
-scaled-spec = tie.close (tie.spec shl-requires returns)
+pub scaled_spec : {M : Type 1} → statement M
+scaled_spec = tie.close (tie.spec shl-requires returns)

@@ -6,14 +6,14 @@ use Rattle.run_exact.proofs.unary.Tie as tie
 negative-requires : tie.Need-negative-requires
 negative-requires c κs = search rules
 
-returns : tie.Need-returns
-returns c = rw c.before.if1.true (λ w z hw h p. c.negative.ensures w z hw p)
+returns : tie.Need-returns-then-negate
+returns c = rw c.if-negate.true (λ w z hw h p. c.negative.ensures w z hw p)
 
 magnitude-requires : tie.Need-magnitude-requires
 magnitude-requires c κs = search rules
 
-returns-2 : tie.Need-returns-2
-returns-2 c = rw c.before.if1.false c.magnitude.ensures
+returns-2 : tie.Need-returns
+returns-2 c = rw c.if-negate.false c.magnitude.ensures
 
-pub unary-spec : {M : Type 1} → statement M
-unary-spec = tie.close (tie.spec negative-requires returns magnitude-requires returns-2)
+pub unary_spec : {M : Type 1} → statement M
+unary_spec = tie.close (tie.spec negative-requires returns magnitude-requires returns-2)

@@ -7,5 +7,5 @@ use Rattle.run_exact.proofs.unsigned.Tie as tie
 returns : tie.Need-returns
 returns c = unsigned_is c.args.a (omega arith)
 
-pub unsigned-spec : {M : Type 1} → statement M
-unsigned-spec = tie.close (tie.spec returns)
+pub unsigned_spec : {M : Type 1} → statement M
+unsigned_spec = tie.close (tie.spec returns)

@@ -19,10 +19,10 @@ limit-requires c κs = search rules
 
 returns : tie.Need-returns
 returns c =
-    let at_read = c.before.before in
-    let at-read2 = at_read.before in
-    c.limit.ensures _ (fitting (omega arith) (c.before.join.ensures 65 _ _ (omega arith) at-read2.read.ensures at_read.read2.ensures))
+    let at_read = c in
+    let at-read2 = c in
+    c.limit.ensures _ (fitting (omega arith) (c.join.ensures 65 _ _ (omega arith) at-read2.read.ensures at_read.read-2.ensures))
 
-pub add-sub-lane-spec : {M : Type 1} → statement M
-add-sub-lane-spec =
+pub add_sub_lane_spec : {M : Type 1} → statement M
+add_sub_lane_spec =
     tie.close (tie.spec read-requires read-requires-2 join-requires limit-requires returns)

@@ -22,13 +22,13 @@ limit-requires c κs = search rules
 
 returns : tie.Need-returns
 returns c =
-    let at_join = c.before.before in
-    let at_read = at_join.before in
-    let at-read2 = at_read.before in
-    c.limit.ensures _ (fitting (omega arith) (c.before.right.ensures 66 _ (omega arith)
-    (at_join.join.ensures 65 _ _ (omega arith) at-read2.read.ensures at_read.read2.ensures)))
+    let at_join = c in
+    let at_read = c in
+    let at-read2 = c in
+    c.limit.ensures _ (fitting (omega arith) (c.right.ensures 66 _ (omega arith)
+    (at_join.join.ensures 65 _ _ (omega arith) at-read2.read.ensures at_read.read-2.ensures)))
 
-pub halving-lane-spec : {M : Type 1} → statement M
-halving-lane-spec =
+pub halving_lane_spec : {M : Type 1} → statement M
+halving_lane_spec =
     tie.close
     (tie.spec read-requires read-requires-2 join-requires right-requires limit-requires returns)

@@ -8,13 +8,13 @@ use borrow.Author.Rules.{rules}
 use Rattle.run_lanes.proofs.high_lane.Statement.{statement}
 use Rattle.run_lanes.proofs.high_lane.Tie as tie
 
-sum-of-requires : tie.Need-sum-of-requires
+sum-of-requires : tie.Need-sum_of-s-requires
 sum-of-requires c κs = search rules
 
-mul-keep : tie.Need-overflow-mul-keep
+mul-keep : tie.Need-overflow_mul-n
 mul-keep c = search rules
 
-sub-power : tie.Need-overflow-sub-power
+sub-power : tie.Need-overflow_sub-n
 sub-power c = search rules
 
 power-requires : tie.Need-power-requires
@@ -29,43 +29,43 @@ join-requires c κs = search rules
 keep-requires : tie.Need-keep-requires
 keep-requires c κs = search rules
 
-power-requires-2 : tie.Need-power-requires-2
+power-requires-2 : tie.Need-power-requires-then-rounding
 power-requires-2 c κs = search rules
 
-div-result : tie.Need-nonzero-div-result
-div-result c = rw c.power2.ensures (pow_pos _)
+div-result : tie.Need-nonzero_div-result
+div-result c = rw c.power-then-rounding.ensures (pow_pos _)
 
-returns : tie.Need-returns
+returns : tie.Need-returns-then-rounding
 returns c =
-    let at_join = c.before.before in
-    let at-unsigned = at_join.before in
-    let at-power = at-unsigned.before in
-    let rounding = at-power.before in
-    let at-sum-of = rounding.before in
-    rw (rounding.if1.true, c.power2.ensures) (ap (λ (t : ℕ). t / 2 ^ at-sum-of.before.args.n)
-    (c.before.keep.ensures 67 _ (at_join.join.ensures 66 _ _ (omega arith) at-sum-of.sum_of.ensures
+    let at_join = c in
+    let at-unsigned = c in
+    let at-power = c in
+    let rounding = c in
+    let at-sum-of = c in
+    rw (rounding.if-rounding.true, c.power-then-rounding.ensures) (ap (λ (t : ℕ). t / 2 ^ at-sum-of.args.n)
+    (c.keep.ensures 67 _ (at_join.join.ensures 66 _ _ (omega arith) at-sum-of.sum_of-s.ensures
     (rw at-power.power.ensures at (fitting {u = 66} (omega arith) at-unsigned.unsigned.ensures)))))
 
-mul-keep-2 : tie.Need-overflow-mul-keep-2
+mul-keep-2 : tie.Need-overflow_mul-n-2
 mul-keep-2 c = search rules
 
 keep-requires-2 : tie.Need-keep-requires-2
 keep-requires-2 c κs = search rules
 
-power-requires-3 : tie.Need-power-requires-3
+power-requires-3 : tie.Need-power-requires-2
 power-requires-3 c κs = search rules
 
-div-result-2 : tie.Need-nonzero-div-result-2
-div-result-2 c = rw c.power3.ensures (pow_pos _)
+div-result-2 : tie.Need-nonzero_div-result-2
+div-result-2 c = rw c.power-2.ensures (pow_pos _)
 
-returns-2 : tie.Need-returns-2
+returns-2 : tie.Need-returns
 returns-2 c =
-    let exact = c.before.before in
-    let at-sum-of = exact.before in
-    rw (exact.if1.false, c.power3.ensures) (ap (λ (t : ℕ). t / 2 ^ at-sum-of.before.args.n) (c.before.keep2.ensures 66 _ at-sum-of.sum_of.ensures))
+    let exact = c in
+    let at-sum-of = c in
+    rw (exact.if-rounding.false, c.power-2.ensures) (ap (λ (t : ℕ). t / 2 ^ at-sum-of.args.n) (c.keep-2.ensures 66 _ at-sum-of.sum_of-s.ensures))
 
-pub high-lane-spec : {M : Type 1} → statement M
-high-lane-spec =
+pub high_lane_spec : {M : Type 1} → statement M
+high_lane_spec =
     tie.close
     (tie.spec
     sum-of-requires

@@ -5,7 +5,7 @@ use borrow.Author.Rules.{rules}
 use Rattle.run_lanes.proofs.narrow_lane.Statement.{statement}
 use Rattle.run_lanes.proofs.narrow_lane.Tie as tie
 
-mul-read : tie.Need-overflow-mul-read
+mul-read : tie.Need-overflow_mul-n
 mul-read c = search rules
 
 read-requires : tie.Need-read-requires
@@ -15,7 +15,7 @@ limit-requires : tie.Need-limit-requires
 limit-requires c κs = search rules
 
 returns : tie.Need-returns
-returns c = c.limit.ensures _ (fitting (omega arith) c.before.read.ensures)
+returns c = c.limit.ensures _ (fitting (omega arith) c.read.ensures)
 
-pub narrow-lane-spec : {M : Type 1} → statement M
-narrow-lane-spec = tie.close (tie.spec mul-read read-requires limit-requires returns)
+pub narrow_lane_spec : {M : Type 1} → statement M
+narrow_lane_spec = tie.close (tie.spec mul-read read-requires limit-requires returns)

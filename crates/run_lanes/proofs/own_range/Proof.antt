@@ -3,14 +3,14 @@ use borrow.Author.Rules.{rules}
 use Rattle.run_lanes.proofs.own_range.Statement.{statement}
 use Rattle.run_lanes.proofs.own_range.Tie as tie
 
-returns : tie.Need-returns
-returns c = rw (c.before.if1.true, c.if2.true)
+returns : tie.Need-returns-then-as_signed
+returns c = rw (c.if-saturate.true, c.if-as_signed.true)
 
-returns-2 : tie.Need-returns-2
-returns-2 c = rw (c.before.if1.true, c.if2.false)
+returns-2 : tie.Need-returns-then-saturate
+returns-2 c = rw (c.if-saturate.true, c.if-as_signed.false)
 
-returns-3 : tie.Need-returns-3
+returns-3 : tie.Need-returns
 returns-3 c = search rules
 
-pub own-range-spec : {M : Type 1} → statement M
-own-range-spec = tie.close (tie.spec returns returns-2 returns-3)
+pub own_range_spec : {M : Type 1} → statement M
+own_range_spec = tie.close (tie.spec returns returns-2 returns-3)

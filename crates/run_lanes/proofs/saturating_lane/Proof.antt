@@ -16,74 +16,74 @@ Asked s k = let a = s.args in (0 < a.n) × (a.a < 2 ^ kind_bits k a.n) × (a.b <
 asked : (s : tie.Start) {k : SaturatingKind} → s.args.kind ≡ k → Asked s k
 asked s e = subst (Asked s) e s.requires
 
-enum-known-kind : tie.Need-enum-known-kind
+enum-known-kind : tie.Need-enum_known-kind
 enum-known-kind c = search rules
 
-add-sub-lane-requires : tie.Need-add-sub-lane-requires
+add-sub-lane-requires : tie.Need-add_sub_lane-requires
 add-sub-lane-requires c κs =
-    let p = asked c.before.before.before c.before.kind.given.1 in
+    let p = asked c.before.before.before c.kind-1.given.1 in
     (p.0, p.3, p.1, p.2)
 
-enum-known-kind-2 : tie.Need-enum-known-kind-2
+enum-known-kind-2 : tie.Need-enum_known-kind-in-Halving-1
 enum-known-kind-2 c = search rules
 
-halving-lane-requires : tie.Need-halving-lane-requires
+halving-lane-requires : tie.Need-halving_lane-requires
 halving-lane-requires c κs =
-    let p = asked c.before.before.before c.before.kind2.given.1 in
+    let p = asked c.before.before.before c.kind-in-Halving-1.given.1 in
     (p.0, p.3, p.1, p.2)
 
-enum-known-kind-3 : tie.Need-enum-known-kind-3
+enum-known-kind-3 : tie.Need-enum_known-kind-in-Narrow-1
 enum-known-kind-3 c = search rules
 
-narrow-lane-requires : tie.Need-narrow-lane-requires
+narrow-lane-requires : tie.Need-narrow_lane-requires
 narrow-lane-requires c κs =
-    let p = asked c.before.before.before c.before.kind3.given.1 in
+    let p = asked c.before.before.before c.kind-in-Narrow-1.given.1 in
     (p.0, p.3, p.1)
 
-enum-known-kind-4 : tie.Need-enum-known-kind-4
+enum-known-kind-4 : tie.Need-enum_known-kind-in-ShiftNarrow-1
 enum-known-kind-4 c = search rules
 
-shift-narrow-lane-requires : tie.Need-shift-narrow-lane-requires
+shift-narrow-lane-requires : tie.Need-shift_narrow_lane-requires
 shift-narrow-lane-requires c κs =
-    let p = asked c.before.before.before c.before.kind4.given.1 in
+    let p = asked c.before.before.before c.kind-in-ShiftNarrow-1.given.1 in
     (p.0, p.3.0, p.1, p.3.1, p.3.2)
 
-enum-known-kind-5 : tie.Need-enum-known-kind-5
+enum-known-kind-5 : tie.Need-enum_known-kind-in-DoublingMultiplyHigh-1
 enum-known-kind-5 c = search rules
 
-multiply-high-lane-requires : tie.Need-multiply-high-lane-requires
+multiply-high-lane-requires : tie.Need-multiply_high_lane-requires
 multiply-high-lane-requires c κs =
-    let p = asked c.before.before.before c.before.kind5.given.1 in
+    let p = asked c.before.before.before c.kind-in-DoublingMultiplyHigh-1.given.1 in
     (p.0, omega (arith, p.3), p.1, p.2)
 
-enum-known-kind-6 : tie.Need-enum-known-kind-6
+enum-known-kind-6 : tie.Need-enum_known-kind-in-Unary-1
 enum-known-kind-6 c = search rules
 
-unary-lane-requires : tie.Need-unary-lane-requires
+unary-lane-requires : tie.Need-unary_lane-requires
 unary-lane-requires c κs =
-    let p = asked c.before.before.before c.before.kind6.given.1 in
+    let p = asked c.before.before.before c.kind-in-Unary-1.given.1 in
     (p.0, p.3, p.1)
 
-returns : tie.Need-returns
-returns c = rw c.before.before.kind.given.1 c.add-sub-lane.ensures
+returns : tie.Need-returns-in-AddSub
+returns c = rw c.kind-1.given.1 c.add_sub_lane.ensures
 
-returns-2 : tie.Need-returns-2
-returns-2 c = rw c.before.before.kind2.given.1 c.halving-lane.ensures
+returns-2 : tie.Need-returns-in-Halving
+returns-2 c = rw c.kind-in-Halving-1.given.1 c.halving_lane.ensures
 
-returns-3 : tie.Need-returns-3
-returns-3 c = rw c.before.before.kind3.given.1 c.narrow-lane.ensures
+returns-3 : tie.Need-returns-in-Narrow
+returns-3 c = rw c.kind-in-Narrow-1.given.1 c.narrow_lane.ensures
 
-returns-4 : tie.Need-returns-4
-returns-4 c = rw c.before.before.kind4.given.1 c.shift-narrow-lane.ensures
+returns-4 : tie.Need-returns-in-ShiftNarrow
+returns-4 c = rw c.kind-in-ShiftNarrow-1.given.1 c.shift_narrow_lane.ensures
 
-returns-5 : tie.Need-returns-5
-returns-5 c = rw c.before.before.kind5.given.1 c.multiply-high-lane.ensures
+returns-5 : tie.Need-returns-in-DoublingMultiplyHigh
+returns-5 c = rw c.kind-in-DoublingMultiplyHigh-1.given.1 c.multiply_high_lane.ensures
 
-returns-6 : tie.Need-returns-6
-returns-6 c = rw c.before.before.kind6.given.1 c.unary-lane.ensures
+returns-6 : tie.Need-returns-in-Unary
+returns-6 c = rw c.kind-in-Unary-1.given.1 c.unary_lane.ensures
 
-pub saturating-lane-spec : {M : Type 1} → statement M
-saturating-lane-spec =
+pub saturating_lane_spec : {M : Type 1} → statement M
+saturating_lane_spec =
     tie.close
     (tie.spec
     enum-known-kind

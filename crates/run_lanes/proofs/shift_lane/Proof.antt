@@ -14,77 +14,68 @@ amount-in s e = subst (λ (k : ShiftKind). AmountIn k s.args.n) e s.requires.3
 
 -- ---- from each kind back to the value that is shifted
 
-abbrev left-value : tie.After-kind → tie.After-read
-left-value c = c.before.before
-
-abbrev right-value : tie.After-kind2 → tie.After-read
-right-value c = c.before.before
-
-abbrev register-value : tie.After-kind3 → tie.After-read
-register-value c = c.before.before
-
 -- ---- needs
 
-read-requires : tie.Need-read-requires
+read-requires : tie.Need-read-v-requires
 read-requires c κs = search rules
 
-enum-known-kind : tie.Need-enum-known-kind
+enum-known-kind : tie.Need-enum_known-kind
 enum-known-kind c = search rules
 
 scaled-requires : tie.Need-scaled-requires
 scaled-requires c κs =
-    let s = (left-value c.before).before in
-    omega (arith, s.pre, amount-in s c.before.kind.given.1)
+    let s = c in
+    omega (arith, s.requires, amount-in s c.kind-1.given.1)
 
 limit-requires : tie.Need-limit-requires
 limit-requires c κs = search rules
 
-enum-known-kind-2 : tie.Need-enum-known-kind-2
+enum-known-kind-2 : tie.Need-enum_known-kind-in-RightImmediate-1
 enum-known-kind-2 c = search rules
 
 right-requires : tie.Need-right-requires
 right-requires c κs =
-    let s = (right-value c.before).before in
-    omega (arith, s.pre, amount-in s c.before.kind2.given.1)
+    let s = c in
+    omega (arith, s.requires, amount-in s c.kind-in-RightImmediate-1.given.1)
 
-limit-requires-2 : tie.Need-limit-requires-2
+limit-requires-2 : tie.Need-limit-requires-in-RightImmediate
 limit-requires-2 c κs = search rules
 
-enum-known-kind-3 : tie.Need-enum-known-kind-3
+enum-known-kind-3 : tie.Need-enum_known-kind-in-Register-1
 enum-known-kind-3 c = search rules
 
-own-range-requires : tie.Need-own-range-requires
+own-range-requires : tie.Need-own_range-requires
 own-range-requires c κs = search rules
 
 turn-requires : tie.Need-turn-requires
 turn-requires c κs = search rules
 
-limit-requires-3 : tie.Need-limit-requires-3
+limit-requires-3 : tie.Need-limit-requires-in-Register
 limit-requires-3 c κs = search rules
 
-returns : tie.Need-returns
+returns : tie.Need-returns-in-LeftImmediate
 returns c =
-    let at-kind = c.before.before.before in
-    let s = (left-value at-kind).before in
-    let amount = amount-in s at-kind.kind.given.1 in
-    rw at-kind.kind.given.1 (c.limit.ensures _ (fitting (omega (arith, s.pre, amount))
-    (c.before.scaled.ensures 65 _ (omega arith) (left-value at-kind).read.ensures)))
+    let at-kind = c in
+    let s = c in
+    let amount = amount-in s at-kind.kind-1.given.1 in
+    rw at-kind.kind-1.given.1 (c.limit.ensures _ (fitting (omega (arith, s.requires, amount))
+    (c.scaled.ensures 65 _ (omega arith) at-kind.read-v.ensures)))
 
-returns-2 : tie.Need-returns-2
+returns-2 : tie.Need-returns-in-RightImmediate
 returns-2 c =
-    let at-kind2 = c.before.before.before in
-    rw at-kind2.kind2.given.1 (c.limit2.ensures _ (fitting (omega arith)
-    (c.before.right.ensures 65 _ (omega arith) (right-value at-kind2).read.ensures)))
+    let at-kind2 = c in
+    rw at-kind2.kind-in-RightImmediate-1.given.1 (c.limit-in-RightImmediate.ensures _ (fitting (omega arith)
+    (c.right.ensures 65 _ (omega arith) at-kind2.read-v.ensures)))
 
-returns-3 : tie.Need-returns-3
+returns-3 : tie.Need-returns-in-Register
 returns-3 c =
-    let at-own-range = c.before.before in
-    let at-kind3 = at-own-range.before.before in
-    rw at-kind3.kind3.given.1 (rw at-own-range.own_range.ensures
-    at (c.limit3.ensures _ (c.before.turn.ensures _ (register-value at-kind3).read.ensures)))
+    let at-own-range = c in
+    let at-kind3 = c in
+    rw at-kind3.kind-in-Register-1.given.1 (rw at-own-range.own_range.ensures
+    at (c.limit-in-Register.ensures _ (c.turn.ensures _ at-kind3.read-v.ensures)))
 
-pub shift-lane-spec : {M : Type 1} → statement M
-shift-lane-spec =
+pub shift_lane_spec : {M : Type 1} → statement M
+shift_lane_spec =
     tie.close
     (tie.spec
     read-requires

@@ -5,7 +5,7 @@ use borrow.Author.Rules.{rules}
 use Rattle.run_lanes.proofs.shift_narrow_lane.Statement.{statement}
 use Rattle.run_lanes.proofs.shift_narrow_lane.Tie as tie
 
-mul-read : tie.Need-overflow-mul-read
+mul-read : tie.Need-overflow_mul-n
 mul-read c = search rules
 
 read-requires : tie.Need-read-requires
@@ -18,8 +18,8 @@ limit-requires : tie.Need-limit-requires
 limit-requires c κs = search rules
 
 returns : tie.Need-returns
-returns c = c.limit.ensures _ (fitting (omega arith) (c.before.right.ensures 65 _ (omega arith) c.before.before.read.ensures))
+returns c = c.limit.ensures _ (fitting (omega arith) (c.right.ensures 65 _ (omega arith) c.read.ensures))
 
-pub shift-narrow-lane-spec : {M : Type 1} → statement M
-shift-narrow-lane-spec =
+pub shift_narrow_lane_spec : {M : Type 1} → statement M
+shift_narrow_lane_spec =
     tie.close (tie.spec mul-read read-requires right-requires limit-requires returns)

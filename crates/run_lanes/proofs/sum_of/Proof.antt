@@ -7,33 +7,33 @@ use Rattle.run_lanes.proofs.sum_of.Tie as tie
 unsigned-requires : tie.Need-unsigned-requires
 unsigned-requires c κs = search rules
 
-unsigned-requires-2 : tie.Need-unsigned-requires-2
+unsigned-requires-2 : tie.Need-unsigned-requires-then-subtract
 unsigned-requires-2 c κs = search rules
 
 join-requires : tie.Need-join-requires
 join-requires c κs = search rules
 
-returns : tie.Need-returns
+returns : tie.Need-returns-then-subtract
 returns c =
-    let less = c.before.before in
-    rw less.before.if1.true (c.join.ensures 65 _ _ (omega arith) less.unsigned.ensures c.before.unsigned2.ensures)
+    let less = c in
+    rw less.if-subtract.true (c.join.ensures 65 _ _ (omega arith) less.unsigned.ensures c.unsigned-then-subtract.ensures)
 
-unsigned-requires-3 : tie.Need-unsigned-requires-3
+unsigned-requires-3 : tie.Need-unsigned-requires-2
 unsigned-requires-3 c κs = search rules
 
-unsigned-requires-4 : tie.Need-unsigned-requires-4
+unsigned-requires-4 : tie.Need-unsigned-requires-3
 unsigned-requires-4 c κs = search rules
 
 join-requires-2 : tie.Need-join-requires-2
 join-requires-2 c κs = search rules
 
-returns-2 : tie.Need-returns-2
+returns-2 : tie.Need-returns
 returns-2 c =
-    let sum = c.before.before in
-    rw sum.before.if1.false (c.join2.ensures 65 _ _ (omega arith) sum.unsigned3.ensures c.before.unsigned4.ensures)
+    let sum = c in
+    rw sum.if-subtract.false (c.join-2.ensures 65 _ _ (omega arith) sum.unsigned-2.ensures c.unsigned-3.ensures)
 
-pub sum-of-spec : {M : Type 1} → statement M
-sum-of-spec =
+pub sum_of_spec : {M : Type 1} → statement M
+sum_of_spec =
     tie.close
     (tie.spec
     unsigned-requires

@@ -15,7 +15,7 @@ limit-requires : tie.Need-limit-requires
 limit-requires c κs = search rules
 
 returns : tie.Need-returns
-returns c = c.limit.ensures _ (fitting (omega arith) (c.before.unary.ensures 65 _ (omega arith) (omega arith) c.before.before.read.ensures))
+returns c = c.limit.ensures _ (fitting (omega arith) (c.unary.ensures 65 _ (omega arith) (omega arith) c.read.ensures))
 
-pub unary-lane-spec : {M : Type 1} → statement M
-unary-lane-spec = tie.close (tie.spec read-requires unary-requires limit-requires returns)
+pub unary_lane_spec : {M : Type 1} → statement M
+unary_lane_spec = tie.close (tie.spec read-requires unary-requires limit-requires returns)

@@ -3,11 +3,11 @@ use mathlib.Core.Path.{refl}
 use Rattle.saturation_bits.proofs.second_factor.Statement.{statement}
 use Rattle.saturation_bits.proofs.second_factor.Tie as tie
 
-returns : tie.Need-returns
-returns c = rw c.if1.true refl
+returns : tie.Need-returns-then-by_element
+returns c = rw c.if-by_element.true refl
 
-returns-2 : tie.Need-returns-2
-returns-2 c = rw c.if1.false refl
+returns-2 : tie.Need-returns
+returns-2 c = rw c.if-by_element.false refl
 
-pub second-factor-spec : {M : Type 1} → statement M
-second-factor-spec = tie.close (tie.spec returns returns-2)
+pub second_factor_spec : {M : Type 1} → statement M
+second_factor_spec = tie.close (tie.spec returns returns-2)

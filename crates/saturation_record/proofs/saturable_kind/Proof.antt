@@ -5,7 +5,7 @@ use borrow.Author.Rules.{rules}
 use Rattle.saturation_record.proofs.saturable_kind.Statement.{statement}
 use Rattle.saturation_record.proofs.saturable_kind.Tie as tie
 
-kind-to-requires : tie.Need-kind-to-requires
+kind-to-requires : tie.Need-kind_to-range-requires
 kind-to-requires c κs = search rules
 
 clamps-requires : tie.Need-clamps-requires
@@ -13,7 +13,7 @@ clamps-requires c κs = search rules
 
 returns : tie.Need-returns
 returns c =
-    c.clamps.ensures ∙ ap saturable_to c.before.kind-to.ensures
+    c.clamps.ensures ∙ ap saturable_to c.kind_to-range.ensures
 
-pub saturable-kind-spec : {M : Type 1} → statement M
-saturable-kind-spec = tie.close (tie.spec kind-to-requires clamps-requires returns)
+pub saturable_kind_spec : {M : Type 1} → statement M
+saturable_kind_spec = tie.close (tie.spec kind-to-requires clamps-requires returns)

@@ -7,23 +7,23 @@ use borrow.Author.Rules.{rules}
 use Rattle.saturation_run.proofs.start_flagged.Statement.{statement}
 use Rattle.saturation_run.proofs.start_flagged.Tie as tie
 
-start-pool-requires : tie.Need-start-pool-requires
+start-pool-requires : tie.Need-start_pool-map-requires
 start-pool-requires c κs = search rules
 
-konst-requires : tie.Need-konst-requires
+konst-requires : tie.Need-konst-zero-requires
 konst-requires c κs =
-    let p = c.before.before.before in
-    let e : p.start-pool.result.count ≡ 32 = ap (λ (m : RegisterMap). m.count) p.start-pool.ensures.1 in
-    omega (arith, p.before.before.before.requires, e, p.start-pool.ensures.0.grown.long)
+    let p = c in
+    let e : p.start_pool-map.result.count ≡ 32 = ap (λ (m : RegisterMap). m.count) p.start_pool-map.ensures.1 in
+    omega (arith, p.requires, e, p.start_pool-map.ensures.0.grown.long)
 
-same_length : tie.Need-same-length
+same_length : tie.Need-shape_of-pool
 same_length c = search rules
 
 returns : tie.Need-returns
 returns c =
-    let zero = c.before.before.before in
-    let first = zero.before.before.before.before.start-pool.ensures in
-    started first.0 first.1 zero.konst.ensures
+    let zero = c in
+    let first = zero.start_pool-map.ensures in
+    started first.0 first.1 zero.konst-zero.ensures
 
-pub start-flagged-spec : {M : Type 1} → statement M
-start-flagged-spec = tie.close (tie.spec start-pool-requires konst-requires same_length returns)
+pub start_flagged_spec : {M : Type 1} → statement M
+start_flagged_spec = tie.close (tie.spec start-pool-requires konst-requires same_length returns)

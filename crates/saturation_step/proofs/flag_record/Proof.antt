@@ -14,76 +14,58 @@ the s = let a = s.args in instruction a.operation a.arrangement a.i a.d a.n a.m
 
 -- ---- from the place after a call back to the one before it, and to the entry
 
-abbrev entry : tie.After-get → tie.Start
-entry c = c.before.before
-
-abbrev to-d : tie.After-get2 → tie.After-get
-to-d c = c.before
-
-abbrev to-n : tie.After-get3 → tie.After-get2
-to-n c = c.before
-
-abbrev nodes-entry : tie.After-get3 → tie.Start
-nodes-entry c = entry (to-d (to-n c))
-
-abbrev to-m : tie.After-record-bit → tie.After-get3
-to-m c = c.before.before
-
-abbrev to-bit : tie.After-node → tie.After-record-bit
-to-bit c = c.before.before.before
-
 -- ---- needs
 
-get-requires : tie.Need-get-requires
+get-requires : tie.Need-get-old-requires
 get-requires c κs =
-    let st = c.before in
-    (registers-in (the st) st.requires.1.1.1).0
+    let st = c in
+    (registers-in (the c.before) st.requires.1.1.1).0
 
-get-requires-2 : tie.Need-get-requires-2
+get-requires-2 : tie.Need-get-first-requires
 get-requires-2 c κs =
-    let st = entry c in
-    (registers-in (the st) st.pre.1.1.1).1
+    let st = c in
+    (registers-in (the c.before.before) st.requires.1.1.1).1
 
-get-requires-3 : tie.Need-get-requires-3
+get-requires-3 : tie.Need-get-second-requires
 get-requires-3 c κs =
-    let st = entry (to-d c) in
-    (registers-in (the st) st.pre.1.1.1).2
+    let st = c in
+    (registers-in (the c.before.before.before) st.requires.1.1.1).2
 
-record-bit-requires : tie.Need-record-bit-requires
+record-bit-requires : tie.Need-record_bit-flag-requires
 record-bit-requires c κs =
     let l-get3 = c.before in
     let l-get2 = to-n l-get3 in
     let st = nodes-entry l-get3 in
-    let q = nodes-in st.args.map st.pre.1.0 (the st) st.pre.1.1.1 in (
-      omega (arith, st.pre.0),
+    let q = nodes-in st.args.map st.requires.1.0 (the st) st.requires.1.1.1 in (
+      omega (arith, st.requires.0),
       (
-        form-legal (the st) st.pre.1.1.1,
-        (omega (arith, (to-d l-get2).get.ensures, q.0), omega (arith, l-get2.get2.ensures, q.1), omega (arith, l-get3.get3.ensures, q.2), st.pre.1.1.0),
+        form-legal (the st) st.requires.1.1.1,
+        (omega (arith, (to-d l-get2).get-old.ensures, q.0), omega (arith, l-get2.get-first.ensures, q.1), omega (arith, l-get3.get-second.ensures, q.2), st.requires.1.1.0),
       ),
     )
 
-lower-record-requires : tie.Need-lower-record-requires
+lower-record-requires : tie.Need-lower_record-after-requires
 lower-record-requires c κs =
-    let l-record-bit = to-bit c.before in
-    let p = (nodes-entry (to-m l-record-bit)).requires in
-    let s = l-record-bit.record-bit.ensures.sized in
-    (omega (arith, p.0, s), (raised-ok (nodes-entry (to-m l-record-bit)).args.map _ s.more p.1.0, p.1.1.1))
+    let l-record-bit = c in
+    let p = l-record-bit.requires in
+    let s = l-record-bit.record_bit-flag.ensures.sized in
+    (omega (arith, p.0, s), (raised-ok l-record-bit.args.map _ s.more p.1.0, p.1.1.1))
 
-same_length : tie.Need-same-length
+same_length : tie.Need-shape_of-pool
 same_length c = search rules
 
 returns : tie.Need-returns
 returns c =
-    let l-lower-record = c.before.before in
-    let bit = to-bit l-lower-record.before.before in
-    let m = to-m bit in
-    let n = to-n m in
-    let st = nodes-entry m in
-    flags st.args.map st.args.bit (the st) st.pre.1.0 st.pre.1.1.1 (to-d n).get.ensures n.get2.ensures m.get3.ensures
-    bit.record-bit.ensures l-lower-record.lower-record.ensures
+    let l-lower-record = c in
+    let bit = c in
+    let m = c in
+    let n = c in
+    let st = c in
+    flags st.args.map st.args.bit (the c.before.before.before.before.before.before.before.before.before.before.before.before.before) st.requires.1.0 st.requires.1.1.1 n.get-old.ensures n.get-first.ensures m.get-second.ensures
+    bit.record_bit-flag.ensures l-lower-record.lower_record-after.ensures
 
-pub flag-record-spec : {M : Type 1} → statement M
-flag-record-spec =
+pub flag_record_spec : {M : Type 1} → statement M
+flag_record_spec =
     tie.close
     (tie.spec
     get-requires

@@ -9,50 +9,41 @@ use borrow.Author.Rules.{rules}
 use Rattle.script_lane_length.proofs.lane_number.Statement.{statement}
 use Rattle.script_lane_length.proofs.lane_number.Tie as tie
 
-abbrev entry : tie.After-script-number → tie.Start
-entry c = c.before.before
-
-abbrev start : tie.Else1 → tie.Start
-start c = entry c.before
-
 -- hi and lo are read
-abbrev passed : tie.After-struct-known2 → tie.Else1
-passed c = c.before.before
-
 -- ---- pool and nodes are not refused
 
-accepted : (c : tie.Else1) → let a = (start c).args in script_number a.pool.now a.count a.a.0 a.b.0 0 ≡ 0
-accepted c = omega (arith, c.before.script-number.ensures, c.if1.false)
+accepted : (c : tie.Else-number-gt0) → let a = c.args in script_number a.pool.now a.count a.a.0 a.b.0 0 ≡ 0
+accepted c = omega (arith, c.script_number-number.ensures, c.if-number-gt0.false)
 
-no_cut : (c : tie.Else1) → let a = (start c).args in is_cut a.hi.0 a.lo.0 ≡ false → 5 ≡ lane_number a.pool.now a.count a.a.0 a.b.0 a.hi.0 a.lo.0 0
-no_cut c f = let a = (start c).args in sym (bad-cut a.pool.now a.count a.a.0 a.b.0 a.hi.0 a.lo.0 0 (accepted c) f)
+no_cut : (c : tie.Else-number-gt0) → let a = c.args in is_cut a.hi.0 a.lo.0 ≡ false → 5 ≡ lane_number a.pool.now a.count a.a.0 a.b.0 a.hi.0 a.lo.0 0
+no_cut c f = let a = c.args in sym (bad-cut a.pool.now a.count a.a.0 a.b.0 a.hi.0 a.lo.0 0 (accepted c) f)
 
 -- ---- needs
 
-script-number-requires : tie.Need-script-number-requires
+script-number-requires : tie.Need-script_number-number-requires
 script-number-requires c κs = search rules
 
-returns : tie.Need-returns
+returns : tie.Need-returns-then-number-gt0
 returns c =
-    let a = (entry c.before).args in
-    let e = c.before.script-number.ensures in
-    e ∙ sym (bad-nodes a.pool.now a.count a.a.0 a.b.0 a.hi.0 a.lo.0 0 (omega (arith, e, c.if1.true)))
+    let a = c.args in
+    let e = c.script_number-number.ensures in
+    e ∙ sym (bad-nodes a.pool.now a.count a.a.0 a.b.0 a.hi.0 a.lo.0 0 (omega (arith, e, c.if-number-gt0.true)))
 
-returns-2 : tie.Need-returns-2
-returns-2 c = no_cut (passed c.before) (no-cut-reversed _ _ c.if2.true)
+returns-2 : tie.Need-returns-then-hi-lo
+returns-2 c = no_cut c.before.before.before (no-cut-reversed _ _ c.if-hi-lo.true)
 
-returns-3 : tie.Need-returns-3
+returns-3 : tie.Need-returns-then-hi-gt127
 returns-3 c =
-    let good = passed c.before.before.before in
-    let a = (start good).args in
-    no_cut good (no-cut-above a.hi.0 a.lo.0 (omega (arith, c.if3.true)))
+    let good = c in
+    let a = good.args in
+    no_cut c.before.before.before.before.before (no-cut-above a.hi.0 a.lo.0 (omega (arith, c.if-hi-gt127.true)))
 
-returns-4 : tie.Need-returns-4
+returns-4 : tie.Need-returns
 returns-4 c =
-    let cut = c.before.before in
-    let good = passed cut.before in
-    let a = (start good).args in
-    sym (good-all a.pool.now a.count a.a.0 a.b.0 a.hi.0 a.lo.0 (accepted good) (omega (arith, cut.if2.false)) (omega (arith, c.if3.false)))
+    let cut = c in
+    let good = c in
+    let a = good.args in
+    sym (good-all a.pool.now a.count a.a.0 a.b.0 a.hi.0 a.lo.0 (accepted c.before.before.before.before.before) (omega (arith, cut.if-hi-lo.false)) (omega (arith, c.if-hi-gt127.false)))
 
-pub lane-number-spec : {M : Type 1} → statement M
-lane-number-spec = tie.close (tie.spec script-number-requires returns returns-2 returns-3 returns-4)
+pub lane_number_spec : {M : Type 1} → statement M
+lane_number_spec = tie.close (tie.spec script-number-requires returns returns-2 returns-3 returns-4)

@@ -9,22 +9,19 @@ use borrow.Author.Rules.{rules}
 use Rattle.script_lane_length.proofs.lane_script_length.Statement.{statement}
 use Rattle.script_lane_length.proofs.lane_script_length.Tie as tie
 
-abbrev entry : tie.After-lane-number → tie.Start
-entry c = c.before.before
-
 -- no refusal applies
-accepted : (c : tie.Else1) → let a = (entry c.before).args in lane_number a.pool.now a.count a.a a.b a.hi a.lo 0 ≡ 0
-accepted c = omega (arith, c.before.lane-number.ensures, c.if1.false)
+accepted : (c : tie.Else-number-gt0) → let a = c.args in lane_number a.pool.now a.count a.a a.b a.hi a.lo 0 ≡ 0
+accepted c = omega (arith, c.lane_number-number.ensures, c.if-number-gt0.false)
 
-lane-number-requires : tie.Need-lane-number-requires
+lane-number-requires : tie.Need-lane_number-number-requires
 lane-number-requires c κs = search rules
 
-returns : tie.Need-returns
-returns c = let a = (entry c.before).args in unmeasured a.pool.now a.count a.a a.b a.hi a.lo c.before.lane-number.ensures c.if1.true
+returns : tie.Need-returns-then-number-gt0
+returns c = let a = c.args in unmeasured a.pool.now a.count a.a a.b a.hi a.lo c.lane_number-number.ensures c.if-number-gt0.true
 
-lane-measure-requires : tie.Need-lane-measure-requires
+lane-measure-requires : tie.Need-lane_measure-requires
 lane-measure-requires c κs =
-    let a = (entry c.before).args in
+    let a = c.args in
     let ws = a.pool.now in
     let n = a.count in
     let f = fine ws n a.a a.b a.hi a.lo 0 (accepted c) in
@@ -37,10 +34,10 @@ lane-measure-requires c κs =
       omega (arith, f.order, f.under),
     )
 
-returns-2 : tie.Need-returns-2
+returns-2 : tie.Need-returns
 returns-2 c =
-    let a = (entry c.before.before).args in
-    measured a.pool.now a.count a.a a.b a.hi a.lo (accepted c.before) c.lane-measure.ensures
+    let a = c.args in
+    measured a.pool.now a.count a.a a.b a.hi a.lo (accepted c.before) c.lane_measure.ensures
 
-pub lane-script-length-spec : {M : Type 1} → statement M
-lane-script-length-spec = tie.close (tie.spec lane-number-requires returns lane-measure-requires returns-2)
+pub lane_script_length_spec : {M : Type 1} → statement M
+lane_script_length_spec = tie.close (tie.spec lane-number-requires returns lane-measure-requires returns-2)

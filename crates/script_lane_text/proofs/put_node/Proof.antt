@@ -12,62 +12,53 @@ use Rattle.script_lane_text.proofs.put_node.Tie as tie
 
 -- ---- places: the entry, where the kind is read, and where the width is read of a node that is no Var
 
-abbrev entry : tie.After-kind-of → tie.Start
-entry c = c.before.before.before
-
-abbrev to-kind : tie.After-width-of → tie.After-kind-of
-to-kind c = c.before.before
-
-abbrev to-width : tie.After-put-declared → tie.After-width-of
-to-width c = c.before.before
-
 -- its two lines
-lines : (c : tie.After-width-of) → let a = (entry (to-kind c)).args in
-    lines_at a.p.now a.n.0 ≡ constant_line a.n.0 c.width_of_lem.result ++ equation_line a.p.now a.n.0
+lines : (c : tie.After-width_of-w) → let a = c.args in
+    lines_at a.p.now a.n.0 ≡ constant_line a.n.0 c.width_of-w.result ++ equation_line a.p.now a.n.0
 lines c =
-    let k = to-kind c in
-    let a = (entry k).args in
-    let w = c.width_of_lem in
-    lines-with a.p.now a.n.0 k.kind-of.result w.result k.kind-of.ensures c.before.if1.false w.ensures.0
+    let k = c in
+    let a = k.args in
+    let w = c.width_of-w in
+    lines-with a.p.now a.n.0 k.kind_of-k.result w.result k.kind_of-k.ensures c.if-k-eq-VAR.false w.ensures.0
 
 -- ---- needs
 
-kind-of-requires : tie.Need-kind-of-requires
+kind-of-requires : tie.Need-kind_of-k-requires
 kind-of-requires c κs = search rules
 
-returns : tie.Need-returns
+returns : tie.Need-returns-then-k-eq-VAR
 returns c =
-    let k = c.before in
-    let a = (entry k).args in
-    wrote_as (no_lines a.p.now a.n.0 (sym k.kind-of.ensures ∙ c.if1.true)) (wrote_none a.buf.now a.at)
+    let k = c in
+    let a = k.args in
+    wrote_as (no_lines a.p.now a.n.0 (sym k.kind_of-k.ensures ∙ c.if-k-eq-VAR.true)) (wrote_none a.buf.now a.at)
 
-width-of-requires : tie.Need-width-of-requires
+width-of-requires : tie.Need-width_of-w-requires
 width-of-requires c κs = search rules
 
-put-declared-requires : tie.Need-put-declared-requires
+put-declared-requires : tie.Need-put_declared-i-requires
 put-declared-requires c κs =
-    let w = c.before in
-    room-front _ (room_as (lines w) (entry (to-kind w)).requires.1)
+    let w = c in
+    room-front _ (room_as (lines c.before) w.requires.1)
 
-put-equation-requires : tie.Need-put-equation-requires
+put-equation-requires : tie.Need-put_equation-requires
 put-equation-requires c κs =
-    let d = c.before.before.before in
-    let w = to-width d in
-    let s = entry (to-kind w) in
-    let ready = s.pre.0 in
-    let k = (to-kind w).kind-of in (
-      (ready, k.ensures, above k.result 1 (kind-above s.args.p.now s.args.n.0 ready k.result k.ensures) w.before.if1.left),
-      room-step d.put-declared.ensures (room_as (lines w) s.pre.1),
+    let d = c in
+    let w = c in
+    let s = c in
+    let ready = s.requires.0 in
+    let k = w.kind_of-k in (
+      (ready, k.ensures, above k.result 1 (kind-above s.args.p.now s.args.n.0 ready k.result k.ensures) w.if1.left),
+      room-step d.put_declared-i.ensures (room_as (lines c.before.before.before.before.before) s.requires.1),
     )
 
-same_length : tie.Need-same-length
+same_length : tie.Need-shape_of-buf
 same_length c = search rules
 
-returns-2 : tie.Need-returns-2
+returns-2 : tie.Need-returns
 returns-2 c =
-    let e = c.before.before in
-    let d = e.before.before.before.before in
-    wrote_as (lines (to-width d)) (wrote_then d.put-declared.ensures e.put-equation.ensures)
+    let e = c in
+    let d = c in
+    wrote_as (lines c.before.before.before.before.before.before.before.before) (wrote_then d.put_declared-i.ensures e.put_equation.ensures)
 
-pub put-node-spec : {M : Type 1} → statement M
-put-node-spec = tie.close (tie.spec kind-of-requires returns width-of-requires put-declared-requires put-equation-requires same_length returns-2)
+pub put_node_spec : {M : Type 1} → statement M
+put_node_spec = tie.close (tie.spec kind-of-requires returns width-of-requires put-declared-requires put-equation-requires same_length returns-2)

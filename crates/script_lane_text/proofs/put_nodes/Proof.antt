@@ -11,60 +11,54 @@ use Rattle.script_lane_text.specs.Lines.{lines_at}
 use Rattle.script_lane_text.proofs.put_nodes.Statement.{statement}
 use Rattle.script_lane_text.proofs.put_nodes.Tie as tie
 
-abbrev invariant-loop : tie.invariant-loop
-invariant-loop p count buf₀ at n₀ end₀ buf n end = Wrote buf₀ at (up_to n (lines_at p)) end buf × (n ≤ count) × (length buf ≡ length buf₀)
+abbrev invariant-loop-n : tie.invariant-loop-n
+invariant-loop-n p count buf₀ at n₀ end₀ buf n end = Wrote buf₀ at (up_to n (lines_at p)) end buf × (n ≤ count) × (length buf ≡ length buf₀)
 
-abbrev decreases-loop : tie.decreases-loop
-decreases-loop p count buf₀ at n₀ end₀ buf n end = count - n
+abbrev decreases-loop-n : tie.decreases-loop-n
+decreases-loop-n p count buf₀ at n₀ end₀ buf n end = count - n
 
-abbrev entry : tie.At-loop invariant-loop decreases-loop → tie.Start invariant-loop decreases-loop
-entry c = c.before.before.before
-
-abbrev turn : tie.After-put-node invariant-loop decreases-loop → tie.In-loop invariant-loop decreases-loop
-turn p = p.before.before
-
-loop-holds : tie.Need-loop-init invariant-loop decreases-loop
+loop-holds : tie.Need-loop-n-init invariant-loop-n decreases-loop-n
 loop-holds c =
-    let st = c.before.before in (wrote-first (lines_at st.args.p.now) st.args.buf.now st.args.at, omega arith, refl)
+    let st = c in (wrote-first (lines_at st.args.p.now) st.args.buf.now st.args.at, omega arith, refl)
 
-put-node-requires : tie.Need-put-node-requires invariant-loop decreases-loop
+put-node-requires : tie.Need-put_node-end-requires invariant-loop-n decreases-loop-n
 put-node-requires c κs =
-    let t = c.before in
-    let s = entry t.before in
-    let l = t.before.loop in
-    (s.pre.0 l.n t.loop-test.true, room_next (lines_at s.args.p.now) s.args.count l.n t.loop-test.true s.pre.1 l.invariant.0)
+    let t = c in
+    let s = c in
+    let l = t.loop-n in
+    (s.requires.0 l.n t.loop-n-test.true, room_next (lines_at s.args.p.now) s.args.count l.n t.loop-n-test.true s.requires.1 l.invariant.0)
 
-add-n : tie.Need-overflow-add-n invariant-loop decreases-loop
-add-n c = omega (arith, (turn c.before.before).loop-test.taken)
+add-n : tie.Need-overflow_add-n invariant-loop-n decreases-loop-n
+add-n c = omega (arith, c.loop-test.taken)
 
-loop-less : tie.Need-loop-smaller invariant-loop decreases-loop
-loop-less c = omega (arith, (turn c.before.before).loop-test.taken)
+loop-less : tie.Need-loop-n-smaller invariant-loop-n decreases-loop-n
+loop-less c = omega (arith, c.loop-test.taken)
 
-loop-again : tie.Need-loop-preserved invariant-loop decreases-loop
+loop-again : tie.Need-loop-n-preserved invariant-loop-n decreases-loop-n
 loop-again c =
-    let p = c.before.before in
-    let t = turn p in
-    let o = t.before.loop in
-    let w = p.put-node.ensures in
-    (wrote-next (lines_at (entry t.before).args.p.now) o.n o.inv.0 w, omega (arith, t.loop-test.taken), wrote-length w ∙ o.inv.2)
+    let p = c in
+    let t = c in
+    let o = t.loop-n in
+    let w = p.put_node-end.ensures in
+    (wrote-next (lines_at t.args.p.now) o.n o.inv.0 w, omega (arith, t.loop-test.taken), wrote-length w ∙ o.inv.2)
 
-same_length : tie.Need-same-length invariant-loop decreases-loop
+same_length : tie.Need-shape_of-buf invariant-loop-n decreases-loop-n
 same_length c =
-    c.before.loop.invariant.2
+    c.loop-n.invariant.2
 
-returns : tie.Need-returns invariant-loop decreases-loop
+returns : tie.Need-returns invariant-loop-n decreases-loop-n
 returns c =
-    let a = (entry c.before).args in
-    let l = c.before.loop in
-    let e : l.n ≡ a.count = omega (arith, l.invariant.1, c.loop-test.false) in
-    subst (λ (j : ℕ). Wrote a.buf.now a.at (up_to j (lines_at a.p.now)) l.end l.buf) e l.invariant.0
+    let a = c.args in
+    let l = c.loop-n in
+    let e : l.n ≡ a.count = omega (arith, l.invariant.1, c.loop-n-test.false) in
+    subst (λ (j : ℕ). Wrote a.buf.now a.at (up_to j (lines_at a.p.now)) l.end l.buf-1) e l.invariant.0
 
-pub put-nodes-spec : {M : Type 1} → statement M
-put-nodes-spec =
+pub put_nodes_spec : {M : Type 1} → statement M
+put_nodes_spec =
     tie.close
     (tie.spec
-    invariant-loop
-    decreases-loop
+    invariant-loop-n
+    decreases-loop-n
     loop-holds
     put-node-requires
     add-n

@@ -9,55 +9,49 @@ use Rattle.script_length.proofs.Sizes.{next-line, no_lines}
 use Rattle.script_length.proofs.lines_length.Statement.{statement}
 use Rattle.script_length.proofs.lines_length.Tie as tie
 
-abbrev invariant-loop : tie.invariant-loop
-invariant-loop p count n₀ sum₀ n sum = (sum ≡ length (up_to n (line_at p))) × (sum ≤ 192 * n) × (n ≤ count)
+abbrev invariant-loop-n : tie.invariant-loop-n
+invariant-loop-n p count n₀ sum₀ n sum = (sum ≡ length (up_to n (line_at p))) × (sum ≤ 192 * n) × (n ≤ count)
 
-abbrev decreases-loop : tie.decreases-loop
-decreases-loop p count n₀ sum₀ n sum = count - n
-
-abbrev entry : tie.At-loop invariant-loop decreases-loop → tie.Start invariant-loop decreases-loop
-entry l = l.before.before
+abbrev decreases-loop-n : tie.decreases-loop-n
+decreases-loop-n p count n₀ sum₀ n sum = count - n
 
 -- from a node's length to its turn
-abbrev turn : tie.After-line-length invariant-loop decreases-loop → tie.At-loop invariant-loop decreases-loop
-turn c = c.before.before
-
-loop-holds : tie.Need-loop-init invariant-loop decreases-loop
+loop-holds : tie.Need-loop-n-init invariant-loop-n decreases-loop-n
 loop-holds c = (sym (no_lines _), omega arith, omega arith)
 
-line-length-requires : tie.Need-line-length-requires invariant-loop decreases-loop
-line-length-requires c κs = (entry c.before).pre.0 c.before.loop.n c.loop-test.true
+line-length-requires : tie.Need-line_length-sum-requires invariant-loop-n decreases-loop-n
+line-length-requires c κs = c.requires.0 c.loop-n.n c.loop-n-test.true
 
-add-sum : tie.Need-overflow-add-sum invariant-loop decreases-loop
-add-sum c = omega (arith, (turn c).loop.invariant.1, c.line-length.ensures.1, c.before.loop-test.true, (entry (turn c)).pre.1)
+add-sum : tie.Need-overflow_add-sum invariant-loop-n decreases-loop-n
+add-sum c = omega (arith, c.loop-n.invariant.1, c.line_length-sum.ensures.1, c.loop-n-test.true, c.requires.1)
 
-add-n : tie.Need-overflow-add-n invariant-loop decreases-loop
-add-n c = omega (arith, c.before.loop-test.true, (entry (turn c)).pre.1)
+add-n : tie.Need-overflow_add-n invariant-loop-n decreases-loop-n
+add-n c = omega (arith, c.loop-n-test.true, c.requires.1)
 
-loop-less : tie.Need-loop-smaller invariant-loop decreases-loop
-loop-less c = omega (arith, c.before.loop-test.true)
+loop-less : tie.Need-loop-n-smaller invariant-loop-n decreases-loop-n
+loop-less c = omega (arith, c.loop-n-test.true)
 
-loop-again : tie.Need-loop-preserved invariant-loop decreases-loop
+loop-again : tie.Need-loop-n-preserved invariant-loop-n decreases-loop-n
 loop-again c =
-    let l = (turn c).loop in (
-      omega (arith, l.inv.0, c.line-length.ensures.0, next-line (entry (turn c)).args.p.now l.n),
-      omega (arith, l.inv.1, c.line-length.ensures.1),
-      omega (arith, c.before.loop-test.true),
+    let l = c.loop-n in (
+      omega (arith, l.inv.0, c.line_length-sum.ensures.0, next-line c.args.p.now l.n),
+      omega (arith, l.inv.1, c.line_length-sum.ensures.1),
+      omega (arith, c.loop-n-test.true),
     )
 
-returns : tie.Need-returns invariant-loop decreases-loop
+returns : tie.Need-returns invariant-loop-n decreases-loop-n
 returns c =
-    let l = c.before.loop in
-    let a = (entry c.before).args in
-    let e : l.n ≡ a.count = omega (arith, l.invariant.2, c.loop-test.false) in
+    let l = c.loop-n in
+    let a = c.args in
+    let e : l.n ≡ a.count = omega (arith, l.invariant.2, c.loop-n-test.false) in
     (l.invariant.0 ∙ ap (λ (j : ℕ). length (up_to j (line_at a.p.now))) e, omega (arith, l.invariant.1, e))
 
-pub lines-length-spec : {M : Type 1} → statement M
-lines-length-spec =
+pub lines_length_spec : {M : Type 1} → statement M
+lines_length_spec =
     tie.close
     (tie.spec
-    invariant-loop
-    decreases-loop
+    invariant-loop-n
+    decreases-loop-n
     loop-holds
     line-length-requires
     add-sum

@@ -5,43 +5,43 @@ use borrow.Author.Rules.{rules}
 use Rattle.script_length.proofs.measure.Statement.{statement}
 use Rattle.script_length.proofs.measure.Tie as tie
 
-name-length-requires : tie.Need-name-length-requires
-name-length-requires c κs = let st = c.before in st.requires.0 st.args.x.0 st.requires.2
+name-length-requires : tie.Need-name_length-requires
+name-length-requires c κs = let st = c in st.requires.0 st.args.x.0 st.requires.2
 
-name-length-requires-2 : tie.Need-name-length-requires-2
-name-length-requires-2 c κs = let st = c.before.before in st.requires.0 st.args.y.0 st.requires.3
+name-length-requires-2 : tie.Need-name_length-requires-2
+name-length-requires-2 c κs = let st = c in st.requires.0 st.args.y.0 st.requires.3
 
-add-claim : tie.Need-overflow-add-claim
+add-claim : tie.Need-overflow_add-claim
 add-claim c = search rules
 
-add-claim-2 : tie.Need-overflow-add-claim-2
+add-claim-2 : tie.Need-overflow_add-claim-2
 add-claim-2 c = search rules
 
-lines-length-requires : tie.Need-lines-length-requires
+lines-length-requires : tie.Need-lines_length-requires
 lines-length-requires c κs = search rules
 
-add-result : tie.Need-overflow-add-result
+add-result : tie.Need-overflow_add-result
 add-result c = search rules
 
-add-result-2 : tie.Need-overflow-add-result-2
+add-result-2 : tie.Need-overflow_add-result-2
 add-result-2 c = search rules
 
 returns : tie.Need-returns
 returns c =
-    let at-name-length2 = c.before in
-    let at-name-length = at-name-length2.before in
-    let st = at-name-length.before.before in
+    let at-name-length2 = c in
+    let at-name-length = c in
+    let st = c in
     omega (
       arith,
-      c.lines-length.ensures.0,
-      at-name-length2.name-length2.ensures.0,
-      at-name-length.name-length.ensures.0,
+      c.lines_length.ensures.0,
+      at-name-length2.name_length-2.ensures.0,
+      at-name-length.name_length.ensures.0,
       size-script st.args.p.now
           st.args.count st.args.x.0 st.args.y.0,
     )
 
-pub measure-spec : {M : Type 1} → statement M
-measure-spec =
+pub measure_spec : {M : Type 1} → statement M
+measure_spec =
     tie.close
     (tie.spec
     name-length-requires

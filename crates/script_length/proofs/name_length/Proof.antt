@@ -11,52 +11,49 @@ use borrow.Author.Rules.{rules}
 use Rattle.script_length.proofs.name_length.Statement.{statement}
 use Rattle.script_length.proofs.name_length.Tie as tie
 
-abbrev entry : tie.After-kind-of → tie.Start
-entry c = c.before.before
-
 -- a Var
-var-is : (c : tie.Then1) → let a = (entry c.before).args in kind_number a.p.now a.n.0 ≡ 1
-var-is c = sym c.before.kind-of.ensures ∙ c.if1.true
+var-is : (c : tie.Then-kind_of-eq-VAR) → let a = c.args in kind_number a.p.now a.n.0 ≡ 1
+var-is c = sym c.kind_of.ensures ∙ c.if-kind_of-eq-VAR.true
 
-kind-of-requires : tie.Need-kind-of-requires
+kind-of-requires : tie.Need-kind_of-requires
 kind-of-requires c κs = search rules
 
 low-requires : tie.Need-low-requires
 low-requires c κs = search rules
 
-number-length-requires : tie.Need-number-length-requires
+number-length-requires : tie.Need-number_length-requires
 number-length-requires c κs =
-    let s = entry c.before.before in
-    omega (arith, c.low.ensures, register-small s.args.p.now s.args.n.0 s.pre.ready _ refl (var-is c.before))
+    let s = c in
+    omega (arith, c.low.ensures, register-small s.args.p.now s.args.n.0 s.requires.ready _ refl (var-is c.before))
 
-add-result : tie.Need-overflow-add-result
+add-result : tie.Need-overflow_add-result
 add-result c = search rules
 
-returns : tie.Need-returns
+returns : tie.Need-returns-then-kind_of-eq-VAR
 returns c =
-    let l = c.before in
-    let a = (entry l.before.before).args in
+    let l = c in
+    let a = l.args in
     let z = ap (λ (x : ℕ). length (decimal x)) l.low.ensures in (
-      omega (arith, z, c.number-length.ensures.0, size-register a.p.now a.n.0 (var-is l.before)),
-      omega (arith, c.number-length.ensures.1),
+      omega (arith, z, c.number_length.ensures.0, size-register a.p.now a.n.0 (var-is c.before.before)),
+      omega (arith, c.number_length.ensures.1),
     )
 
-number-length-requires-2 : tie.Need-number-length-requires-2
+number-length-requires-2 : tie.Need-number_length-requires-2
 number-length-requires-2 c κs = search rules
 
-add-result-2 : tie.Need-overflow-add-result-2
+add-result-2 : tie.Need-overflow_add-result-2
 add-result-2 c = search rules
 
-returns-2 : tie.Need-returns-2
+returns-2 : tie.Need-returns
 returns-2 c =
-    let o = c.before in
-    let a = (entry o.before).args in (
-      omega (arith, c.number-length2.ensures.0, size-node a.p.now a.n.0 (λ e. o.if1.false (o.before.kind-of.ensures ∙ e))),
-      omega (arith, c.number-length2.ensures.1),
+    let o = c in
+    let a = o.args in (
+      omega (arith, c.number_length-2.ensures.0, size-node a.p.now a.n.0 (λ e. o.if-kind_of-eq-VAR.false (o.kind_of.ensures ∙ e))),
+      omega (arith, c.number_length-2.ensures.1),
     )
 
-pub name-length-spec : {M : Type 1} → statement M
-name-length-spec =
+pub name_length_spec : {M : Type 1} → statement M
+name_length_spec =
     tie.close
     (tie.spec
     kind-of-requires

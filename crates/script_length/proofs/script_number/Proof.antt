@@ -13,63 +13,54 @@ use Rattle.script_length.proofs.script_number.Tie as tie
 
 -- ---- places, and what is known there
 
-abbrev entry : tie.After-pool-check → tie.Start
-entry c = c.before.before
-
-abbrev start : tie.After-of-width → tie.Start
-start c = entry c.before.before
-
 -- from the second node's test to the first's
-abbrev to-first : tie.After-of-width2 → tie.After-of-width
-to-first c = c.before.before
-
 -- the pool is valid
-valid : (c : tie.Else1) → let a = (entry c.before).args in pool_ok a.pool.now a.count ≡ true
-valid c = sym c.before.pool-check.ensures ∙ not-false _ c.if1.false
+valid : (c : tie.Else-not-pool_check) → let a = c.args in pool_ok a.pool.now a.count ≡ true
+valid c = sym c.pool_check.ensures ∙ not-false _ c.if-not-pool_check.false-raw
 
-words : (c : tie.Else1) → let a = (entry c.before).args in 4 * a.count ≤ length a.pool.now
-words c = let a = (entry c.before).args in words-for a.pool.now a.count (valid c)
+words : (c : tie.Else-not-pool_check) → let a = c.args in 4 * a.count ≤ length a.pool.now
+words c = let a = c.args in words-for a.pool.now a.count (valid c)
 
 -- and the first node one of it
-first : (c : tie.Else2) → let a = (start c.before).args in of_width a.pool.now a.count a.a.0 128 ≡ true
-first c = sym c.before.of_width.ensures ∙ not-false _ c.if2.false
+first : (c : tie.Else-not-of_width) → let a = c.args in of_width a.pool.now a.count a.a.0 128 ≡ true
+first c = sym c.of_width.ensures ∙ not-false _ c.if-not-of_width.false-raw
 
 -- ---- needs
 
-pool-check-requires : tie.Need-pool-check-requires
+pool-check-requires : tie.Need-pool_check-requires
 pool-check-requires c κs = search rules
 
-returns : tie.Need-returns
+returns : tie.Need-returns-then-not-pool_check
 returns c =
-    let a = (entry c.before).args in
-    sym (bad-pool a.pool.now a.count a.a.0 a.b.0 0 (sym c.before.pool-check.ensures ∙ not-true _ c.if1.true))
+    let a = c.args in
+    sym (bad-pool a.pool.now a.count a.a.0 a.b.0 0 (sym c.pool_check.ensures ∙ not-true _ c.if-not-pool_check.true-raw))
 
-of-width-requires : tie.Need-of-width-requires
+of-width-requires : tie.Need-of_width-requires
 of-width-requires c κs = words c
 
-returns-2 : tie.Need-returns-2
+returns-2 : tie.Need-returns-then-not-of_width
 returns-2 c =
-    let l = c.before in
-    let a = (start l).args in
-    sym (bad-first a.pool.now a.count a.a.0 a.b.0 0 (valid l.before) (sym l.of_width.ensures ∙ not-true _ c.if2.true))
+    let l = c in
+    let a = l.args in
+    sym (bad-first a.pool.now a.count a.a.0 a.b.0 0 (valid c.before.before) (sym l.of_width.ensures ∙ not-true _ c.if-not-of_width.true-raw))
 
-of-width-requires-2 : tie.Need-of-width-requires-2
+of-width-requires-2 : tie.Need-of_width-requires-2
 of-width-requires-2 c κs = words c.before.before
 
-returns-3 : tie.Need-returns-3
+returns-3 : tie.Need-returns-then-not-of_width-2
 returns-3 c =
-    let n = c.before in
-    let a = (start (to-first n)).args in
-    sym (bad-second a.pool.now a.count a.a.0 a.b.0 0 (valid (to-first n).before) (first n.before) (sym n.of-width2.ensures ∙ not-true _ c.if3.true))
+    let n = c in
+    let a = n.args in
+    sym (bad-second a.pool.now a.count a.a.0 a.b.0 0 (valid c.before.before.before.before) (first c.before.before) (sym n.of_width-2.ensures ∙ not-true _ c.if-not-of_width-2.true-raw))
 
-returns-4 : tie.Need-returns-4
+returns-4 : tie.Need-returns
 returns-4 c =
-    let both = c.before in
-    let a = (start (to-first both)).args in
-    sym (good-nodes a.pool.now a.count a.a.0 a.b.0 0 (valid (to-first both).before) (first both.before) (sym both.of-width2.ensures ∙ not-false _ c.if3.false))
+    let both = c in
+    let a = both.args in
+    sym (good-nodes a.pool.now a.count a.a.0 a.b.0 0 (valid c.before.before.before.before) (first c.before.before) (sym both.of_width-2.ensures ∙ not-false _ c.if-not-of_width-2.false-raw))
 
-pub script-number-spec : {M : Type 1} → statement M
-script-number-spec =
+pub script_number_spec : {M : Type 1} → statement M
+script_number_spec =
     tie.close
     (tie.spec
     pool-check-requires

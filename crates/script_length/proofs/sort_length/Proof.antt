@@ -6,17 +6,17 @@ use borrow.Author.Rules.{rules}
 use Rattle.script_length.proofs.sort_length.Statement.{statement}
 use Rattle.script_length.proofs.sort_length.Tie as tie
 
-returns : tie.Need-returns
-returns c = (sym (size-bool _ c.if1.true), omega arith)
+returns : tie.Need-returns-then-width-eq0
+returns c = (sym (size-bool _ c.if-width-eq0.true), omega arith)
 
-number-length-requires : tie.Need-number-length-requires
+number-length-requires : tie.Need-number_length-requires
 number-length-requires c κs = search rules
 
-add-result : tie.Need-overflow-add-result
+add-result : tie.Need-overflow_add-result
 add-result c = search rules
 
-returns-2 : tie.Need-returns-2
-returns-2 c = (omega (arith, c.number-length.ensures.0, size-vector c.before.before.args.width c.before.if1.false), omega (arith, c.number-length.ensures.1))
+returns-2 : tie.Need-returns
+returns-2 c = (omega (arith, c.number_length.ensures.0, size-vector c.args.width c.if-width-eq0.false), omega (arith, c.number_length.ensures.1))
 
-pub sort-length-spec : {M : Type 1} → statement M
-sort-length-spec = tie.close (tie.spec returns number-length-requires add-result returns-2)
+pub sort_length_spec : {M : Type 1} → statement M
+sort_length_spec = tie.close (tie.spec returns number-length-requires add-result returns-2)

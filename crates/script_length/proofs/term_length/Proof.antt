@@ -26,57 +26,24 @@ n s = s.args.n.0
 abbrev k : tie.Start → ℕ
 k s = s.args.k
 
-abbrev entry : tie.Else1 → tie.Start
-entry c = c.before.before
-
-abbrev three : tie.After-third → tie.Then2
-three c = c.before.before.before
-
-abbrev three-entry : tie.After-third → tie.Start
-three-entry c = entry (three c).before
-
-abbrev cut : tie.After-first2 → tie.Then3
-cut c = c.before.before.before
-
-abbrev cut-entry : tie.After-first2 → tie.Start
-cut-entry c = entry (cut c).before.before
-
-abbrev two : tie.After-second2 → tie.Then4
-two c = c.before.before
-
-abbrev two-first : tie.After-second2 → tie.Else1
-two-first c = (two c).before.before.before
-
-abbrev two-entry : tie.After-second2 → tie.Start
-two-entry c = entry (two-first c)
-
-from-three : (c : tie.After-second2) → 3 ≤ k (two-entry c)
-from-three c = omega (arith, (two-entry c).requires.2, (two-first c).if1.false)
-
-abbrev widened : tie.After-first4 → tie.After-width-of2
-widened c = c.before
-
-abbrev extension : tie.After-first4 → tie.Else4
-extension c = (widened c).before
-
-abbrev extension-entry : tie.After-first4 → tie.Start
-extension-entry c = entry (extension c).before.before.before
+from-three : (c : tie.After-second-then-k-lt-ZERO_EXTEND) → 3 ≤ k c.before.before.before.before.before.before.before
+from-three c = omega (arith, c.requires.2, c.if-k-eq-CONST.false)
 
 -- ---- needs
 
-width-of-requires : tie.Need-width-of-requires
+width-of-requires : tie.Need-width_of-requires
 width-of-requires c κs = search rules
 
-add-result : tie.Need-overflow-add-result
+add-result : tie.Need-overflow_add-result
 add-result c = search rules
 
-returns : tie.Need-returns
+returns : tie.Need-returns-then-k-eq-CONST
 returns c =
-    let b = c.before in
-    let s = b.before.before in
-    let h = constant (ws s) (n s) s.requires.0.ready (k s) s.requires.1 b.if1.true in
-    let e = c.width_of_lem.ensures.0 in
-    let z = ap length h.1 ∙ size-constant (width_at (ws s) (n s)) (wide (word_at (ws s) (n s) 2) (word_at (ws s) (n s) 3)) in
+    let b = c in
+    let s = c in
+    let h = constant (ws c.before.before.before) (n c.before.before.before) s.requires.0.ready (k c.before.before.before) s.requires.1 b.if-k-eq-CONST.true in
+    let e = c.width_of.ensures.0 in
+    let z = ap length h.1 ∙ size-constant (width_at (ws c.before.before.before) (n c.before.before.before)) (wide (word_at (ws c.before.before.before) (n c.before.before.before) 2) (word_at (ws c.before.before.before) (n c.before.before.before) 3)) in
     (omega (arith, e, z), omega (arith, e, h.0))
 
 first-requires : tie.Need-first-requires
@@ -88,125 +55,125 @@ second-requires c κs = search rules
 third-requires : tie.Need-third-requires
 third-requires c κs = search rules
 
-three-length-requires : tie.Need-three-length-requires
+three-length-requires : tie.Need-three_length-requires
 three-length-requires c κs =
-    let s = three-entry c in
-    let R = s.pre.0 in
-    let t = three-of (ws s) (n s) R.ready (k s) s.pre.1 (three c).if2.true in
-    (named-as R t.0 c.before.before.first.ensures, named-as R t.1 c.before.second.ensures, named-as R t.2 c.third.ensures)
+    let s = c in
+    let R = s.requires.0 in
+    let t = three-of (ws c.before.before.before.before.before.before) (n c.before.before.before.before.before.before) R.ready (k c.before.before.before.before.before.before) s.requires.1 c.if-k-eq-ITE.true in
+    (named-as R t.0 c.first.ensures, named-as R t.1 c.second.ensures, named-as R t.2 c.third.ensures)
 
-returns-2 : tie.Need-returns-2
+returns-2 : tie.Need-returns-then-k-eq-ITE
 returns-2 c =
-    let All-three = c.before in
-    let s = three-entry All-three in
-    let t = three-of (ws s) (n s) s.pre.0.ready (k s) s.pre.1 (three All-three).if2.true in (
-      c.three-length.ensures.0 ∙ (λ j. length (show (apply3 (bytes "ite") (name_of (ws s) (All-three.before.before.first.ensures j)) (name_of (ws s) (All-three.before.second.ensures j))
-          (name_of (ws s) (All-three.third.ensures j))))) ∙ sym (ap (λ (u : Sexp). length (show u)) t.3),
-      c.three-length.ensures.1,
+    let All-three = c in
+    let s = c in
+    let t = three-of (ws c.before.before.before.before.before.before.before) (n c.before.before.before.before.before.before.before) s.requires.0.ready (k c.before.before.before.before.before.before.before) s.requires.1 All-three.if-k-eq-ITE.true in (
+      c.three_length.ensures.0 ∙ (λ j. length (show (apply3 (bytes "ite") (name_of (ws c.before.before.before.before.before.before.before) (All-three.first.ensures j)) (name_of (ws c.before.before.before.before.before.before.before) (All-three.second.ensures j))
+          (name_of (ws c.before.before.before.before.before.before.before) (All-three.third.ensures j))))) ∙ sym (ap (λ (u : Sexp). length (show u)) t.3),
+      c.three_length.ensures.1,
     )
 
-cut-hi-requires : tie.Need-cut-hi-requires
+cut-hi-requires : tie.Need-cut_hi-hi-requires
 cut-hi-requires c κs = search rules
 
-cut-lo-requires : tie.Need-cut-lo-requires
+cut-lo-requires : tie.Need-cut_lo-lo-requires
 cut-lo-requires c κs = search rules
 
-first-requires-2 : tie.Need-first-requires-2
+first-requires-2 : tie.Need-first-requires-then-k-eq-EXTRACT
 first-requires-2 c κs = search rules
 
-cut-length-requires : tie.Need-cut-length-requires
+cut-length-requires : tie.Need-cut_length-requires
 cut-length-requires c κs =
-    let s = cut-entry c in
-    let R = s.pre.0 in
-    let i = (cut c).if3.true in
-    let small = range_small (ws s) (n s) R.ready (k s) s.pre.1 i in (
-      named-as R (cut_of (ws s) (n s) R.ready (k s) s.pre.1 i).0 c.first2.ensures,
-      omega (arith, c.before.before.cut-hi.ensures, small.0),
-      omega (arith, c.before.cut-lo.ensures, small.1),
+    let s = c in
+    let R = s.requires.0 in
+    let i = c.if-k-eq-EXTRACT.true in
+    let small = range_small (ws c.before.before.before.before.before.before.before) (n c.before.before.before.before.before.before.before) R.ready (k c.before.before.before.before.before.before.before) s.requires.1 i in (
+      named-as R (cut_of (ws c.before.before.before.before.before.before.before) (n c.before.before.before.before.before.before.before) R.ready (k c.before.before.before.before.before.before.before) s.requires.1 i).0 c.first-then-k-eq-EXTRACT.ensures,
+      omega (arith, c.cut_hi-hi.ensures, small.0),
+      omega (arith, c.cut_lo-lo.ensures, small.1),
     )
 
-returns-3 : tie.Need-returns-3
+returns-3 : tie.Need-returns-then-k-eq-EXTRACT
 returns-3 c =
-    let bits = c.before in
-    let s = cut-entry bits in
-    let t = cut_of (ws s) (n s) s.pre.0.ready (k s) s.pre.1 (cut bits).if3.true in (
-      c.cut-length.ensures.0 ∙ (λ j. length (show (apply1 (index2 (bytes "extract") (bits.before.before.cut-hi.ensures j) (bits.before.cut-lo.ensures j)) (name_of (ws s)
-          (bits.first2.ensures j))))) ∙ sym (ap (λ (u : Sexp). length (show u)) t.1),
-      c.cut-length.ensures.1,
+    let bits = c in
+    let s = c in
+    let t = cut_of (ws c.before.before.before.before.before.before.before.before) (n c.before.before.before.before.before.before.before.before) s.requires.0.ready (k c.before.before.before.before.before.before.before.before) s.requires.1 bits.if-k-eq-EXTRACT.true in (
+      c.cut_length.ensures.0 ∙ (λ j. length (show (apply1 (index2 (bytes "extract") (bits.cut_hi-hi.ensures j) (bits.cut_lo-lo.ensures j)) (name_of (ws c.before.before.before.before.before.before.before.before)
+          (bits.first-then-k-eq-EXTRACT.ensures j))))) ∙ sym (ap (λ (u : Sexp). length (show u)) t.1),
+      c.cut_length.ensures.1,
     )
 
-first-requires-3 : tie.Need-first-requires-3
+first-requires-3 : tie.Need-first-requires-then-k-lt-ZERO_EXTEND
 first-requires-3 c κs = search rules
 
-second-requires-2 : tie.Need-second-requires-2
+second-requires-2 : tie.Need-second-requires-then-k-lt-ZERO_EXTEND
 second-requires-2 c κs = search rules
 
-two-length-requires : tie.Need-two-length-requires
+two-length-requires : tie.Need-two_length-requires
 two-length-requires c κs =
-    let s = two-entry c in
-    let R = s.pre.0 in
+    let s = c in
+    let R = s.requires.0 in
     let l = from-three c in
-    let t = two-of (ws s) (n s) R.ready (k s) s.pre.1 l (two c).if4.true (two c).before.before.if2.false (two c).before.if3.false in
-    (l, kind-below (ws s) (n s) R.ready (k s) s.pre.1, named-as R t.less-a c.before.first3.ensures, named-as R t.less-b c.second2.ensures)
+    let t = two-of (ws c.before.before.before.before.before.before.before) (n c.before.before.before.before.before.before.before) R.ready (k c.before.before.before.before.before.before.before) s.requires.1 l c.if-k-lt-ZERO_EXTEND.true c.if-k-eq-ITE.false c.if-k-eq-EXTRACT.false in
+    (l, kind-below (ws c.before.before.before.before.before.before.before) (n c.before.before.before.before.before.before.before) R.ready (k c.before.before.before.before.before.before.before) s.requires.1, named-as R t.less-a c.first-then-k-lt-ZERO_EXTEND.ensures, named-as R t.less-b c.second-then-k-lt-ZERO_EXTEND.ensures)
 
-returns-4 : tie.Need-returns-4
+returns-4 : tie.Need-returns-then-k-lt-ZERO_EXTEND
 returns-4 c =
-    let both = c.before in
-    let s = two-entry both in
-    let l = from-three both in
-    let t = two-of (ws s) (n s) s.pre.0.ready (k s) s.pre.1 l (two both).if4.true (two both).before.before.if2.false (two both).before.if3.false in (
-      c.two-length.ensures.0 ∙ (λ j. length (show (apply2 (function_of (kind_at (k s))) (name_of (ws s) (both.before.first3.ensures j)) (name_of (ws s)
-          (both.second2.ensures j))))) ∙ sym (ap (λ (u : Sexp). length (show u)) t.term_is),
-      c.two-length.ensures.1,
+    let both = c in
+    let s = c in
+    let l = from-three c.before in
+    let t = two-of (ws c.before.before.before.before.before.before.before.before) (n c.before.before.before.before.before.before.before.before) s.requires.0.ready (k c.before.before.before.before.before.before.before.before) s.requires.1 l both.if-k-lt-ZERO_EXTEND.true both.if-k-eq-ITE.false both.if-k-eq-EXTRACT.false in (
+      c.two_length.ensures.0 ∙ (λ j. length (show (apply2 (function_of (kind_at (k c.before.before.before.before.before.before.before.before))) (name_of (ws c.before.before.before.before.before.before.before.before) (both.first-then-k-lt-ZERO_EXTEND.ensures j)) (name_of (ws c.before.before.before.before.before.before.before.before)
+          (both.second-then-k-lt-ZERO_EXTEND.ensures j))))) ∙ sym (ap (λ (u : Sexp). length (show u)) t.term_is),
+      c.two_length.ensures.1,
     )
 
-width-of-requires-2 : tie.Need-width-of-requires-2
+width-of-requires-2 : tie.Need-width_of-requires-2
 width-of-requires-2 c κs = search rules
 
-first-requires-4 : tie.Need-first-requires-4
+first-requires-4 : tie.Need-first-requires-2
 first-requires-4 c κs = search rules
 
-width-of-requires-3 : tie.Need-width-of-requires-3
+width-of-requires-3 : tie.Need-width_of-requires-3
 width-of-requires-3 c κs =
-    let s = extension-entry c in
-    let h = extension-of (ws s) (n s) s.pre.0.ready (k s) s.pre.1 (extension c).if4.false in
-    omega (arith, c.first4.ensures, h.less-a, s.pre.0.ready.inside)
+    let s = c in
+    let h = extension-of (ws c.before.before.before.before.before.before.before) (n c.before.before.before.before.before.before.before) s.requires.0.ready (k c.before.before.before.before.before.before.before) s.requires.1 c.if-k-lt-ZERO_EXTEND.false in
+    omega (arith, c.first-2.ensures, h.less-a, s.requires.0.ready.inside)
 
-sub_by : tie.Need-overflow-sub-by
+sub_by : tie.Need-overflow_sub-by
 sub_by c =
-    let f = c.before in
-    let a = extension-entry f in
-    let h = extension-of (ws a) (n a) a.pre.0.ready (k a) a.pre.1 (extension f).if4.false in
-    let e = c.width-of3.ensures.0 ∙ ap (width_at (ws a)) f.first4.ensures in
-    omega (arith, e, (widened f).width-of2.ensures.0, h.longer)
+    let f = c in
+    let a = c in
+    let h = extension-of (ws c.before.before.before.before.before.before.before.before) (n c.before.before.before.before.before.before.before.before) a.requires.0.ready (k c.before.before.before.before.before.before.before.before) a.requires.1 f.if-k-lt-ZERO_EXTEND.false in
+    let e = c.width_of-3.ensures.0 ∙ ap (width_at (ws c.before.before.before.before.before.before.before.before)) f.first-2.ensures in
+    omega (arith, e, f.width_of-2.ensures.0, h.longer)
 
-first-requires-5 : tie.Need-first-requires-5
+first-requires-5 : tie.Need-first-requires-3
 first-requires-5 c κs = search rules
 
-extension-length-requires : tie.Need-extension-length-requires
+extension-length-requires : tie.Need-extension_length-requires
 extension-length-requires c κs =
-    let f = c.before.before in
-    let s = extension-entry f in
-    let R = s.pre.0 in
-    let l = (extension f).if4.false in
-    let h = extension-of (ws s) (n s) R.ready (k s) s.pre.1 l in
-    let w = width_small (ws s) (n s) R.ready (k s) s.pre.1 in
-    (omega (arith, l), kind-below (ws s) (n s) R.ready (k s) s.pre.1, named-as R h.less-a c.first5.ensures, omega (arith, (widened f).width-of2.ensures.0, w))
+    let f = c in
+    let s = c in
+    let R = s.requires.0 in
+    let l = f.if-k-lt-ZERO_EXTEND.false in
+    let h = extension-of (ws c.before.before.before.before.before.before.before.before.before) (n c.before.before.before.before.before.before.before.before.before) R.ready (k c.before.before.before.before.before.before.before.before.before) s.requires.1 l in
+    let w = width_small (ws c.before.before.before.before.before.before.before.before.before) (n c.before.before.before.before.before.before.before.before.before) R.ready (k c.before.before.before.before.before.before.before.before.before) s.requires.1 in
+    (omega (arith, l), kind-below (ws c.before.before.before.before.before.before.before.before.before) (n c.before.before.before.before.before.before.before.before.before) R.ready (k c.before.before.before.before.before.before.before.before.before) s.requires.1, named-as R h.less-a c.first-3.ensures, omega (arith, f.width_of-2.ensures.0, w))
 
-returns-5 : tie.Need-returns-5
+returns-5 : tie.Need-returns
 returns-5 c =
-    let operand = c.before in
-    let f = operand.before.before in
-    let s = extension-entry f in
-    let e = operand.before.width-of3.ensures.0 ∙ ap (width_at (ws s)) f.first4.ensures in
-    let g = (widened f).width-of2.ensures.0 in (
-      c.extension-length.ensures.0 ∙ (λ j. length (show (apply1 (index1 (function_of (kind_at (k s))) (g j - e j)) (name_of (ws s) (operand.first5.ensures j))))) ∙ sym (ap
-          (λ (u : Sexp). length (show u)) (extension-term (ws s) (n s) s.pre.0.ready (k s) s.pre.1 (extension f).if4.false)),
-      c.extension-length.ensures.1,
+    let operand = c in
+    let f = c in
+    let s = c in
+    let e = operand.width_of-3.ensures.0 ∙ ap (width_at (ws c.before.before.before.before.before.before.before.before.before.before)) f.first-2.ensures in
+    let g = f.width_of-2.ensures.0 in (
+      c.extension_length.ensures.0 ∙ (λ j. length (show (apply1 (index1 (function_of (kind_at (k c.before.before.before.before.before.before.before.before.before.before))) (g j - e j)) (name_of (ws c.before.before.before.before.before.before.before.before.before.before) (operand.first-3.ensures j))))) ∙ sym (ap
+          (λ (u : Sexp). length (show u)) (extension-term (ws c.before.before.before.before.before.before.before.before.before.before) (n c.before.before.before.before.before.before.before.before.before.before) s.requires.0.ready (k c.before.before.before.before.before.before.before.before.before.before) s.requires.1 f.if-k-lt-ZERO_EXTEND.false)),
+      c.extension_length.ensures.1,
     )
 
-pub term-length-spec : {M : Type 1} → statement M
-term-length-spec =
+pub term_length_spec : {M : Type 1} → statement M
+term_length_spec =
     tie.close
     (tie.spec
     width-of-requires

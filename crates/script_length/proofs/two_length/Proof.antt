@@ -7,44 +7,44 @@ use borrow.Author.Rules.{rules}
 use Rattle.script_length.proofs.two_length.Statement.{statement}
 use Rattle.script_length.proofs.two_length.Tie as tie
 
-function-length-requires : tie.Need-function-length-requires
+function-length-requires : tie.Need-function_length-requires
 function-length-requires c κs = search rules
 
-name-length-requires : tie.Need-name-length-requires
+name-length-requires : tie.Need-name_length-requires
 name-length-requires c κs = search rules
 
-add-result : tie.Need-overflow-add-result
+add-result : tie.Need-overflow_add-result
 add-result c = search rules
 
-name-length-requires-2 : tie.Need-name-length-requires-2
+name-length-requires-2 : tie.Need-name_length-requires-2
 name-length-requires-2 c κs = search rules
 
-add-result-2 : tie.Need-overflow-add-result-2
+add-result-2 : tie.Need-overflow_add-result-2
 add-result-2 c = search rules
 
-add-result-3 : tie.Need-overflow-add-result-3
+add-result-3 : tie.Need-overflow_add-result-3
 add-result-3 c = search rules
 
 returns : tie.Need-returns
 returns c =
-    let at-name-length = c.before in
-    let at-function-length = at-name-length.before in
-    let at-args = at-function-length.before.before in
+    let at-name-length = c in
+    let at-function-length = c in
+    let at-args = c in
     let a = at-args.args in (
       omega (
         arith,
-        c.name-length2.ensures.0,
-        at-name-length.name-length.ensures.0,
-        at-function-length.function-length.ensures.0,
+        c.name_length-2.ensures.0,
+        at-name-length.name_length.ensures.0,
+        at-function-length.function_length.ensures.0,
         size-2 (function_of (kind_at
             a.k)) (name_of a.p.now a.a.0) (name_of a.p.now a.b.0),
       ),
       omega
-          (arith, c.name-length2.ensures.1, at-name-length.name-length.ensures.1, at-function-length.function-length.ensures.1),
+          (arith, c.name_length-2.ensures.1, at-name-length.name_length.ensures.1, at-function-length.function_length.ensures.1),
     )
 
-pub two-length-spec : {M : Type 1} → statement M
-two-length-spec =
+pub two_length_spec : {M : Type 1} → statement M
+two_length_spec =
     tie.close
     (tie.spec
     function-length-requires

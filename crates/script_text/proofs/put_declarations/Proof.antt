@@ -11,59 +11,53 @@ use Rattle.script_text.specs.Lines.{declaration_line}
 use Rattle.script_text.proofs.put_declarations.Statement.{statement}
 use Rattle.script_text.proofs.put_declarations.Tie as tie
 
-abbrev invariant-loop : tie.invariant-loop
-invariant-loop buf₀ at r₀ end₀ buf r end = Wrote buf₀ at (up_to r declaration_line) end buf × (r ≤ 32) × (length buf ≡ length buf₀)
+abbrev invariant-loop-r : tie.invariant-loop-r
+invariant-loop-r buf₀ at r₀ end₀ buf r end = Wrote buf₀ at (up_to r declaration_line) end buf × (r ≤ 32) × (length buf ≡ length buf₀)
 
-abbrev decreases-loop : tie.decreases-loop
-decreases-loop buf₀ at r₀ end₀ buf r end = 32 - r
+abbrev decreases-loop-r : tie.decreases-loop-r
+decreases-loop-r buf₀ at r₀ end₀ buf r end = 32 - r
 
-abbrev entry : tie.At-loop invariant-loop decreases-loop → tie.Start invariant-loop decreases-loop
-entry c = c.before.before
-
-abbrev turn : tie.After-put-declaration invariant-loop decreases-loop → tie.In-loop invariant-loop decreases-loop
-turn p = p.before.before
-
-loop-holds : tie.Need-loop-init invariant-loop decreases-loop
+loop-holds : tie.Need-loop-r-init invariant-loop-r decreases-loop-r
 loop-holds c =
-    let st = c.before in (wrote-first declaration_line st.args.buf.now st.args.at, omega arith, refl)
+    let st = c in (wrote-first declaration_line st.args.buf.now st.args.at, omega arith, refl)
 
-put-declaration-requires : tie.Need-put-declaration-requires invariant-loop decreases-loop
+put-declaration-requires : tie.Need-put_declaration-end-requires invariant-loop-r decreases-loop-r
 put-declaration-requires c κs =
-    let t = c.before in
-    let l = t.before.loop in
-    room_next declaration_line 32 l.r t.loop-test.true (entry t.before).pre l.invariant.0
+    let t = c in
+    let l = t.loop-r in
+    room_next declaration_line 32 l.r t.loop-r-test.true t.requires l.invariant.0
 
-add_r : tie.Need-overflow-add-r invariant-loop decreases-loop
-add_r c = omega (arith, (turn c.before.before).loop-test.taken)
+add_r : tie.Need-overflow_add-r invariant-loop-r decreases-loop-r
+add_r c = omega (arith, c.loop-test.taken)
 
-loop-less : tie.Need-loop-smaller invariant-loop decreases-loop
-loop-less c = omega (arith, (turn c.before.before).loop-test.taken)
+loop-less : tie.Need-loop-r-smaller invariant-loop-r decreases-loop-r
+loop-less c = omega (arith, c.loop-test.taken)
 
-loop-again : tie.Need-loop-preserved invariant-loop decreases-loop
+loop-again : tie.Need-loop-r-preserved invariant-loop-r decreases-loop-r
 loop-again c =
-    let p = c.before.before in
-    let t = turn p in
-    let o = t.before.loop in
-    let w = p.put-declaration.ensures in
+    let p = c in
+    let t = c in
+    let o = t.loop-r in
+    let w = p.put_declaration-end.ensures in
     (wrote-next declaration_line o.r o.inv.0 w, omega (arith, t.loop-test.taken), wrote-length w ∙ o.inv.2)
 
-same_length : tie.Need-same-length invariant-loop decreases-loop
+same_length : tie.Need-shape_of-buf invariant-loop-r decreases-loop-r
 same_length c =
-    c.before.loop.invariant.2
+    c.loop-r.invariant.2
 
-returns : tie.Need-returns invariant-loop decreases-loop
+returns : tie.Need-returns invariant-loop-r decreases-loop-r
 returns c =
-    let a = (entry c.before).args in
-    let l = c.before.loop in
-    let e : l.r ≡ 32 = omega (arith, l.invariant.1, c.loop-test.false) in
-    subst (λ (j : ℕ). Wrote a.buf.now a.at (up_to j declaration_line) l.end l.buf) e l.invariant.0
+    let a = c.args in
+    let l = c.loop-r in
+    let e : l.r ≡ 32 = omega (arith, l.invariant.1, c.loop-r-test.false) in
+    subst (λ (j : ℕ). Wrote a.buf.now a.at (up_to j declaration_line) l.end l.buf-1) e l.invariant.0
 
-pub put-declarations-spec : {M : Type 1} → statement M
-put-declarations-spec =
+pub put_declarations_spec : {M : Type 1} → statement M
+put_declarations_spec =
     tie.close
     (tie.spec
-    invariant-loop
-    decreases-loop
+    invariant-loop-r
+    decreases-loop-r
     loop-holds
     put-declaration-requires
     add_r

@@ -4,20 +4,20 @@ use borrow.Author.Rules.{rules}
 use Rattle.text.proofs.write_known.Statement.{statement}
 use Rattle.text.proofs.write_known.Tie as tie
 
-write-node-requires : tie.Need-write-node-requires
+write-node-requires : tie.Need-write_node-requires
 write-node-requires c κs = search rules
 
-same_length : tie.Need-same-length
+same_length : tie.Need-shape_of-buffer
 same_length c = search rules
 
 returns : tie.Need-returns
 returns c =
-    let b = c.before in
-    let w = b.before in
+    let b = c in
+    let w = c in
     record {
-      next_is = w.write-node.ensures.1;
-      after_is = b.buffer.given.1.0 (sym (ap (λ x. x.ghost_name) w.write-node.ensures.0)) ∙ ap (λ x. x.now) w.write-node.ensures.0;
+      next_is = w.write_node.ensures.1;
+      after_is = b.buffer-1.given.1.0 (sym (ap (λ x. x.ghost_name) w.write_node.ensures.0)) ∙ ap (λ x. x.now) w.write_node.ensures.0;
     }
 
-pub write-known-spec : {M : Type 1} → statement M
-write-known-spec = tie.close (tie.spec write-node-requires same_length returns)
+pub write_known_spec : {M : Type 1} → statement M
+write_known_spec = tie.close (tie.spec write-node-requires same_length returns)

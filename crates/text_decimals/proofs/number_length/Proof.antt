@@ -6,20 +6,20 @@ use Rattle.text_decimals.proofs.Digits.{size}
 use Rattle.text_decimals.proofs.number_length.Statement.{statement}
 use Rattle.text_decimals.proofs.number_length.Tie as tie
 
-returns : tie.Need-returns
-returns c = (sym (decimal-one _ c.if2.true), omega arith)
+returns : tie.Need-returns-then-x-lt10
+returns c = (sym (decimal-one _ c.if-x-lt10.true), omega arith)
 
-returns-2 : tie.Need-returns-2
-returns-2 c = (sym (size 1 _ c.if2.false c.before.if1.true), omega arith)
+returns-2 : tie.Need-returns-else-x-lt10
+returns-2 c = (sym (size 1 _ c.if-x-lt10.false c.if-x-lt100.true), omega arith)
 
-returns-3 : tie.Need-returns-3
-returns-3 c = (sym (size 2 _ c.before.if1.false c.if3.true), omega arith)
+returns-3 : tie.Need-returns-then-x-lt1000
+returns-3 c = (sym (size 2 _ c.if-x-lt100.false c.if-x-lt1000.true), omega arith)
 
-returns-4 : tie.Need-returns-4
-returns-4 c = (sym (size 3 _ c.before.if3.false c.if4.true), omega arith)
+returns-4 : tie.Need-returns-then-x-lt10000
+returns-4 c = (sym (size 3 _ c.if-x-lt1000.false c.if-x-lt10000.true), omega arith)
 
-returns-5 : tie.Need-returns-5
-returns-5 c = (sym (size 4 _ c.if4.false c.before.before.before.requires), omega arith)
+returns-5 : tie.Need-returns-else-x-lt10000
+returns-5 c = (sym (size 4 _ c.if-x-lt10000.false c.requires), omega arith)
 
-pub number-length-spec : {M : Type 1} → statement M
-number-length-spec = tie.close (tie.spec returns returns-2 returns-3 returns-4 returns-5)
+pub number_length_spec : {M : Type 1} → statement M
+number_length_spec = tie.close (tie.spec returns returns-2 returns-3 returns-4 returns-5)

@@ -7,47 +7,41 @@ use Rattle.text_decimals.proofs.put_2.Statement.{statement}
 use Rattle.text_decimals.proofs.put_2.Tie as tie
 
 -- the figure of the tens, and of what is left
-abbrev entry : tie.After-decimal-digit → tie.Start
-entry c = c.before.before.before
-
-abbrev tens : tie.After-decimal-digit2 → tie.After-decimal-digit
-tens c = c.before
-
-place-of-requires : tie.Need-place-of-requires
+place-of-requires : tie.Need-place_of-p-requires
 place-of-requires c κs = search rules
 
-decimal-digit-requires : tie.Need-decimal-digit-requires
+decimal-digit-requires : tie.Need-decimal_digit-requires
 decimal-digit-requires c κs = search rules
 
-slice-write-buf : tie.Need-slice-write-buf
+slice-write-buf : tie.Need-bounds-buf-at
 slice-write-buf c =
-    let s = entry c in
-    omega (arith, s.pre.1.room, length-padded 2 s.args.x)
+    let s = c in
+    omega (arith, s.requires.1.room, length-padded 2 s.args.x)
 
-decimal-digit-requires-2 : tie.Need-decimal-digit-requires-2
+decimal-digit-requires-2 : tie.Need-decimal_digit-requires-2
 decimal-digit-requires-2 c κs = search rules
 
-add-buf : tie.Need-overflow-add-buf
+add-buf : tie.Need-overflow_add-buf
 add-buf c = search rules
 
-slice-write-buf-2 : tie.Need-slice-write-buf-2
+slice-write-buf-2 : tie.Need-bounds-buf-at-2
 slice-write-buf-2 c =
-    let s = entry (tens c) in
-    omega (arith, s.pre.1.room, length-padded 2 s.args.x, length-set s.args.buf.now s.args.at (tens c).decimal_digit.result)
+    let s = c in
+    omega (arith, s.requires.1.room, length-padded 2 s.args.x, length-set s.args.buf.now s.args.at c.decimal_digit.result)
 
-add-result : tie.Need-overflow-add-result
+add-result : tie.Need-overflow_add-result
 add-result c = search rules
 
-same_length : tie.Need-same-length
+same_length : tie.Need-shape_of-buf
 same_length c = search rules
 
 returns : tie.Need-returns
 returns c =
-    let p = (tens c).before.place_of in
-    wrote-last (tens c).decimal_digit.ensures c.decimal-digit2.ensures (first-2 (entry (tens c)).args.x _ _ p.ensures.0 p.ensures.1)
+    let p = c.place_of-p in
+    wrote-last c.decimal_digit.ensures c.decimal_digit-2.ensures (first-2 c.args.x _ _ p.ensures.0 p.ensures.1)
 
-pub put-2-spec : {M : Type 1} → statement M
-put-2-spec =
+pub put_2_spec : {M : Type 1} → statement M
+put_2_spec =
     tie.close
     (tie.spec
     place-of-requires

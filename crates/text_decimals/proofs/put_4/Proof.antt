@@ -12,45 +12,39 @@ use Rattle.text_decimals.proofs.put_4.Tie as tie
 
 -- ---- the places after the two calls of a digit, and the entry
 
-abbrev entry : tie.After-place-of → tie.Start
-entry c = c.before.before
+split : (c : tie.After-place_of-p) → padded 4 c.args.x ≡ digit c.place_of-p.result.digit ∷ padded 3 c.place_of-p.result.rest
+split c = first 3 c.args.x _ _ c.place_of-p.ensures.0 c.place_of-p.ensures.1
 
-abbrev to-place : tie.After-decimal-digit → tie.After-place-of
-to-place c = c.before
-
-split : (c : tie.After-place-of) → padded 4 (entry c).args.x ≡ digit c.place_of.result.digit ∷ padded 3 c.place_of.result.rest
-split c = first 3 (entry c).args.x _ _ c.place_of.ensures.0 c.place_of.ensures.1
-
-place-of-requires : tie.Need-place-of-requires
+place-of-requires : tie.Need-place_of-p-requires
 place-of-requires c κs = search rules
 
-decimal-digit-requires : tie.Need-decimal-digit-requires
+decimal-digit-requires : tie.Need-decimal_digit-requires
 decimal-digit-requires c κs = search rules
 
-slice-write-buf : tie.Need-slice-write-buf
-slice-write-buf c = let p = to-place c in room-one (split p) (entry p).pre.1
+slice-write-buf : tie.Need-bounds-buf-at
+slice-write-buf c = let p = c in room-one (split c.before) p.requires.1
 
-add-put-3 : tie.Need-overflow-add-put-3
+add-put-3 : tie.Need-overflow_add-at
 add-put-3 c = search rules
 
-put-3-requires : tie.Need-put-3-requires
-put-3-requires c κs = let p = to-place c.before in (p.place_of.ensures.1, room-rest _ (split p) (entry p).pre.1)
+put-3-requires : tie.Need-put_3-requires
+put-3-requires c κs = let p = c in (p.place_of-p.ensures.1, room-rest _ (split c.before.before) p.requires.1)
 
-same_length : tie.Need-same-length
+same_length : tie.Need-shape_of-buf
 same_length c =
-    let w = c.before.before in
-    let f = w.before.before in
-    let a = (entry (to-place f)).args in
+    let w = c in
+    let f = c in
+    let a = f.args in
     wrote-length w.put_3.ensures ∙ length-set a.buf.now a.at f.decimal_digit.result
 
 returns : tie.Need-returns
 returns c =
-    let rest = c.before.before in
-    let first = rest.before.before in
-    wrote-first first.decimal_digit.ensures (split (to-place first)) rest.put_3.ensures
+    let rest = c in
+    let first = c in
+    wrote-first first.decimal_digit.ensures (split c.before.before.before.before.before) rest.put_3.ensures
 
-pub put-4-spec : {M : Type 1} → statement M
-put-4-spec =
+pub put_4_spec : {M : Type 1} → statement M
+put_4_spec =
     tie.close
     (tie.spec
     place-of-requires

@@ -12,99 +12,87 @@ use Rattle.text_decimals.proofs.put_number.Tie as tie
 
 -- ---- the entry, from past the tests of 100, 1,000, 10,000, and where the digits are that many
 
-abbrev over-99 : tie.Else1 → tie.Start
-over-99 c = c.before.before
+two : (c : tie.Else-x-lt10) → let x = c.args.x in decimal x ≡ padded 2 x
+two c = unpadded 1 c.args.x c.if-x-lt10.false c.if-x-lt100.true
 
-abbrev over-999 : tie.Else3 → tie.Start
-over-999 c = over-99 c.before
+three : (c : tie.Then-x-lt1000) → let x = c.args.x in decimal x ≡ padded 3 x
+three c = unpadded 2 c.args.x c.if-x-lt100.false c.if-x-lt1000.true
 
-abbrev over-9999 : tie.Else4 → tie.Start
-over-9999 c = over-999 c.before
+four : (c : tie.Then-x-lt10000) → let x = c.args.x in decimal x ≡ padded 4 x
+four c = unpadded 3 c.args.x c.if-x-lt1000.false c.if-x-lt10000.true
 
-abbrev below-100 : tie.Then1 → tie.Start
-below-100 c = c.before.before
-
-two : (c : tie.Else2) → let x = (below-100 c.before).args.x in decimal x ≡ padded 2 x
-two c = unpadded 1 (below-100 c.before).args.x c.if2.false c.before.if1.true
-
-three : (c : tie.Then3) → let x = (over-99 c.before).args.x in decimal x ≡ padded 3 x
-three c = unpadded 2 (over-99 c.before).args.x c.before.if1.false c.if3.true
-
-four : (c : tie.Then4) → let x = (over-999 c.before).args.x in decimal x ≡ padded 4 x
-four c = unpadded 3 (over-999 c.before).args.x c.before.if3.false c.if4.true
-
-five : (c : tie.Then5) → let x = (over-9999 c.before).args.x in decimal x ≡ padded 5 x
-five c = unpadded 4 (over-9999 c.before).args.x c.before.if4.false c.if5.true
+five : (c : tie.Then-x-lt100000) → let x = c.args.x in decimal x ≡ padded 5 x
+five c = unpadded 4 c.args.x c.if-x-lt10000.false c.if-x-lt100000.true
 
 -- ---- the needs
 
-decimal-digit-requires : tie.Need-decimal-digit-requires
+decimal-digit-requires : tie.Need-decimal_digit-requires
 decimal-digit-requires c κs = search rules
 
-slice-write-buf : tie.Need-slice-write-buf
+slice-write-buf : tie.Need-bounds-buf-at
 slice-write-buf c =
-    let s = below-100 c.before.before in
-    omega (arith, decimal-one s.args.x c.before.if2.true, s.pre)
+    let s = c in
+    omega (arith, decimal-one s.args.x c.if-x-lt10.true, s.requires)
 
-add-result : tie.Need-overflow-add-result
+add-result : tie.Need-overflow_add-result
 add-result c = search rules
 
-same_length : tie.Need-same-length
+same_length : tie.Need-shape_of-buf-then-x-lt10
 same_length c = search rules
 
-returns : tie.Need-returns
+returns : tie.Need-returns-then-x-lt10
 unfolding decimal
 returns c =
-    let a = (below-100 c.before.before).args in
-    wrote_one 10 a.buf.now a.at a.x _ c.before.if2.true c.decimal_digit.ensures
+    let a = c.args in
+    wrote_one 10 a.buf.now a.at a.x _ c.if-x-lt10.true c.decimal_digit.ensures
 
-put-2-requires : tie.Need-put-2-requires
-put-2-requires c κs = let e = c.before in (e.before.if1.true, room_as (two e) (below-100 e.before).requires)
+put-2-requires : tie.Need-put_2-requires
+put-2-requires c κs = let e = c in (e.if-x-lt100.true, room_as (two c.before) e.requires)
 
-same-length-2 : tie.Need-same-length-2
+same-length-2 : tie.Need-shape_of-buf-then-x-lt100
 same-length-2 c = search rules
 
-returns-2 : tie.Need-returns-2
-returns-2 c = let w = c.before.before in wrote_as (two w.before.before) w.put_2.ensures
+returns-2 : tie.Need-returns-then-x-lt100
+returns-2 c = let w = c in wrote_as (two c.before.before.before.before) w.put_2.ensures
 
-put-3-requires : tie.Need-put-3-requires
-put-3-requires c κs = let e = c.before in (e.if3.true, room_as (three e) (over-99 e.before).requires)
+put-3-requires : tie.Need-put_3-requires
+put-3-requires c κs = let e = c in (e.if-x-lt1000.true, room_as (three c.before) e.requires)
 
-same-length-3 : tie.Need-same-length-3
+same-length-3 : tie.Need-shape_of-buf-then-x-lt1000
 same-length-3 c = search rules
 
-returns-3 : tie.Need-returns-3
-returns-3 c = let w = c.before.before in wrote_as (three w.before.before) w.put_3.ensures
+returns-3 : tie.Need-returns-then-x-lt1000
+returns-3 c = let w = c in wrote_as (three c.before.before.before.before) w.put_3.ensures
 
-put-4-requires : tie.Need-put-4-requires
-put-4-requires c κs = let e = c.before in (e.if4.true, room_as (four e) (over-999 e.before).requires)
+put-4-requires : tie.Need-put_4-requires
+put-4-requires c κs = let e = c in (e.if-x-lt10000.true, room_as (four c.before) e.requires)
 
-same-length-4 : tie.Need-same-length-4
+same-length-4 : tie.Need-shape_of-buf-then-x-lt10000
 same-length-4 c = search rules
 
-returns-4 : tie.Need-returns-4
-returns-4 c = let w = c.before.before in wrote_as (four w.before.before) w.put_4.ensures
+returns-4 : tie.Need-returns-then-x-lt10000
+returns-4 c = let w = c in wrote_as (four c.before.before.before.before) w.put_4.ensures
 
-put-5-requires : tie.Need-put-5-requires
-put-5-requires c κs = let e = c.before in (e.if5.true, room_as (five e) (over-9999 e.before).requires)
+put-5-requires : tie.Need-put_5-requires
+put-5-requires c κs = let e = c in (e.if-x-lt100000.true, room_as (five c.before) e.requires)
 
-same-length-5 : tie.Need-same-length-5
+same-length-5 : tie.Need-shape_of-buf-then-x-lt100000
 same-length-5 c = search rules
 
-returns-5 : tie.Need-returns-5
-returns-5 c = let w = c.before.before in wrote_as (five w.before.before) w.put-5.ensures
+returns-5 : tie.Need-returns-then-x-lt100000
+returns-5 c = let w = c in wrote_as (five c.before.before.before.before) w.put_5.ensures
 
-put-decimal-requires : tie.Need-put-decimal-requires
+put-decimal-requires : tie.Need-put_decimal-requires
 put-decimal-requires c κs = search rules
 
-same-length-6 : tie.Need-same-length-6
+same-length-6 : tie.Need-shape_of-buf
 same-length-6 c = search rules
 
-returns-6 : tie.Need-returns-6
+returns-6 : tie.Need-returns
 returns-6 c = search rules
 
-pub put-number-spec : {M : Type 1} → statement M
-put-number-spec =
+pub put_number_spec : {M : Type 1} → statement M
+put_number_spec =
     tie.close
     (tie.spec
     decimal-digit-requires

@@ -5,16 +5,16 @@ use borrow.Author.Rules.{rules}
 use Rattle.text_decimals.proofs.step.Statement.{statement}
 use Rattle.text_decimals.proofs.step.Tie as tie
 
-mul-size : tie.Need-overflow-mul-size
+mul-size : tie.Need-overflow_mul-size
 mul-size c = omega (arith, mul-le-mul c.requires.0.0 c.requires.0.1)
 
-returns : tie.Need-returns
+returns : tie.Need-returns-then-p-size
 returns c = search rules
 
-add-t6 : tie.Need-overflow-add-t6
+add-t6 : tie.Need-overflow_add-result
 add-t6 c = search rules
 
-returns-2 : tie.Need-returns-2
+returns-2 : tie.Need-returns
 returns-2 c = search rules
 
 pub step_spec : {M : Type 1} → statement M

@@ -5,20 +5,20 @@ use Rattle.text_digits.proofs.Lengths.{decimal-one, decimal-two, decimal-three}
 use Rattle.text_digits.proofs.decimal_length.Statement.{statement}
 use Rattle.text_digits.proofs.decimal_length.Tie as tie
 
-add-result : tie.Need-overflow-add-result
-add-result c = ⊎_elim (λ w. omega (arith, w.1)) (λ w. omega (arith, w.1)) c.before.before.if1.branch
+add-result : tie.Need-overflow_add-result
+add-result c = ⊎_elim (λ w. omega (arith, w.1)) (λ w. omega (arith, w.1)) c.if-x-lt10.branch
 
-returns : tie.Need-returns
+returns : tie.Need-returns-then-x-lt100
 returns c =
-    let x = c.before.before.args.x in
-    ⊎_elim (λ w. omega (arith, w.1, decimal-one x w.0.taken)) (λ w. omega (arith, w.1, decimal-two x w.0.left c.if2.true)) c.before.if1.branch
+    let x = c.args.x in
+    ⊎_elim (λ w. omega (arith, w.1, decimal-one x w.0.taken)) (λ w. omega (arith, w.1, decimal-two x w.0.left c.if-x-lt100.true)) c.if-x-lt10.branch
 
-returns-2 : tie.Need-returns-2
+returns-2 : tie.Need-returns-else-x-lt100
 returns-2 c =
-    let e = c.before in
-    let s = e.before.before in
-    let three = decimal-three s.args.x e.if2.false s.requires in
-    ⊎_elim (λ w. absurd (omega (arith, w.0.taken, e.if2.false))) (λ w. omega (arith, w.1, three)) e.before.if1.branch
+    let e = c in
+    let s = c in
+    let three = decimal-three s.args.x e.if-x-lt100.false s.requires in
+    ⊎_elim (λ w. absurd (omega (arith, w.0.taken, e.if-x-lt100.false))) (λ w. omega (arith, w.1, three)) e.if-x-lt10.branch
 
-pub decimal-length-spec : {M : Type 1} → statement M
-decimal-length-spec = tie.close (tie.spec add-result returns returns-2)
+pub decimal_length_spec : {M : Type 1} → statement M
+decimal_length_spec = tie.close (tie.spec add-result returns returns-2)

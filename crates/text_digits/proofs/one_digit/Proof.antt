@@ -16,5 +16,5 @@ small low high false e = rw e (sym (le-ltb (wide low high) 16 (omega (arith, eqb
 returns : tie.Need-returns
 returns c = small c.args.low c.args.high _ refl
 
-pub one-digit-spec : {M : Type 1} → statement M
-one-digit-spec = tie.close (tie.spec returns)
+pub one_digit_spec : {M : Type 1} → statement M
+one_digit_spec = tie.close (tie.spec returns)

@@ -13,47 +13,35 @@ use Rattle.text_parts.proofs.put_leaf.Statement.{statement}
 use Rattle.text_parts.proofs.put_leaf.Tie as tie
 
 -- a Var, whose number is read
-abbrev start-var : tie.After-low → tie.Start
-start-var c = c.before.before.before.before
-
-var-is : (c : tie.After-low) → let a = (start-var c).args in text a.p.now a.n.0 ≡ display (Var c.low.result)
+var-is : (c : tie.After-low) → let a = c.args in text a.p.now a.n.0 ≡ display (Var c.low.result)
 var-is c =
-    let s = start-var c in
-    whole-var s.args.p.now s.args.n.0 s.pre.0.0 s.args.k s.pre.0.1 c.before.if1.true c.low.ensures
+    let s = c in
+    whole-var s.args.p.now s.args.n.0 s.requires.0.0 s.args.k s.requires.0.1 c.if-k-eq-VAR.true c.low.ensures
 
 -- a Const, whose words are read
-abbrev start-const : tie.After-high → tie.Start
-start-const c = c.before.before.before.before.before
-
-const-is : (c : tie.After-high) {w : ℕ} → let a = (start-const c).args in
-    w ≡ width_at a.p.now a.n.0 → text a.p.now a.n.0 ≡ display (Const (wide c.before.low2.result c.high.result) w)
+const-is : (c : tie.After-high) {w : ℕ} → let a = c.args in
+    w ≡ width_at a.p.now a.n.0 → text a.p.now a.n.0 ≡ display (Const (wide c.low-2.result c.high.result) w)
 const-is c e =
-    let l = c.before in
-    let s = start-const c in
+    let l = c in
+    let s = c in
     let a = s.args in
-    let const = is-const a.p.now a.n.0 s.pre.0.0 a.k s.pre.0.1 s.pre.0.2 l.before.if1.false in
-    whole-const a.p.now a.n.0 s.pre.0.0 a.k s.pre.0.1 const l.low2.ensures c.high.ensures e
+    let const = is-const a.p.now a.n.0 s.requires.0.0 a.k s.requires.0.1 s.requires.0.2 l.if-k-eq-VAR.false in
+    whole-const a.p.now a.n.0 s.requires.0.0 a.k s.requires.0.1 const l.low-2.ensures c.high.ensures e
 
 -- the width is read, with the value written
-abbrev valued : tie.After-width-of → tie.After-put-value
-valued c = c.before.before.before
-
-abbrev const-read : tie.After-width-of → tie.After-high
-const-read c = (valued c).before.before
-
 low-requires : tie.Need-low-requires
 low-requires c κs = search rules
 
-put-numbered-requires : tie.Need-put-numbered-requires
+put-numbered-requires : tie.Need-put_numbered-requires
 unfolding display
-put-numbered-requires c κs = let l = c.before in room_as (var-is l) (start-var l).requires.1
+put-numbered-requires c κs = let l = c in room_as (var-is c.before) l.requires.1
 
-same_length : tie.Need-same-length
+same_length : tie.Need-shape_of-buf-then-k-eq-VAR
 same_length c = search rules
 
-returns : tie.Need-returns
+returns : tie.Need-returns-then-k-eq-VAR
 unfolding display
-returns c = let p = c.before.before in wrote_as (var-is p.before.before) p.put-numbered.ensures
+returns c = let p = c in wrote_as (var-is c.before.before.before.before) p.put_numbered.ensures
 
 low-requires-2 : tie.Need-low-requires-2
 low-requires-2 c κs = search rules
@@ -61,32 +49,32 @@ low-requires-2 c κs = search rules
 high-requires : tie.Need-high-requires
 high-requires c κs = search rules
 
-put-value-requires : tie.Need-put-value-requires
+put-value-requires : tie.Need-put_value-i-requires
 unfolding display
-put-value-requires c κs = let h = c.before in room-front _ (room_as (const-is h refl) (start-const h).requires.1)
+put-value-requires c κs = let h = c in room-front _ (room_as (const-is h refl) h.requires.1)
 
-width-of-requires : tie.Need-width-of-requires
+width-of-requires : tie.Need-width_of-requires
 width-of-requires c κs = search rules
 
-put-numbered-requires-2 : tie.Need-put-numbered-requires-2
+put-numbered-requires-2 : tie.Need-put_numbered-requires-2
 unfolding display
 put-numbered-requires-2 c κs =
-    let w = c.before in
-    let h = const-read w in
-    room-step (valued w).put-value.ensures (room_as (const-is h w.width_of_lem.ensures.0) (start-const h).pre.1)
+    let w = c in
+    let h = c in
+    room-step w.put_value-i.ensures (room_as (const-is h w.width_of.ensures.0) h.requires.1)
 
-same-length-2 : tie.Need-same-length-2
+same-length-2 : tie.Need-shape_of-buf
 same-length-2 c = search rules
 
-returns-2 : tie.Need-returns-2
+returns-2 : tie.Need-returns
 unfolding display
 returns-2 c =
-    let p = c.before.before in
-    let w = p.before.before in
-    wrote_as (const-is (const-read w) w.width_of_lem.ensures.0) (wrote_then (valued w).put-value.ensures p.put-numbered2.ensures)
+    let p = c in
+    let w = c in
+    wrote_as (const-is w w.width_of.ensures.0) (wrote_then w.put_value-i.ensures p.put_numbered-2.ensures)
 
-pub put-leaf-spec : {M : Type 1} → statement M
-put-leaf-spec =
+pub put_leaf_spec : {M : Type 1} → statement M
+put_leaf_spec =
     tie.close
     (tie.spec
     low-requires

@@ -4,24 +4,25 @@ use borrow.Author.Rules.{rules}
 use Rattle.text_parts.proofs.put_value.Statement.{statement}
 use Rattle.text_parts.proofs.put_value.Tie as tie
 
-slice-aggregate-put : tie.Need-slice-aggregate-put
-slice-aggregate-put c = search rules
-
-put-requires : tie.Need-put-requires
+put-requires : tie.Need-put-i-requires
 put-requires c κs = search rules
 
-put-hex-requires : tie.Need-put-hex-requires
+put-hex-requires : tie.Need-put_hex-requires
 put-hex-requires c κs = search rules
 
-same_length : tie.Need-same-length
+same_length : tie.Need-shape_of-buf
 same_length c = search rules
 
 returns : tie.Need-returns
 returns c =
-    let l-put-hex = c.before.before in
-    let l-put = l-put-hex.before.before.before.before in
-    wrote_then l-put.put.ensures l-put-hex.put-hex.ensures
+    let l-put-hex = c in
+    let l-put = c in
+    wrote_then l-put.put-i.ensures l-put-hex.put_hex.ensures
 
-pub put-value-spec : {M : Type 1} → statement M
-put-value-spec =
-    tie.close (tie.spec slice-aggregate-put put-requires put-hex-requires same_length returns)
+pub put_value_spec : {M : Type 1} → statement M
+put_value_spec =
+    tie.close (tie.spec
+    put-requires
+    put-hex-requires
+    same_length
+    returns)

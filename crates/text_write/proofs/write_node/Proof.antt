@@ -6,13 +6,13 @@ use borrow.Author.Rules.{rules}
 use Rattle.text_write.proofs.write_node.Statement.{statement}
 use Rattle.text_write.proofs.write_node.Tie as tie
 
-width-of-requires : tie.Need-width-of-requires
+width-of-requires : tie.Need-width_of-requires
 width-of-requires c κs = search rules
 
-write-condition-requires : tie.Need-write-condition-requires
+write-condition-requires : tie.Need-write_condition-requires
 write-condition-requires c κs = search rules
 
-write-term-requires : tie.Need-write-term-requires
+write-term-requires : tie.Need-write_term-requires
 write-term-requires c κs = search rules
 
 returns : tie.Need-returns
@@ -20,8 +20,8 @@ returns c =
     ⊎_elim
     (λ w. (w.5 ∙ behind-whole w.3.ensures, w.4 ∙ w.3.ensures.wrote.next_is))
     (λ w. (w.5 ∙ behind-whole w.3.ensures, w.4 ∙ w.3.ensures.wrote.next_is))
-    c.if1.branch
+    c.if-width_of-eq0.branch
 
-pub write-node-spec : {M : Type 1} → statement M
-write-node-spec =
+pub write_node_spec : {M : Type 1} → statement M
+write_node_spec =
     tie.close (tie.spec width-of-requires write-condition-requires write-term-requires returns)

@@ -7,5 +7,5 @@ use Rattle.wide.proofs.and.Tie as tie
 returns : tie.Need-returns
 returns c = and_is _ _ (omega arith) (omega arith)
 
-pub and-spec : {M : Type 1} → statement M
-and-spec = tie.close (tie.spec returns)
+pub and_spec : {M : Type 1} → statement M
+and_spec = tie.close (tie.spec returns)

@@ -7,5 +7,5 @@ use Rattle.wide.proofs.equal.Tie as tie
 returns : tie.Need-returns
 returns c = equal_is _ _ (omega arith) (omega arith)
 
-pub equal-spec : {M : Type 1} → statement M
-equal-spec = tie.close (tie.spec returns)
+pub equal_spec : {M : Type 1} → statement M
+equal_spec = tie.close (tie.spec returns)

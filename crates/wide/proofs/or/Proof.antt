@@ -7,5 +7,5 @@ use Rattle.wide.proofs.or.Tie as tie
 returns : tie.Need-returns
 returns c = or_is _ _ (omega arith) (omega arith)
 
-pub or-spec : {M : Type 1} → statement M
-or-spec = tie.close (tie.spec returns)
+pub or_spec : {M : Type 1} → statement M
+or_spec = tie.close (tie.spec returns)

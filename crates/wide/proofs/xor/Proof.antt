@@ -7,5 +7,5 @@ use Rattle.wide.proofs.xor.Tie as tie
 returns : tie.Need-returns
 returns c = xor_is _ _ (omega arith) (omega arith)
 
-pub xor-spec : {M : Type 1} → statement M
-xor-spec = tie.close (tie.spec returns)
+pub xor_spec : {M : Type 1} → statement M
+xor_spec = tie.close (tie.spec returns)

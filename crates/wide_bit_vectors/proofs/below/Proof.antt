@@ -7,5 +7,5 @@ use Rattle.wide_bit_vectors.proofs.below.Tie as tie
 returns : tie.Need-returns
 returns c = below-is _ _ (omega arith)
 
-pub below-spec : {M : Type 1} → statement M
-below-spec = tie.close (tie.spec returns)
+pub below_spec : {M : Type 1} → statement M
+below_spec = tie.close (tie.spec returns)

@@ -13,7 +13,7 @@ cut-requires : tie.Need-cut-requires
 cut-requires c κs = search rules
 
 returns : tie.Need-returns
-returns c = c.cut.ensures ∙ rw c.before.add.ensures (add_at _ _ _ (omega arith))
+returns c = c.cut.ensures ∙ rw c.add.ensures (add_at _ _ _ (omega arith))
 
-pub bv-add-spec : {M : Type 1} → statement M
-bv-add-spec = tie.close (tie.spec add-requires cut-requires returns)
+pub bv_add_spec : {M : Type 1} → statement M
+bv_add_spec = tie.close (tie.spec add-requires cut-requires returns)

@@ -12,7 +12,7 @@ add-requires : tie.Need-add-requires
 add-requires c κs = search rules
 
 returns : tie.Need-returns
-returns c = c.add.ensures ∙ rw c.before.shl.ensures (concat-is _ _ _ c.before.before.requires.1)
+returns c = c.add.ensures ∙ rw c.shl.ensures (concat-is _ _ _ c.requires.1)
 
-pub bv-concat-spec : {M : Type 1} → statement M
-bv-concat-spec = tie.close (tie.spec shl-requires add-requires returns)
+pub bv_concat_spec : {M : Type 1} → statement M
+bv_concat_spec = tie.close (tie.spec shl-requires add-requires returns)

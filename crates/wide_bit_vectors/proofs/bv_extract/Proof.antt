@@ -8,17 +8,17 @@ use Rattle.wide_bit_vectors.proofs.bv_extract.Tie as tie
 shr-requires : tie.Need-shr-requires
 shr-requires c κs = search rules
 
-sub-cut : tie.Need-overflow-sub-cut
+sub-cut : tie.Need-overflow_sub-hi
 sub-cut c = search rules
 
-add-cut : tie.Need-overflow-add-cut
+add-cut : tie.Need-overflow_add-hi
 add-cut c = search rules
 
 cut-requires : tie.Need-cut-requires
 cut-requires c κs = search rules
 
 returns : tie.Need-returns
-returns c = c.cut.ensures ∙ rw (c.before.before.before.shr.ensures, add-one)
+returns c = c.cut.ensures ∙ rw (c.shr.ensures, add-one)
 
-pub bv-extract-spec : {M : Type 1} → statement M
-bv-extract-spec = tie.close (tie.spec shr-requires sub-cut add-cut cut-requires returns)
+pub bv_extract_spec : {M : Type 1} → statement M
+bv_extract_spec = tie.close (tie.spec shr-requires sub-cut add-cut cut-requires returns)

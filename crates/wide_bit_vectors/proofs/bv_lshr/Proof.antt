@@ -13,27 +13,24 @@ use Rattle.wide_bit_vectors.proofs.bv_lshr.Tie as tie
 below-requires : tie.Need-below-requires
 below-requires c κs = search rules
 
-returns : tie.Need-returns
-returns c = zero_is ∙ lshr-none _ _ _ (omega arith) c.before.before.requires.1 (ltb-false _ _ (sym c.before.below.ensures ∙ not-true _ c.if1.true))
-
-abbrev entry : tie.Else1 → tie.Start
-entry c = c.before.before
+returns : tie.Need-returns-then-not-below
+returns c = zero_is ∙ lshr-none _ _ _ (omega arith) c.requires.1 (ltb-false _ _ (sym c.below.ensures ∙ not-true _ c.if-not-below.true-raw))
 
 -- past the test the amount is one word, below the width
-small : (c : tie.Else1) → let a = (entry c).args in num a.t < a.w
-small c = ltb-true _ _ (sym c.before.below.ensures ∙ not-false _ c.if1.false)
+small : (c : tie.Else-not-below) → let a = c.args in num a.t < a.w
+small c = ltb-true _ _ (sym c.below.ensures ∙ not-false _ c.if-not-below.false-raw)
 
-word : (c : tie.Else1) → let t = (entry c).args.t in t.low ≡ num t
-word c = let a = (entry c).args in low-is a.t a.w (omega arith) (small c)
+word : (c : tie.Else-not-below) → let t = c.args.t in t.low ≡ num t
+word c = let a = c.args in low-is a.t a.w (omega arith) (small c)
 
 shr-requires : tie.Need-shr-requires
 shr-requires c κs = omega (arith, word c, small c)
 
-returns-2 : tie.Need-returns-2
+returns-2 : tie.Need-returns
 returns-2 c =
-    let e = c.before in
-    let s = entry e in
-    c.shr.ensures ∙ lshr-at _ _ _ (omega arith) s.pre.1 ∙ ap (bvlshr s.args.w (num s.args.a)) (word e)
+    let e = c in
+    let s = c in
+    c.shr.ensures ∙ lshr-at _ _ _ (omega arith) s.requires.1 ∙ ap (bvlshr s.args.w (num s.args.a)) (word c.before)
 
-pub bv-lshr-spec : {M : Type 1} → statement M
-bv-lshr-spec = tie.close (tie.spec below-requires returns shr-requires returns-2)
+pub bv_lshr_spec : {M : Type 1} → statement M
+bv_lshr_spec = tie.close (tie.spec below-requires returns shr-requires returns-2)

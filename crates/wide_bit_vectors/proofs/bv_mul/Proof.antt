@@ -13,7 +13,7 @@ cut-requires : tie.Need-cut-requires
 cut-requires c κs = search rules
 
 returns : tie.Need-returns
-returns c = c.cut.ensures ∙ rw c.before.mul.ensures (mul_at _ _ _ (omega arith))
+returns c = c.cut.ensures ∙ rw c.mul.ensures (mul_at _ _ _ (omega arith))
 
-pub bv-mul-spec : {M : Type 1} → statement M
-bv-mul-spec = tie.close (tie.spec mul-requires cut-requires returns)
+pub bv_mul_spec : {M : Type 1} → statement M
+bv_mul_spec = tie.close (tie.spec mul-requires cut-requires returns)

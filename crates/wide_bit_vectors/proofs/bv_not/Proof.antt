@@ -6,13 +6,13 @@ use borrow.Author.Rules.{rules}
 use Rattle.wide_bit_vectors.proofs.bv_not.Statement.{statement}
 use Rattle.wide_bit_vectors.proofs.bv_not.Tie as tie
 
-sub-t3 : tie.Need-overflow-sub-t3
+sub-t3 : tie.Need-overflow_sub-a
 sub-t3 c = search rules
 
-sub-t4 : tie.Need-overflow-sub-t4
+sub-t4 : tie.Need-overflow_sub-a-2
 sub-t4 c = search rules
 
-sub-t5 : tie.Need-overflow-sub-t5
+sub-t5 : tie.Need-overflow_sub-a-3
 sub-t5 c = search rules
 
 cut-requires : tie.Need-cut-requires
@@ -20,8 +20,8 @@ cut-requires c κs = search rules
 
 returns : tie.Need-returns
 returns c =
-    let s = c.before.before.before.before in
+    let s = c in
     c.cut.ensures ∙ rw (not-words s.args.a (omega arith)) (not_at _ 0 _ (omega arith) s.requires.1)
 
-pub bv-not-spec : {M : Type 1} → statement M
-bv-not-spec = tie.close (tie.spec sub-t3 sub-t4 sub-t5 cut-requires returns)
+pub bv_not_spec : {M : Type 1} → statement M
+bv_not_spec = tie.close (tie.spec sub-t3 sub-t4 sub-t5 cut-requires returns)

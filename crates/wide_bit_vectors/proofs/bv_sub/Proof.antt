@@ -13,7 +13,7 @@ cut-requires : tie.Need-cut-requires
 cut-requires c κs = search rules
 
 returns : tie.Need-returns
-returns c = c.cut.ensures ∙ rw c.before.sub.ensures (sub_at _ _ _ (omega arith) c.before.before.requires.1)
+returns c = c.cut.ensures ∙ rw c.sub.ensures (sub_at _ _ _ (omega arith) c.requires.1)
 
-pub bv-sub-spec : {M : Type 1} → statement M
-bv-sub-spec = tie.close (tie.spec sub-requires cut-requires returns)
+pub bv_sub_spec : {M : Type 1} → statement M
+bv_sub_spec = tie.close (tie.spec sub-requires cut-requires returns)

@@ -12,82 +12,73 @@ use Rattle.words_lists.specs.Words.{is_record, is_legal_word}
 use Rattle.words_lists.proofs.good_words.Statement.{statement}
 use Rattle.words_lists.proofs.good_words.Tie as tie
 
-abbrev invariant-loop : tie.invariant-loop
-invariant-loop bytes count j₀ j = (count ≡ length bytes / 4) × (j ≤ count) × ((i : ℕ) → i < j → is_legal_word bytes i ≡ true)
+abbrev invariant-loop-j : tie.invariant-loop-j
+invariant-loop-j bytes count j₀ j = (count ≡ length bytes / 4) × (j ≤ count) × ((i : ℕ) → i < j → is_legal_word bytes i ≡ true)
 
-abbrev decreases-loop : tie.decreases-loop
-decreases-loop bytes count j₀ j = count - j
+abbrev decreases-loop-j : tie.decreases-loop-j
+decreases-loop-j bytes count j₀ j = count - j
 
 -- ---- places: the entry, and the turn whose word is tested
 
-abbrev entry : tie.At-loop invariant-loop decreases-loop → tie.Start invariant-loop decreases-loop
-entry c = c.before.before
-
-abbrev turn : tie.After-is-record invariant-loop decreases-loop → tie.In-loop invariant-loop decreases-loop
-turn r = r.before.before
-
-abbrev top : tie.After-is-record invariant-loop decreases-loop → tie.At-loop invariant-loop decreases-loop
-top r = (turn r).before
-
 -- the word of a turn is tested
-tested : (r : tie.After-is-record invariant-loop decreases-loop) → let l = top r in is_legal_word (entry l).args.bytes.now l.loop.j ≡ r.is-record.result
-tested r = ap (λ (x : ℕ). is_record (decode x)) (sym r.before.word-at.ensures) ∙ sym r.is-record.ensures
+tested : (r : tie.After-is_record invariant-loop-j decreases-loop-j) → let l = r in is_legal_word l.args.bytes.now l.loop-j.j ≡ r.is_record.result
+tested r = ap (λ (x : ℕ). is_record (decode x)) (sym r.word_at.ensures) ∙ sym r.is_record.ensures
 
 -- ---- needs
 
-loop-holds : tie.Need-loop-init invariant-loop decreases-loop
+loop-holds : tie.Need-loop-j-init invariant-loop-j decreases-loop-j
 loop-holds c =
     (refl, omega arith, λ i h. absurd (omega arith))
 
-word-at-requires : tie.Need-word-at-requires invariant-loop decreases-loop
+word-at-requires : tie.Need-word_at-requires invariant-loop-j decreases-loop-j
 word-at-requires c κs =
-    omega (arith, c.before.loop.invariant.0, c.loop-test.true)
+    omega (arith, c.loop-j.invariant.0, c.loop-j-test.true)
 
-is-record-requires : tie.Need-is-record-requires invariant-loop decreases-loop
+is-record-requires : tie.Need-is_record-requires invariant-loop-j decreases-loop-j
 is-record-requires c κs =
     search rules
 
-returns : tie.Need-returns invariant-loop decreases-loop
+returns : tie.Need-returns-then-not-is_record invariant-loop-j decreases-loop-j
 returns c =
-    let r = c.before in
-    let l = top r in
+    let r = c in
+    let l = c in
     record {
-      most = omega (arith, l.loop.inv.0, l.loop.inv.1);
-      before = l.loop.inv.2;
-      first = λ h. tested r ∙ not-true r.is-record.result c.if1.true;
+      most = omega (arith, l.loop-j.invariant.0, l.loop-j.invariant.1);
+      before = l.loop-j.invariant.2;
+      first = λ h. tested c.before ∙ not-true r.is_record.result c.if-not-is_record.true-raw;
     }
 
-add-j : tie.Need-overflow-add-j invariant-loop decreases-loop
+add-j : tie.Need-overflow_add-j invariant-loop-j decreases-loop-j
 add-j c =
-    let t = turn c.before in
-    omega (arith, t.loop-test.taken, t.before.loop.inv.0)
+    let t = c in
+    omega (arith, t.loop-test.taken, t.loop-j.invariant.0)
 
-loop-less : tie.Need-loop-smaller invariant-loop decreases-loop
+loop-less : tie.Need-loop-j-smaller invariant-loop-j decreases-loop-j
 loop-less c =
-    omega (arith, (turn c.before).loop-test.taken)
+    omega (arith, c.loop-test.taken)
 
-loop-again : tie.Need-loop-preserved invariant-loop decreases-loop
+loop-again : tie.Need-loop-j-preserved invariant-loop-j decreases-loop-j
 loop-again c =
-    let l = top c.before in
-    let bs = (entry l).args.bytes.now in
-    let good = tested c.before ∙ not-false c.before.is-record.result c.if1.false in (
-      l.loop.inv.0,
-      omega (arith, (turn c.before).loop-test.taken),
-      one_more (is_legal_word bs) l.loop.j l.loop.inv.2 good,
+    let l = c in
+    let bs = l.args.bytes.now in
+    let good = tested c.before ∙ not-false c.is_record.result c.if-not-is_record.false-raw in (
+      l.loop-j.invariant.0,
+      omega (arith, c.loop-test.taken),
+      one_more (is_legal_word bs) l.loop-j.j l.loop-j.invariant.2 good,
     )
 
-returns-2 : tie.Need-returns-2 invariant-loop decreases-loop
+returns-2 : tie.Need-returns invariant-loop-j decreases-loop-j
 returns-2 c =
-    let l = c.before in
-    let e : l.loop.j ≡ length (entry l).args.bytes.now / 4 = omega (arith, l.loop.invariant.0, l.loop.invariant.1, c.loop-test.false) in
-    record { most = omega arith; before = λ i h. l.loop.invariant.2 i (omega (arith, e, h)); first = λ h. absurd (omega arith) }
+    let l = c in
+    let e : l.loop-j.j ≡ length l.args.bytes.now / 4 = omega (arith, l.loop-j.invariant.0, l.loop-j.invariant.1, c.loop-j-test.false) in
+    record { most = omega arith; before = λ i h. l.loop-j.invariant.2 i (omega (arith, e, h)); first = λ h. absurd (omega arith) }
 
-pub good-words-spec : {M : Type 1} → statement M
-good-words-spec =
+pub good_words_spec : {M : Type 1} → statement M
+good_words_spec =
     tie.close
     (tie.spec
-    invariant-loop
-    decreases-loop
+    invariant-loop-j
+    decreases-loop-j
     loop-holds
     word-at-requires
     is-record-requires

@@ -5,22 +5,22 @@ use borrow.Author.Rules.{rules}
 use Rattle.words_lists.proofs.is_record.Statement.{statement}
 use Rattle.words_lists.proofs.is_record.Tie as tie
 
-decode-word-requires : tie.Need-decode-word-requires
+decode-word-requires : tie.Need-decode_word-r-requires
 decode-word-requires c κs = search rules
 
-enum_told : tie.Need-enum-told
+enum_told : tie.Need-enum_told-1
 enum_told c = search rules
 
-enum-told-2 : tie.Need-enum-told-2
+enum-told-2 : tie.Need-enum_told-in_default
 enum-told-2 c = search rules
 
-returns : tie.Need-returns
+returns : tie.Need-returns-in-Record
 returns c =
-    sym (ap is_record (sym c.before.before.decode-word.ensures ∙ c.enum_told.given.1))
+    sym (ap is_record (sym c.decode_word-r.ensures ∙ c.enum_told-1.given.1))
 
-returns-2 : tie.Need-returns-2
+returns-2 : tie.Need-returns-in_default
 returns-2 c =
-    sym (ap is_record (sym c.before.before.decode-word.ensures ∙ c.enum-told2.given.1))
+    sym (ap is_record (sym c.decode_word-r.ensures ∙ c.enum_told-in_default-1.given.1))
 
-pub is-record-spec : {M : Type 1} → statement M
-is-record-spec = tie.close (tie.spec decode-word-requires enum_told enum-told-2 returns returns-2)
+pub is_record_spec : {M : Type 1} → statement M
+is_record_spec = tie.close (tie.spec decode-word-requires enum_told enum-told-2 returns returns-2)

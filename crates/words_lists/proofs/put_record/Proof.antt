@@ -10,47 +10,41 @@ use Rattle.words_lists.proofs.put_record.Tie as tie
 
 -- ---- places: the decoded word, from its record, and the entry
 
-abbrev entry : tie.After-decode-word → tie.Start
-entry c = c.before.before
-
-abbrev decoded : tie.After-r → tie.After-decode-word
-decoded r = r.before.before
-
-is : (r : tie.After-r) → decode (entry (decoded r)).args.w ≡ Record r.r.given.0.0
-is r = sym (decoded r).decode-word.ensures ∙ r.r.given.1
+is : (r : tie.In-Record-2) → decode r.args.w ≡ Record r.r-1.given.0.0
+is r = sym r.decode_word-r.ensures ∙ r.r-1.given.1
 
 -- ---- needs
 
-decode-word-requires : tie.Need-decode-word-requires
+decode-word-requires : tie.Need-decode_word-r-requires
 decode-word-requires c κs = search rules
 
-enum-known-r : tie.Need-enum-known-r
+enum-known-r : tie.Need-enum_known-r
 enum-known-r c = search rules
 
-enum_told : tie.Need-enum-told
+enum_told : tie.Need-enum_told-1
 enum_told c = search rules
 
-returns : tie.Need-returns
+returns : tie.Need-returns-in_default
 returns c =
-    let p = c.before.before in
-    let a = (entry p).args in
-    wrote_as (ap flat (sym p.decode-word.ensures ∙ c.enum_told.given.1)) (wrote_none a.records.now a.at)
+    let p = c in
+    let a = p.args in
+    wrote_as (ap flat (sym p.decode_word-r.ensures ∙ c.enum_told-1.given.1)) (wrote_none a.records.now a.at)
 
-put-six-requires : tie.Need-put-six-requires
+put-six-requires : tie.Need-put_six-requires
 put-six-requires c κs =
-    let r = c.before.before in
-    (room_as (ap flat (is r)) (entry (decoded r)).requires).room
+    let r = c in
+    (room_as (ap flat (is c.before.before)) r.requires).room
 
-same_length : tie.Need-same-length
+same_length : tie.Need-shape_of-records
 same_length c = search rules
 
-returns-2 : tie.Need-returns-2
+returns-2 : tie.Need-returns
 returns-2 c =
-    let q = c.before.before in
-    wrote_as (ap flat (is q.before.before.before)) q.put_six.ensures
+    let q = c in
+    wrote_as (ap flat (is c.before.before.before.before.before)) q.put_six.ensures
 
-pub put-record-spec : {M : Type 1} → statement M
-put-record-spec =
+pub put_record_spec : {M : Type 1} → statement M
+put_record_spec =
     tie.close
     (tie.spec
     decode-word-requires

@@ -16,74 +16,68 @@ use Rattle.words_lists.proofs.put_records.Tie as tie
 abbrev rows : List ℕ → ℕ → List ℕ
 rows bs j = flat (decode (word_at bs j))
 
-abbrev invariant-loop : tie.invariant-loop
-invariant-loop bytes records₀ count j₀ end₀ records j end =
+abbrev invariant-loop-j : tie.invariant-loop-j
+invariant-loop-j bytes records₀ count j₀ end₀ records j end =
     Wrote records₀ 0 (up_to j (rows bytes)) end records × (count ≡ length bytes / 4) × (j ≤ count) × (length records ≡ length records₀)
 
-abbrev decreases-loop : tie.decreases-loop
-decreases-loop bytes records₀ count j₀ end₀ records j end = count - j
+abbrev decreases-loop-j : tie.decreases-loop-j
+decreases-loop-j bytes records₀ count j₀ end₀ records j end = count - j
 
-abbrev entry : tie.At-loop invariant-loop decreases-loop → tie.Start invariant-loop decreases-loop
-entry c = c.before.before.before
+in_words : (t : tie.In-loop-j invariant-loop-j decreases-loop-j) → t.loop-j.j < length t.args.bytes.now / 4
+in_words t = omega (arith, t.loop-j.invariant.1, t.loop-j-test.true)
 
-abbrev turn : tie.After-slice-known2 invariant-loop decreases-loop → tie.In-loop invariant-loop decreases-loop
-turn c = c.before.before.before.before.before
-
-in_words : (t : tie.In-loop invariant-loop decreases-loop) → t.before.loop.j < length (entry t.before).args.bytes.now / 4
-in_words t = omega (arith, t.before.loop.invariant.1, t.loop-test.true)
-
-loop-holds : tie.Need-loop-init invariant-loop decreases-loop
+loop-holds : tie.Need-loop-j-init invariant-loop-j decreases-loop-j
 loop-holds c =
-    let a = c.before.before.args in (wrote-first (rows a.bytes.now) a.records.now 0, refl, omega arith, refl)
+    let a = c.args in (wrote-first (rows a.bytes.now) a.records.now 0, refl, omega arith, refl)
 
-word-at-requires : tie.Need-word-at-requires invariant-loop decreases-loop
+word-at-requires : tie.Need-word_at-requires invariant-loop-j decreases-loop-j
 word-at-requires c κs = omega (arith, in_words c)
 
-put-record-requires : tie.Need-put-record-requires invariant-loop decreases-loop
+put-record-requires : tie.Need-put_record-end-requires invariant-loop-j decreases-loop-j
 unfolding records_in
 put-record-requires c κs =
-    let w = c.before in
-    let l = w.before.before in
-    let s = entry l in
+    let w = c in
+    let l = c in
+    let s = c in
     let bs = s.args.bytes.now in
-    room_as (ap (λ (x : ℕ). flat (decode x)) (sym w.word-at.ensures))
-    (room_next (rows bs) (length bs / 4) l.loop.j (in_words w.before) s.pre l.loop.invariant.0)
+    room_as (ap (λ (x : ℕ). flat (decode x)) (sym w.word_at.ensures))
+    (room_next (rows bs) (length bs / 4) l.loop-j.j (in_words c.before.before) s.requires l.loop-j.invariant.0)
 
-add-j : tie.Need-overflow-add-j invariant-loop decreases-loop
+add-j : tie.Need-overflow_add-j invariant-loop-j decreases-loop-j
 add-j c =
-    omega (arith, (turn c).loop-test.true, (turn c).before.loop.invariant.1)
+    omega (arith, c.loop-j-test.true, c.loop-j.invariant.1)
 
-loop-less : tie.Need-loop-smaller invariant-loop decreases-loop
+loop-less : tie.Need-loop-j-smaller invariant-loop-j decreases-loop-j
 loop-less c =
-    omega (arith, (turn c).loop-test.true)
+    omega (arith, c.loop-j-test.true)
 
-loop-again : tie.Need-loop-preserved invariant-loop decreases-loop
+loop-again : tie.Need-loop-j-preserved invariant-loop-j decreases-loop-j
 loop-again c =
-    let p = c.before.before in
-    let w = p.before.before in
-    let l = (turn c).before in
-    let bs = (entry l).args.bytes.now in
-    let u = wrote_as (ap (λ (x : ℕ). flat (decode x)) (sym w.word-at.ensures)) p.put_record.ensures in
-    (wrote-next (rows bs) l.loop.j l.loop.inv.0 u, l.loop.inv.1, omega (arith, (turn c).loop-test.true), wrote-length p.put_record.ensures ∙ l.loop.inv.3)
+    let p = c in
+    let w = c in
+    let l = c in
+    let bs = l.args.bytes.now in
+    let u = wrote_as (ap (λ (x : ℕ). flat (decode x)) (sym w.word_at.ensures)) p.put_record-end.ensures in
+    (wrote-next (rows bs) l.loop-j.j l.loop-j.invariant.0 u, l.loop-j.invariant.1, omega (arith, c.loop-j-test.true), wrote-length p.put_record-end.ensures ∙ l.loop-j.invariant.3)
 
-same_length : tie.Need-same-length invariant-loop decreases-loop
+same_length : tie.Need-shape_of-records invariant-loop-j decreases-loop-j
 same_length c =
-    c.before.loop.invariant.3
+    c.loop-j.invariant.3
 
-returns : tie.Need-returns invariant-loop decreases-loop
+returns : tie.Need-returns invariant-loop-j decreases-loop-j
 unfolding records_in
 returns c =
-    let l = c.before.loop in
-    let a = (entry c.before).args in
-    let e : l.j ≡ length a.bytes.now / 4 = omega (arith, l.invariant.1, l.invariant.2, c.loop-test.false) in
-    subst (λ (j : ℕ). Wrote a.records.now 0 (up_to j (rows a.bytes.now)) l.end l.records) e l.invariant.0
+    let l = c.loop-j in
+    let a = c.args in
+    let e : l.j ≡ length a.bytes.now / 4 = omega (arith, l.invariant.1, l.invariant.2, c.loop-j-test.false) in
+    subst (λ (j : ℕ). Wrote a.records.now 0 (up_to j (rows a.bytes.now)) l.end l.records-1) e l.invariant.0
 
-pub put-records-spec : {M : Type 1} → statement M
-put-records-spec =
+pub put_records_spec : {M : Type 1} → statement M
+put_records_spec =
     tie.close
     (tie.spec
-    invariant-loop
-    decreases-loop
+    invariant-loop-j
+    decreases-loop-j
     loop-holds
     word-at-requires
     put-record-requires

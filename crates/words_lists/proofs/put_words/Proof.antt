@@ -19,79 +19,73 @@ use Rattle.words_lists.proofs.put_words.Tie as tie
 abbrev rows : List ℕ → ℕ → List ℕ
 rows fs j = word_bytes (encode (record_at fs j))
 
-abbrev invariant-loop : tie.invariant-loop
-invariant-loop records bytes₀ count j₀ end₀ bytes j end =
+abbrev invariant-loop-j : tie.invariant-loop-j
+invariant-loop-j records bytes₀ count j₀ end₀ bytes j end =
     Wrote bytes₀ 0 (up_to j (rows records)) end bytes × (count ≡ length records / 6) × (j ≤ count) × (length bytes ≡ length bytes₀)
 
-abbrev decreases-loop : tie.decreases-loop
-decreases-loop records bytes₀ count j₀ end₀ bytes j end = count - j
+abbrev decreases-loop-j : tie.decreases-loop-j
+decreases-loop-j records bytes₀ count j₀ end₀ bytes j end = count - j
 
-abbrev entry : tie.At-loop invariant-loop decreases-loop → tie.Start invariant-loop decreases-loop
-entry c = c.before.before.before
+in-records : (t : tie.In-loop-j invariant-loop-j decreases-loop-j) → t.loop-j.j < length t.args.records.now / 6
+in-records t = omega (arith, t.loop-j.invariant.1, t.loop-j-test.true)
 
-abbrev turn : tie.After-slice-known2 invariant-loop decreases-loop → tie.In-loop invariant-loop decreases-loop
-turn c = c.before.before.before.before.before.before
-
-in-records : (t : tie.In-loop invariant-loop decreases-loop) → t.before.loop.j < length (entry t.before).args.records.now / 6
-in-records t = omega (arith, t.before.loop.invariant.1, t.loop-test.true)
-
-loop-holds : tie.Need-loop-init invariant-loop decreases-loop
+loop-holds : tie.Need-loop-j-init invariant-loop-j decreases-loop-j
 loop-holds c =
-    let a = c.before.before.args in (wrote-first (rows a.records.now) a.bytes.now 0, refl, omega arith, refl)
+    let a = c.args in (wrote-first (rows a.records.now) a.bytes.now 0, refl, omega arith, refl)
 
-record-at-requires : tie.Need-record-at-requires invariant-loop decreases-loop
+record-at-requires : tie.Need-record_at-c-requires invariant-loop-j decreases-loop-j
 record-at-requires c κs = omega (arith, in-records c)
 
-encode-word-requires : tie.Need-encode-word-requires invariant-loop decreases-loop
+encode-word-requires : tie.Need-encode_word-requires invariant-loop-j decreases-loop-j
 encode-word-requires c κs =
-    let t = c.before in
-    subst (λ (x : Instruction). Legal x) (sym c.record-at.ensures) ((entry t.before).pre.0 t.before.loop.j (in-records t))
+    let t = c in
+    subst (λ (x : Instruction). Legal x) (sym c.record_at-c.ensures) (t.requires.0 t.loop-j.j (in-records c.before))
 
-put-word-requires : tie.Need-put-word-requires invariant-loop decreases-loop
+put-word-requires : tie.Need-put_word-end-requires invariant-loop-j decreases-loop-j
 unfolding words_in
 put-word-requires c κs =
-    let t = c.before.before.before in
-    let l = t.before in
-    let s = entry l in
+    let t = c in
+    let l = c in
+    let s = c in
     let fs = s.args.records.now in
-    (room_next (rows fs) (length fs / 6) l.loop.j (in-records t) s.pre.1 l.loop.invariant.0).room
+    (room_next (rows fs) (length fs / 6) l.loop-j.j (in-records c.before.before.before) s.requires.1 l.loop-j.invariant.0).room
 
-add-j : tie.Need-overflow-add-j invariant-loop decreases-loop
+add-j : tie.Need-overflow_add-j invariant-loop-j decreases-loop-j
 add-j c =
-    omega (arith, (turn c).loop-test.true, (turn c).before.loop.invariant.1)
+    omega (arith, c.loop-j-test.true, c.loop-j.invariant.1)
 
-loop-less : tie.Need-loop-smaller invariant-loop decreases-loop
+loop-less : tie.Need-loop-j-smaller invariant-loop-j decreases-loop-j
 loop-less c =
-    omega (arith, (turn c).loop-test.true)
+    omega (arith, c.loop-j-test.true)
 
-loop-again : tie.Need-loop-preserved invariant-loop decreases-loop
+loop-again : tie.Need-loop-j-preserved invariant-loop-j decreases-loop-j
 loop-again c =
-    let p = c.before.before in
-    let w = p.before.before in
-    let r = w.before in
-    let l = r.before.before in
-    let fs = (entry l).args.records.now in
-    let u = wrote_as (ap word_bytes (sym (w.encode-word.ensures ∙ ap encode r.record-at.ensures))) p.put-word.ensures in
-    (wrote-next (rows fs) l.loop.j l.loop.invariant.0 u, l.loop.invariant.1, omega (arith, (turn c).loop-test.true), wrote-length p.put-word.ensures ∙ l.loop.invariant.3)
+    let p = c in
+    let w = c in
+    let r = c in
+    let l = c in
+    let fs = l.args.records.now in
+    let u = wrote_as (ap word_bytes (sym (w.encode_word.ensures ∙ ap encode r.record_at-c.ensures))) p.put_word-end.ensures in
+    (wrote-next (rows fs) l.loop-j.j l.loop-j.invariant.0 u, l.loop-j.invariant.1, omega (arith, c.loop-j-test.true), wrote-length p.put_word-end.ensures ∙ l.loop-j.invariant.3)
 
-same_length : tie.Need-same-length invariant-loop decreases-loop
+same_length : tie.Need-shape_of-bytes invariant-loop-j decreases-loop-j
 same_length c =
-    c.before.loop.invariant.3
+    c.loop-j.invariant.3
 
-returns : tie.Need-returns invariant-loop decreases-loop
+returns : tie.Need-returns invariant-loop-j decreases-loop-j
 unfolding words_in
 returns c =
-    let l = c.before.loop in
-    let a = (entry c.before).args in
-    let e : l.j ≡ length a.records.now / 6 = omega (arith, l.invariant.1, l.invariant.2, c.loop-test.false) in
-    subst (λ (j : ℕ). Wrote a.bytes.now 0 (up_to j (rows a.records.now)) l.end l.bytes) e l.invariant.0
+    let l = c.loop-j in
+    let a = c.args in
+    let e : l.j ≡ length a.records.now / 6 = omega (arith, l.invariant.1, l.invariant.2, c.loop-j-test.false) in
+    subst (λ (j : ℕ). Wrote a.bytes.now 0 (up_to j (rows a.records.now)) l.end l.bytes-1) e l.invariant.0
 
-pub put-words-spec : {M : Type 1} → statement M
-put-words-spec =
+pub put_words_spec : {M : Type 1} → statement M
+put_words_spec =
     tie.close
     (tie.spec
-    invariant-loop
-    decreases-loop
+    invariant-loop-j
+    decreases-loop-j
     loop-holds
     record-at-requires
     encode-word-requires

@@ -11,76 +11,64 @@ use Rattle.words_lists.proofs.read_words.Tie as tie
 
 -- ---- places: from where all words are good back to their count and to the entry; from where the list takes all of them
 
-abbrev entry : tie.After-good-words → tie.Start
-entry c = c.before.before.before
-
-abbrev counted : tie.Else1 → tie.After-good-words
-counted e = e.before
-
-abbrev start : tie.Else1 → tie.Start
-start e = entry (counted e)
-
-abbrev good : tie.Else3 → tie.Else1
-good t = t.before.before
-
 -- the records of the words, six numbers each
-size : (e : tie.Else1) → let bs = (start e).args.bytes.now in length (records_in bs) ≡ 6 * whole_words bs
+size : (e : tie.Else-good-count) → let bs = e.args.bytes.now in length (records_in bs) ≡ 6 * whole_words bs
 size e =
-    let w = (counted e).good-words in
-    records-length (start e).args.bytes.now w.result w.ensures e.if1.false
+    let w = e.good_words-good in
+    records-length e.args.bytes.now w.result w.ensures e.if-good-count.false
 
 -- ---- needs
 
-good-words-requires : tie.Need-good-words-requires
+good-words-requires : tie.Need-good_words-good-requires
 good-words-requires c κs = search rules
 
-returns : tie.Need-returns
+returns : tie.Need-returns-then-good-count
 returns c =
-    let g = c.before in
-    let a = (entry g).args in
-    let w = g.good-words in
-    refused a.bytes.now a.records.now 11 w.result (bad-word a.bytes.now (length a.records.now) w.result w.ensures c.if1.true)
+    let g = c in
+    let a = g.args in
+    let w = g.good_words-good in
+    refused a.bytes.now a.records.now 11 w.result (bad-word a.bytes.now (length a.records.now) w.result w.ensures c.if-good-count.true)
 
-returns-2 : tie.Need-returns-2
+returns-2 : tie.Need-returns-then-bytes-gt0
 returns-2 c =
-    let e = c.before in
-    let a = (start e).args in
-    let w = (counted e).good-words in
+    let e = c in
+    let a = e.args in
+    let w = e.good_words-good in
     refused a.bytes.now a.records.now 11 _
-    (broken-word a.bytes.now (length a.records.now) w.result w.ensures e.if1.false c.if2.true)
+    (broken-word a.bytes.now (length a.records.now) w.result w.ensures e.if-good-count.false c.if-bytes-gt0.true)
 
-mul-if3 : tie.Need-overflow-mul-if3
+mul-if3 : tie.Need-overflow_mul-count
 mul-if3 c = search rules
 
-returns-3 : tie.Need-returns-3
+returns-3 : tie.Need-returns-then-records-count
 returns-3 c =
-    let e = c.before.before in
-    let a = (start e).args in
-    let w = (counted e).good-words in
+    let e = c in
+    let a = e.args in
+    let w = e.good_words-good in
     refused a.bytes.now a.records.now 8 0
-    (short-list a.bytes.now (length a.records.now) w.result w.ensures e.if1.false (omega (arith, c.before.if2.false)) c.if3.true)
+    (short-list a.bytes.now (length a.records.now) w.result w.ensures e.if-good-count.false (omega (arith, c.if-bytes-gt0.false)) c.if-records-count.true)
 
-put-records-requires : tie.Need-put-records-requires
+put-records-requires : tie.Need-put_records-requires
 put-records-requires c κs =
-    let t = c.before in
-    record { room = omega (arith, size (good t), t.if3.false) }
+    let t = c in
+    record { room = omega (arith, size c.before.before.before, t.if-records-count.false) }
 
-same_length : tie.Need-same-length
+same_length : tie.Need-shape_of-records
 same_length c = search rules
 
-returns-4 : tie.Need-returns-4
+returns-4 : tie.Need-returns
 returns-4 c =
-    let p = c.before.before in
-    let t = p.before.before in
-    let e = good t in
-    let a = (start e).args in
-    let w = (counted e).good-words in
+    let p = c in
+    let t = c in
+    let e = c in
+    let a = e.args in
+    let w = e.good_words-good in
     written a.bytes.now
-    (no-refusal a.bytes.now (length a.records.now) w.result w.ensures e.if1.left (omega (arith, t.before.if2.false)) t.if3.false)
-    (omega (arith, size e, t.if3.false)) p.put-records.ensures
+    (no-refusal a.bytes.now (length a.records.now) w.result w.ensures e.if1.left (omega (arith, t.if-bytes-gt0.false)) t.if-records-count.false)
+    (omega (arith, size c.before.before.before.before.before.before, t.if-records-count.false)) p.put_records.ensures
 
-pub read-words-spec : {M : Type 1} → statement M
-read-words-spec =
+pub read_words_spec : {M : Type 1} → statement M
+read_words_spec =
     tie.close
     (tie.spec
     good-words-requires

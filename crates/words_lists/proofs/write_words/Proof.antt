@@ -9,55 +9,49 @@ use borrow.Author.Rules.{rules}
 use Rattle.words_lists.proofs.write_words.Statement.{statement}
 use Rattle.words_lists.proofs.write_words.Tie as tie
 
-abbrev entry : tie.After-records-refusal → tie.Start
-entry c = c.before.before.before
-
 -- if no record is refused
-abbrev start : tie.Else1 → tie.Start
-start e = entry e.before
+none : (e : tie.Else-number-gt0) → (records_refusal 0 (records_of e.args.records.now)).number ≡ 0
+none e = omega (arith, e.records_refusal-refused.ensures.0, e.if-number-gt0.false)
 
-none : (e : tie.Else1) → (records_refusal 0 (records_of (start e).args.records.now)).number ≡ 0
-none e = omega (arith, e.before.records-refusal.ensures.0, e.if1.false)
-
-records-refusal-requires : tie.Need-records-refusal-requires
+records-refusal-requires : tie.Need-records_refusal-refused-requires
 records-refusal-requires c κs = search rules
 
-returns : tie.Need-returns
+returns : tie.Need-returns-then-number-gt0
 returns c =
-    let r = c.before in
-    let a = (entry r).args in
-    record-refused a.records.now a.bytes.now _ _ r.records-refusal.ensures.0 r.records-refusal.ensures.1 c.if1.true
+    let r = c in
+    let a = r.args in
+    record-refused a.records.now a.bytes.now _ _ r.records_refusal-refused.ensures.0 r.records_refusal-refused.ensures.1 c.if-number-gt0.true
 
-mul-if2 : tie.Need-overflow-mul-if2
+mul-if2 : tie.Need-overflow_mul-count
 mul-if2 c = search rules
 
-returns-2 : tie.Need-returns-2
+returns-2 : tie.Need-returns-then-bytes-count
 returns-2 c =
-    let e = c.before in
-    let a = (start e).args in
-    bytes-refused a.records.now a.bytes.now (short-bytes a.records.now (length a.bytes.now) (none e) c.if2.true)
+    let e = c in
+    let a = e.args in
+    bytes-refused a.records.now a.bytes.now (short-bytes a.records.now (length a.bytes.now) (none c.before) c.if-bytes-count.true)
 
-put-words-requires : tie.Need-put-words-requires
+put-words-requires : tie.Need-put_words-requires
 put-words-requires c κs =
-    let t = c.before in
-    let a = (start t.before).args in
-    (all-good a.records.now (none t.before), record { room = omega (arith, words-length a.records.now, t.if2.false) })
+    let t = c in
+    let a = t.args in
+    (all-good a.records.now (none c.before.before), record { room = omega (arith, words-length a.records.now, t.if-bytes-count.false) })
 
-same_length : tie.Need-same-length
+same_length : tie.Need-shape_of-bytes
 same_length c = search rules
 
-returns-3 : tie.Need-returns-3
+returns-3 : tie.Need-returns
 returns-3 c =
-    let w = c.before.before in
-    let t = w.before.before in
-    let e = t.before in
-    let a = (start e).args in
+    let w = c in
+    let t = c in
+    let e = c in
+    let a = e.args in
     words-written a.records.now
-    (all_fit a.records.now (length a.bytes.now) (none e) t.if2.false)
-    (omega (arith, words-length a.records.now, t.if2.false)) w.put-words.ensures
+    (all_fit a.records.now (length a.bytes.now) (none c.before.before.before.before.before) t.if-bytes-count.false)
+    (omega (arith, words-length a.records.now, t.if-bytes-count.false)) w.put_words.ensures
 
-pub write-words-spec : {M : Type 1} → statement M
-write-words-spec =
+pub write_words_spec : {M : Type 1} → statement M
+write_words_spec =
     tie.close
     (tie.spec
     records-refusal-requires

@@ -6,19 +6,19 @@ use borrow.Author.Rules.{rules}
 use Rattle.gates_circuits.proofs.shifts.far.Statement.{statement}
 use Rattle.gates_circuits.proofs.shifts.far.Tie as tie
 
-add-fill : tie.Need-overflow-add-fill
+add-fill : tie.Need-overflow_add-out
 add-fill c = search rules
 
 fill-requires : tie.Need-fill-requires
 fill-requires c κs = search rules
 
-add-equal : tie.Need-overflow-add-equal
+add-equal : tie.Need-overflow_add-out-2
 add-equal c = search rules
 
-equal-requires : tie.Need-equal-requires
+equal-requires : tie.Need-equal-same-requires
 equal-requires c κs =
-    let put = c.before.before.before.before.before in
-    let s = put.before.before.before.before.before in
+    let put = c in
+    let s = c in
     let p = s.requires.0 in
     let q = s.requires.1 in
     let e = put.fill.ensures in
@@ -30,30 +30,30 @@ equal-requires c κs =
           (zeros-word {g = g} b p.1 p.2 p.3 q.0 q.1 q.2 e),
     )
 
-add-fill-2 : tie.Need-overflow-add-fill-2
+add-fill-2 : tie.Need-overflow_add-out-3
 add-fill-2 c = search rules
 
 fill-requires-2 : tie.Need-fill-requires-2
 fill-requires-2 c κs =
-    let test = c.before.before.before.before.before in
-    let put = test.before.before.before.before.before.before in
-    let s = put.before.before.before.before.before in
+    let test = c in
+    let put = c in
+    let s = c in
     omega (arith, s.requires.0.1, put.fill.ensures.size)
 
-add-mux : tie.Need-overflow-add-mux
+add-mux : tie.Need-overflow_add-out-4
 add-mux c = search rules
 
 mux-requires : tie.Need-mux-requires
 mux-requires c κs =
-    let full = c.before.before.before.before.before in
-    let test = full.before.before.before.before.before.before in
-    let put = test.before.before.before.before.before.before in
-    let s = put.before.before.before.before.before in
+    let full = c in
+    let test = c in
+    let put = c in
+    let s = c in
     let p = s.requires.0 in
     let q = s.requires.1 in
     let e = put.fill.ensures in
-    let d = test.equal.ensures in
-    let f = full.fill2.ensures in
+    let d = test.equal-same.ensures in
+    let f = full.fill-2.ensures in
     let b = s.args.b in (
       omega (arith, p.0, p.2, d.most, d.grown.long),
       omega (arith, p.1, e.size, f.size),
@@ -62,28 +62,28 @@ mux-requires c κs =
       d.under,
     )
 
-same_length : tie.Need-same-length
+same_length : tie.Need-shape_of-graph
 same_length c = search rules
 
-same-length-2 : tie.Need-same-length-2
+same-length-2 : tie.Need-shape_of-table
 same-length-2 c = search rules
 
-same-length-3 : tie.Need-same-length-3
+same-length-3 : tie.Need-shape_of-bits
 same-length-3 c = search rules
 
 returns : tie.Need-returns
 returns c =
-    let call = c.before.before.before.before.before.before in
-    let full = call.before.before.before.before.before.before in
-    let test = full.before.before.before.before.before.before in
-    let put = test.before.before.before.before.before.before in
-    let s = put.before.before.before.before.before in
+    let call = c in
+    let full = c in
+    let test = c in
+    let put = c in
+    let s = c in
     let p = s.requires.0 in
     let q = s.requires.1 in
-    far-made s.args.b p.1 p.2 p.3 q.0 q.1 q.2 put.fill.ensures test.equal.ensures full.fill2.ensures call.mux.ensures
+    far-made s.args.b p.1 p.2 p.3 q.0 q.1 q.2 put.fill.ensures test.equal-same.ensures full.fill-2.ensures call.mux.ensures
 
-pub far-spec : {M : Type 1} → statement M
-far-spec =
+pub far_spec : {M : Type 1} → statement M
+far_spec =
     tie.close
     (tie.spec
     add-fill

@@ -11,19 +11,19 @@ use Rattle.gates_circuits.proofs.shifts.shift_right.Tie as tie
 shift-requires : tie.Need-shift-requires
 shift-requires c κs = search rules
 
-same_length : tie.Need-same-length
+same_length : tie.Need-shape_of-graph
 same_length c = search rules
 
-same-length-2 : tie.Need-same-length-2
+same-length-2 : tie.Need-shape_of-table
 same-length-2 c = search rules
 
-same-length-3 : tie.Need-same-length-3
+same-length-3 : tie.Need-shape_of-bits
 same-length-3 c = search rules
 
 returns : tie.Need-returns
 returns c =
-    let call = c.before.before.before.before.before.before in
-    let s = call.before.before.before.before.before.before.before in
+    let call = c in
+    let s = c in
     let g = s.args.graph.now in
     let bits = s.args.bits.now in
     let w = s.args.w in
@@ -32,6 +32,6 @@ returns c =
     (sum_lt (bit_at start g bits s.args.a) w) (false-truth start g))
     call.shift.ensures
 
-pub shift-right-spec : {M : Type 1} → statement M
-shift-right-spec =
+pub shift_right_spec : {M : Type 1} → statement M
+shift_right_spec =
     tie.close (tie.spec shift-requires same_length same-length-2 same-length-3 returns)

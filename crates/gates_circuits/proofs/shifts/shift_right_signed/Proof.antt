@@ -11,37 +11,37 @@ use borrow.Author.Rules.{rules}
 use Rattle.gates_circuits.proofs.shifts.shift_right_signed.Statement.{statement}
 use Rattle.gates_circuits.proofs.shifts.shift_right_signed.Tie as tie
 
-sub-sign : tie.Need-overflow-sub-sign
+sub-sign : tie.Need-overflow_sub-sign
 sub-sign c = search rules
 
-add-sign : tie.Need-overflow-add-sign
+add-sign : tie.Need-overflow_add-sign
 add-sign c = search rules
 
-mul-sign : tie.Need-overflow-mul-sign
+mul-sign : tie.Need-offset_bounds-bits-a
 mul-sign c = search rules
 
-slice-read-sign : tie.Need-slice-read-sign
+slice-read-sign : tie.Need-bounds-bits-a
 slice-read-sign c = search rules
 
 shift-requires : tie.Need-shift-requires
 shift-requires c κs =
-    let s = c.before.before.before.before.before.before.before in
+    let s = c in
     let p = s.requires in
     ((p.0, p.1, λ e. absurd (false≢true e), p.2, p.3.low_a (s.args.w - 1) (omega (arith, p.4))), p.3)
 
-same_length : tie.Need-same-length
+same_length : tie.Need-shape_of-graph
 same_length c = search rules
 
-same-length-2 : tie.Need-same-length-2
+same-length-2 : tie.Need-shape_of-table
 same-length-2 c = search rules
 
-same-length-3 : tie.Need-same-length-3
+same-length-3 : tie.Need-shape_of-bits
 same-length-3 c = search rules
 
 returns : tie.Need-returns
 returns c =
-    let call = c.before.before.before.before.before.before in
-    let s = call.before.before.before.before.before.before.before.before in
+    let call = c in
+    let s = c in
     let g = s.args.graph.now in
     let bits = s.args.bits.now in
     let w = s.args.w in
@@ -52,8 +52,8 @@ returns c =
     (sum_top (bit_at start g bits a) w s.requires.4))
     call.shift.ensures
 
-pub shift-right-signed-spec : {M : Type 1} → statement M
-shift-right-signed-spec =
+pub shift_right_signed_spec : {M : Type 1} → statement M
+shift_right_signed_spec =
     tie.close
     (tie.spec
     sub-sign

@@ -9,10 +9,10 @@ use Rattle.gates_circuits.proofs.sums.difference.Tie as tie
 fill-requires : tie.Need-fill-requires
 fill-requires c κs = search rules
 
-by-bit-requires : tie.Need-by-bit-requires
+by-bit-requires : tie.Need-by_bit-inverted-requires
 by-bit-requires c κs =
-    let put = c.before.before.before.before.before in
-    let s = put.before.before.before.before.before in
+    let put = c in
+    let s = c in
     let p = s.requires in
     let e = put.fill.ensures in
     let g = s.args.graph.now in (
@@ -22,14 +22,14 @@ by-bit-requires c κs =
       word-from (all_ones {g = g} p.1 p.2 e) (omega arith),
     )
 
-add-requires : tie.Need-add-requires
+add-requires : tie.Need-add-made-requires
 add-requires c κs =
-    let turned = c.before.before.before.before.before.before.before.before.before in
-    let put = turned.before.before.before.before.before.before in
-    let s = put.before.before.before.before.before in
+    let turned = c in
+    let put = c in
+    let s = c in
     let p = s.requires in
     let e = put.fill.ensures in
-    let d = turned.by_bit.ensures in (
+    let d = turned.by_bit-inverted.ensures in (
       omega (arith, p.0, d.run.most, d.run.grown.long),
       omega (arith, p.1, e.size, d.run.size),
       word_below (still-first p.1 p.2 e d) p.2.first,
@@ -37,25 +37,25 @@ add-requires c κs =
       omega arith,
     )
 
-same_length : tie.Need-same-length
+same_length : tie.Need-shape_of-graph
 same_length c = search rules
 
-same-length-2 : tie.Need-same-length-2
+same-length-2 : tie.Need-shape_of-table
 same-length-2 c = search rules
 
-same-length-3 : tie.Need-same-length-3
+same-length-3 : tie.Need-shape_of-bits
 same-length-3 c = search rules
 
 returns : tie.Need-returns
 returns c =
-    let call = c.before.before.before.before.before.before in
-    let turned = call.before.before.before.before.before.before.before.before.before.before in
-    let put = turned.before.before.before.before.before.before in
-    let s = put.before.before.before.before.before in
-    difference-made s.requires.1 s.requires.2 put.fill.ensures turned.by_bit.ensures call.add.ensures
+    let call = c in
+    let turned = c in
+    let put = c in
+    let s = c in
+    difference-made s.requires.1 s.requires.2 put.fill.ensures turned.by_bit-inverted.ensures call.add-made.ensures
 
-pub difference-spec : {M : Type 1} → statement M
-difference-spec =
+pub difference_spec : {M : Type 1} → statement M
+difference_spec =
     tie.close
     (tie.spec
     fill-requires

@@ -9,77 +9,77 @@ use borrow.Author.Rules.{rules}
 use Rattle.gates_pool.proofs.circuits.compare.Statement.{statement}
 use Rattle.gates_pool.proofs.circuits.compare.Tie as tie
 
-last-is : (c : tie.At-match-rest) → c.before.before.before.before.args.kind ≡ 14
-last-is c = let s = c.before.before.before.before in omega (arith, s.requires.1, c.match.rest)
+last-is : (c : tie.In_default) → c.args.kind ≡ 14
+last-is c = let s = c in omega (arith, s.requires.1, c.match.rest)
 
 equal-requires : tie.Need-equal-requires
 unfolding kind_at kinds
 equal-requires c κs =
-    let m = c.before.before in
-    let s = m.before.before.before.before in
+    let m = c in
+    let s = c in
     let p = s.requires.0 in
     (room_as s.args.w _ 12 m.match.keys1 p.0, p.2, p.3)
 
 less-requires : tie.Need-less-requires
 unfolding kind_at kinds
 less-requires c κs =
-    let m = c.before.before in
-    let s = m.before.before.before.before in
+    let m = c in
+    let s = c in
     let p = s.requires.0 in
     (room_as s.args.w _ 13 m.match.keys2 p.0, p.2, p.3)
 
-signed-less-requires : tie.Need-signed-less-requires
+signed-less-requires : tie.Need-signed_less-requires
 unfolding kind_at kinds
 signed-less-requires c κs =
-    let m = c.before.before in
-    let s = m.before.before.before.before in
+    let m = c in
+    let s = c in
     let p = s.requires.0 in
-    (room_as s.args.w _ 14 (last-is m) p.0, p.2, p.3, p.1)
+    (room_as s.args.w _ 14 (last-is c.before.before) p.0, p.2, p.3, p.1)
 
-same_length : tie.Need-same-length
-same_length c = c.before.before.before.before.equal.ensures.grown.long
+same_length : tie.Need-shape_of-graph-in-12
+same_length c = c.equal.ensures.grown.long
 
-same-length-2 : tie.Need-same-length-2
+same-length-2 : tie.Need-shape_of-table-in-12
 same-length-2 c = search rules
 
-returns : tie.Need-returns
+returns : tie.Need-returns-in-12
 unfolding kind_at kinds
 returns c =
-    let call = c.before.before.before.before in
-    let m = call.before.before.before in
-    let s = m.before.before.before.before in
+    let call = c in
+    let m = c in
+    let s = c in
     built-as s.args.bits.now s.args.w _ 12 s.args.a s.args.b m.match.keys1 call.equal.ensures
 
-same-length-3 : tie.Need-same-length-3
-same-length-3 c = c.before.before.before.before.less.ensures.grown.long
+same-length-3 : tie.Need-shape_of-graph-in-13
+same-length-3 c = c.less.ensures.grown.long
 
-same-length-4 : tie.Need-same-length-4
+same-length-4 : tie.Need-shape_of-table-in-13
 same-length-4 c = search rules
 
-returns-2 : tie.Need-returns-2
+returns-2 : tie.Need-returns-in-13
 unfolding kind_at kinds
 returns-2 c =
-    let call = c.before.before.before.before in
-    let m = call.before.before.before in
-    let s = m.before.before.before.before in
+    let call = c in
+    let m = c in
+    let s = c in
     built-as s.args.bits.now s.args.w _ 13 s.args.a s.args.b m.match.keys2 call.less.ensures
 
-same-length-5 : tie.Need-same-length-5
-same-length-5 c = c.before.before.before.before.signed-less.ensures.grown.long
+same-length-5 : tie.Need-shape_of-graph-in_default
+same-length-5 c = c.signed_less.ensures.grown.long
 
-same-length-6 : tie.Need-same-length-6
+same-length-6 : tie.Need-shape_of-table-in_default
 same-length-6 c = search rules
 
-returns-3 : tie.Need-returns-3
+returns-3 : tie.Need-returns-in_default
 unfolding kind_at kinds
 returns-3 c =
-    let call = c.before.before.before.before in
-    let m = call.before.before.before in
-    let s = m.before.before.before.before in
-    built-as s.args.bits.now s.args.w _ 14 s.args.a s.args.b (last-is m) call.signed-less.ensures
+    let call = c in
+    let m = c in
+    let s = c in
+    built-as s.args.bits.now s.args.w _ 14 s.args.a s.args.b (last-is c.before.before.before.before.before.before.before) call.signed_less.ensures
 
-pub compare-spec : {M : Type 1} → statement M
-compare-spec =
+pub compare_spec : {M : Type 1} → statement M
+compare_spec =
     tie.close
     (tie.spec
     equal-requires

@@ -13,7 +13,7 @@ use Rattle.gates_pool.proofs.circuits.operator_node.Statement.{statement}
 use Rattle.gates_pool.proofs.circuits.operator_node.Tie as tie
 
 -- all is read
-module _ (c : tie.After-width-of) where
+module _ (c : tie.After-width_of-w) where
   abbrev entry : tie.Start
   entry = c.before.before.before.before.before.before.before.before
 
@@ -24,83 +24,80 @@ module _ (c : tie.After-width-of) where
   n = entry.args.n.0
 
   abbrev node : nodes.Ready ws n
-  node = entry.pre.0.placed.node
+  node = entry.requires.0.placed.node
 
   kind-is : kind_number ws n ≡ entry.args.kind
-  kind-is = sym entry.pre.1
+  kind-is = sym entry.requires.1
 
   from-three : 3 ≤ kind_number ws n
-  from-three = omega (arith, kind-is, entry.pre.2)
+  from-three = omega (arith, kind-is, entry.requires.2)
 
   below_twelve : kind_number ws n < 12
-  below_twelve = omega (arith, kind-is, entry.pre.3)
+  below_twelve = omega (arith, kind-is, entry.requires.3)
 
   facts : Two ws n node
   facts = bv-facts ws n node from-three below_twelve
 
-  a-is : c.before.before.first.result.0 ≡ op_a ws n
-  a-is = c.before.before.first.ensures
+  a-is : c.before.before.first-a.result.0 ≡ op_a ws n
+  a-is = c.before.before.first-a.ensures
 
-  b-is : c.before.second.result.0 ≡ op_b ws n
-  b-is = c.before.second.ensures
+  b-is : c.before.second-b.result.0 ≡ op_b ws n
+  b-is = c.before.second-b.ensures
 
-  w-is : c.width_of_lem.result ≡ width_at ws n
-  w-is = c.width_of_lem.ensures.0
+  w-is : c.width_of-w.result ≡ width_at ws n
+  w-is = c.width_of-w.ensures.0
 
-abbrev read : tie.After-struct-known3 → tie.After-width-of
-read c = c.before.before.before.before.before
+mul-out : tie.Need-overflow_mul-out
+mul-out c = omega (arith, c.requires.0.placed.places)
 
-mul-out : tie.Need-overflow-mul-out
-mul-out c = omega (arith, c.before.before.before.before.before.requires.0.placed.places)
-
-first-requires : tie.Need-first-requires
+first-requires : tie.Need-first-a-requires
 first-requires c κs = search rules
 
-second-requires : tie.Need-second-requires
+second-requires : tie.Need-second-b-requires
 second-requires c κs = search rules
 
-width-of-requires : tie.Need-width-of-requires
+width-of-requires : tie.Need-width_of-w-requires
 width-of-requires c κs = search rules
 
-mul-operate : tie.Need-overflow-mul-operate
-mul-operate c = let w = c.before.before.before.before in omega (arith, a-is w, (facts w).a, (entry w).requires.0.placed.places)
+mul-operate : tie.Need-overflow_mul-a
+mul-operate c = let w = c in omega (arith, a-is w, (facts w).a, (entry w).requires.0.placed.places)
 
-mul-operate-2 : tie.Need-overflow-mul-operate-2
-mul-operate-2 c = let w = c.before.before.before.before.before in omega (arith, b-is w, (facts w).b, (entry w).requires.0.placed.places)
+mul-operate-2 : tie.Need-overflow_mul-b
+mul-operate-2 c = let w = c in omega (arith, b-is w, (facts w).b, (entry w).requires.0.placed.places)
 
 operate-requires : tie.Need-operate-requires
 operate-requires c κs =
-    let w = read c in
+    let w = c in
     let s = entry w in
     let m = most (ws w) (n w) (node w) (n w) (omega arith) in (
       (
-        room-read (ws w) (n w) (node w) s.pre.0 (from-three w) (below_twelve w) s.pre.1 (a-is w) (b-is w) (w-is w),
-        omega (arith, w-is w, m, s.pre.0.placed.places),
+        room-read (ws w) (n w) (node w) s.requires.0 (from-three w) (below_twelve w) s.requires.1 (a-is w) (b-is w) (w-is w),
+        omega (arith, w-is w, m, s.requires.0.placed.places),
         omega (arith, w-is w, (facts w).some),
         omega (arith, w-is w, m),
-        operands-read (ws w) (n w) (node w) s.pre.0 (from-three w) (below_twelve w) s.pre.1 (a-is w) (b-is w) (w-is w),
+        operands-read (ws w) (n w) (node w) s.requires.0 (from-three w) (below_twelve w) s.requires.1 (a-is w) (b-is w) (w-is w),
       ),
-      (s.pre.2, s.pre.3),
+      (s.requires.2, s.requires.3),
     )
 
-same_length : tie.Need-same-length
-same_length c = c.before.before.before.before.before.before.operate.ensures.goes.grown.long
+same_length : tie.Need-shape_of-graph
+same_length c = c.operate.ensures.goes.grown.long
 
-same-length-2 : tie.Need-same-length-2
+same-length-2 : tie.Need-shape_of-table
 same-length-2 c = search rules
 
-same-length-3 : tie.Need-same-length-3
-same-length-3 c = c.before.before.before.before.before.before.operate.ensures.goes.size
+same-length-3 : tie.Need-shape_of-bits
+same-length-3 c = c.operate.ensures.goes.size
 
 returns : tie.Need-returns
 returns c =
-    let call = c.before.before.before.before.before.before in
-    let w = read call.before in
+    let call = c in
+    let w = c in
     let s = entry w in
-    operated-read (ws w) (n w) (node w) s.pre.0 (from-three w) (below_twelve w) s.pre.1 (a-is w) (b-is w) (w-is w) call.operate.ensures
+    operated-read (ws w) (n w) (node w) s.requires.0 (from-three w) (below_twelve w) s.requires.1 (a-is w) (b-is w) (w-is w) call.operate.ensures
 
-pub operator-node-spec : {M : Type 1} → statement M
-operator-node-spec =
+pub operator_node_spec : {M : Type 1} → statement M
+operator_node_spec =
     tie.close
     (tie.spec
     mul-out

@@ -17,7 +17,7 @@ use Rattle.gates_pool.proofs.room.gates_at.Statement.{statement}
 use Rattle.gates_pool.proofs.room.gates_at.Tie as tie
 
 -- the kind is read
-module _ (c : tie.After-kind-of) where
+module _ (c : tie.After-kind_of-kind) where
   abbrev entry : tie.Start
   entry = c.before.before
 
@@ -28,90 +28,90 @@ module _ (c : tie.After-kind-of) where
   n = entry.args.n.0
 
   abbrev node : nodes.Ready ws n
-  node = entry.pre
+  node = entry.requires
 
-  is-kind : c.kind-of.result ≡ kind_number ws n
-  is-kind = c.kind-of.ensures
+  is-kind : c.kind_of-kind.result ≡ kind_number ws n
+  is-kind = c.kind_of-kind.ensures
 
 -- a comparison, and the width of its first operand
-compared : (c : tie.Then3) → let k = c.before.before.before in Compared (ws k) (n k) (node k)
+compared : (c : tie.Then-kind-lt-ITE) → let k = c in Compared (ws k) (n k) (node k)
 compared c =
-    let k = c.before.before.before in
-    compare-facts (ws k) (n k) (node k) (omega (arith, is-kind k, c.before.if2.false)) (omega (arith, is-kind k, c.if3.true))
+    let k = c in
+    compare-facts (ws k) (n k) (node k) (omega (arith, is-kind k, c.if-kind-lt-EQ.false)) (omega (arith, is-kind k, c.if-kind-lt-ITE.true))
 
-width_is : (c : tie.After-width-of2)
-    → let k = c.before.before.before.before.before in c.width-of2.result ≡ width_at (ws k) (op_a (ws k) (n k))
-width_is c = rw c.before.first.ensures at c.width-of2.ensures.0
+width_is : (c : tie.After-width_of-then-kind-lt-ITE)
+    → let k = c in c.width_of-then-kind-lt-ITE.result ≡ width_at (ws k) (op_a (ws k) (n k))
+width_is c = rw c.first.ensures at c.width_of-then-kind-lt-ITE.ensures.0
 
-kind-of-requires : tie.Need-kind-of-requires
+kind-of-requires : tie.Need-kind_of-kind-requires
 kind-of-requires c κs = search rules
 
-returns : tie.Need-returns
-returns c = let k = c.before in none_below (ws k) (n k) (omega (arith, is-kind k, c.if1.true))
+returns : tie.Need-returns-then-kind-lt-ADD
+returns c = let k = c in none_below (ws k) (n k) (omega (arith, is-kind k, c.if-kind-lt-ADD.true))
 
-width-of-requires : tie.Need-width-of-requires
+width-of-requires : tie.Need-width_of-requires
 width-of-requires c κs = search rules
 
-operator-gates-requires : tie.Need-operator-gates-requires
+operator-gates-requires : tie.Need-operator_gates-requires
 operator-gates-requires c κs =
-    let k = c.before.before.before in (
-      c.before.before.if1.false,
-      c.before.if2.true,
+    let k = c in (
+      c.if-kind-lt-ADD.false,
+      c.if-kind-lt-EQ.true,
       omega
-          (arith, c.width_of_lem.ensures.0, most (ws k) (n k) (node k) (n k) (omega arith)),
+          (arith, c.width_of.ensures.0, most (ws k) (n k) (node k) (n k) (omega arith)),
     )
 
-returns-2 : tie.Need-returns-2
+returns-2 : tie.Need-returns-then-kind-lt-EQ
 returns-2 c =
-    let k = c.before.before.before.before in
-    let f : 3 ≤ kind_number (ws k) (n k) = omega (arith, is-kind k, c.before.before.before.if1.false) in
-    let t : kind_number (ws k) (n k) < 12 = omega (arith, is-kind k, c.before.before.if2.true) in
-    c.operator-gates.ensures
-    ∙ (λ i. gates_for (kind_at (is-kind k i)) (c.before.width_of_lem.ensures.0 i))
+    let k = c in
+    let f : 3 ≤ kind_number (ws k) (n k) = omega (arith, is-kind k, c.if-kind-lt-ADD.false) in
+    let t : kind_number (ws k) (n k) < 12 = omega (arith, is-kind k, c.if-kind-lt-EQ.true) in
+    c.operator_gates.ensures
+    ∙ (λ i. gates_for (kind_at (is-kind k i)) (c.width_of.ensures.0 i))
     ∙ sym (gates-at (ws k) (n k) (node k) f t)
 
 first-requires : tie.Need-first-requires
 first-requires c κs = search rules
 
-width-of-requires-2 : tie.Need-width-of-requires-2
-width-of-requires-2 c κs = let k = c.before.before.before.before in omega (arith, c.first.ensures, (compared c.before).a, (node k).inside)
+width-of-requires-2 : tie.Need-width_of-requires-then-kind-lt-ITE
+width-of-requires-2 c κs = let k = c in omega (arith, c.first.ensures, (compared c.before).a, (node k).inside)
 
-compare-gates-requires : tie.Need-compare-gates-requires
+compare-gates-requires : tie.Need-compare_gates-requires
 compare-gates-requires c κs =
-    let k = c.before.before.before.before.before in
+    let k = c in
     let x = compared c.before.before in (
-      c.before.before.before.if2.false,
-      c.before.before.if3.true,
+      c.if-kind-lt-EQ.false,
+      c.if-kind-lt-ITE.true,
       omega (arith, width_is c, most (ws k) (n k) (node k) (op_a (ws k) (n k)) (omega (arith, x.a))),
     )
 
-returns-3 : tie.Need-returns-3
+returns-3 : tie.Need-returns-then-kind-lt-ITE
 returns-3 c =
-    let w = c.before in
-    let k = w.before.before.before.before.before in
-    let f : 12 ≤ kind_number (ws k) (n k) = omega (arith, is-kind k, w.before.before.before.if2.false) in
-    let t : kind_number (ws k) (n k) < 15 = omega (arith, is-kind k, w.before.before.if3.true) in
-    c.compare-gates.ensures ∙ (λ i. gates_for (kind_at (is-kind k i)) (width_is w i)) ∙ sym (gates-flat (ws k) (n k) (node k) f t)
+    let w = c in
+    let k = c in
+    let f : 12 ≤ kind_number (ws k) (n k) = omega (arith, is-kind k, w.if-kind-lt-EQ.false) in
+    let t : kind_number (ws k) (n k) < 15 = omega (arith, is-kind k, w.if-kind-lt-ITE.true) in
+    c.compare_gates.ensures ∙ (λ i. gates_for (kind_at (is-kind k i)) (width_is w i)) ∙ sym (gates-flat (ws k) (n k) (node k) f t)
 
-width-of-requires-3 : tie.Need-width-of-requires-3
+width-of-requires-3 : tie.Need-width_of-requires-then-kind-lt-EXTRACT
 width-of-requires-3 c κs = search rules
 
-mul-result : tie.Need-overflow-mul-result
+mul-result : tie.Need-overflow_mul-result
 mul-result c = search rules
 
-returns-4 : tie.Need-returns-4
+returns-4 : tie.Need-returns-then-kind-lt-EXTRACT
 returns-4 c =
-    let k = c.before.before.before.before.before in
-    let e : kind_number (ws k) (n k) ≡ 15 = omega (arith, is-kind k, c.before.before.if3.false, c.before.if4.true) in
-    ap (λ (w : ℕ). 3 * w) c.width-of3.ensures.0 ∙ sym (gates-chosen (ws k) (n k) (node k) e)
+    let k = c in
+    let e : kind_number (ws k) (n k) ≡ 15 = omega (arith, is-kind k, c.if-kind-lt-ITE.false, c.if-kind-lt-EXTRACT.true) in
+    ap (λ (w : ℕ). 3 * w) c.width_of-then-kind-lt-EXTRACT.ensures.0 ∙ sym (gates-chosen (ws k) (n k) (node k) e)
 
-returns-5 : tie.Need-returns-5
+returns-5 : tie.Need-returns
 returns-5 c =
-    let k = c.before.before.before.before in
-    none_above (ws k) (n k) (omega (arith, is-kind k, c.if4.false)) (to-nineteen (ws k) (n k) (node k) (kind_number (ws k) (n k)) refl)
+    let k = c in
+    none_above (ws k) (n k) (omega (arith, is-kind k, c.if-kind-lt-EXTRACT.false)) (to-nineteen (ws k) (n k) (node k) (kind_number (ws k) (n k)) refl)
 
-pub gates-at-spec : {M : Type 1} → statement M
-gates-at-spec =
+pub gates_at_spec : {M : Type 1} → statement M
+gates_at_spec =
     tie.close
     (tie.spec
     kind-of-requires

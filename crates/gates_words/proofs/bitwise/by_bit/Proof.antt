@@ -12,84 +12,84 @@ use borrow.Author.Rules.{rules}
 use Rattle.gates_words.proofs.bitwise.by_bit.Statement.{statement}
 use Rattle.gates_words.proofs.bitwise.by_bit.Tie as tie
 
-abbrev invariant-loop : tie.invariant-loop
-invariant-loop kind graph₀ count table₀ bits₀ a b out w all₀ i₀ graph table bits all i =
+abbrev invariant-loop-i : tie.invariant-loop-i
+invariant-loop-i kind graph₀ count table₀ bits₀ a b out w all₀ i₀ graph table bits all i =
     (i ≤ w)
     × (length table ≡ length table₀)
     × Writes graph₀ count bits₀ graph all bits out i (3 * i) (λ start. bits_of kind (number start graph₀ bits₀ a i) (number start graph₀ bits₀ b i))
 
-abbrev decreases-loop : tie.decreases-loop
-decreases-loop kind graph₀ count table₀ bits₀ a b out w all₀ i₀ graph table bits all i = w - i
+abbrev decreases-loop-i : tie.decreases-loop-i
+decreases-loop-i kind graph₀ count table₀ bits₀ a b out w all₀ i₀ graph table bits all i = w - i
 
-loop-holds : tie.Need-loop-init invariant-loop decreases-loop
+loop-holds : tie.Need-loop-i-init invariant-loop-i decreases-loop-i
 loop-holds c =
-    let a = c.before.before.before.args in
+    let a = c.args in
     (omega arith, refl, writes-none (λ start. bits_of a.kind) a.graph.now a.count a.bits.now a.out a.a a.b (λ start. zero_bits a.kind))
 
-add-gate-at : tie.Need-overflow-add-gate-at invariant-loop decreases-loop
+add-gate-at : tie.Need-overflow_add-a invariant-loop-i decreases-loop-i
 add-gate-at c = search rules
 
-add-gate-at-2 : tie.Need-overflow-add-gate-at-2 invariant-loop decreases-loop
+add-gate-at-2 : tie.Need-overflow_add-b invariant-loop-i decreases-loop-i
 add-gate-at-2 c = search rules
 
-add-gate-at-3 : tie.Need-overflow-add-gate-at-3 invariant-loop decreases-loop
+add-gate-at-3 : tie.Need-overflow_add-out invariant-loop-i decreases-loop-i
 add-gate-at-3 c = search rules
 
-gate-at-requires : tie.Need-gate-at-requires invariant-loop decreases-loop
+gate-at-requires : tie.Need-gate_at-all-requires invariant-loop-i decreases-loop-i
 gate-at-requires c κs =
-    let l = c.before.before.before.before.loop in
-    let t = c.before.before.before.loop-test.true in
-    let p = c.before.before.before.before.before.before.before.before.requires in
+    let l = c.loop-i in
+    let t = c.loop-i-test.true in
+    let p = c.requires in
     let r = l.invariant.2.run in
-    let size : length l.bits ≡ _ = r.size in
+    let size : length l.bits-1 ≡ _ = r.size in
     (omega (arith, p, r, t, r.grown.long), (place-low r p.2 t, place-low r p.3 t))
 
-add-i : tie.Need-overflow-add-i invariant-loop decreases-loop
+add-i : tie.Need-overflow_add-i invariant-loop-i decreases-loop-i
 add-i c = search rules
 
-loop-less : tie.Need-loop-smaller invariant-loop decreases-loop
+loop-less : tie.Need-loop-i-smaller invariant-loop-i decreases-loop-i
 loop-less c = search rules
 
-loop-again : tie.Need-loop-preserved invariant-loop decreases-loop
+loop-again : tie.Need-loop-i-preserved invariant-loop-i decreases-loop-i
 loop-again c =
-    let call = c.before.before.before.before.before.before in
-    let test = call.before.before.before.before in
-    let l = test.before.loop in
-    let s = test.before.before.before.before.before in
+    let call = c in
+    let test = c in
+    let l = test.loop-i in
+    let s = c in
     let a = s.args in
     let r = l.invariant.2.run in (
-      omega (arith, test.loop-test.true),
+      omega (arith, test.loop-i-test.true),
       search rules,
       writes_more (λ start. gate_of a.kind) (λ start. bits_of a.kind) (gate-step a.kind) a.a a.b l.invariant.2
-          (omega (arith, s.requires, test.loop-test.true))
-          call.gate-at.ensures
-          (λ start i. gate_of a.kind (place-truth r start s.requires.2 test.loop-test.true i)
-          (place-truth r start s.requires.3 test.loop-test.true i))
+          (omega (arith, s.requires, test.loop-i-test.true))
+          call.gate_at-all.ensures
+          (λ start i. gate_of a.kind (place-truth r start s.requires.2 test.loop-i-test.true i)
+          (place-truth r start s.requires.3 test.loop-i-test.true i))
           (omega arith),
     )
 
-same_length : tie.Need-same-length invariant-loop decreases-loop
-same_length c = c.before.loop.invariant.2.run.grown.long
+same_length : tie.Need-shape_of-graph invariant-loop-i decreases-loop-i
+same_length c = c.loop-i.invariant.2.run.grown.long
 
-same-length-2 : tie.Need-same-length-2 invariant-loop decreases-loop
-same-length-2 c = c.before.loop.invariant.1
+same-length-2 : tie.Need-shape_of-table invariant-loop-i decreases-loop-i
+same-length-2 c = c.loop-i.invariant.1
 
-same-length-3 : tie.Need-same-length-3 invariant-loop decreases-loop
-same-length-3 c = c.before.loop.invariant.2.run.size
+same-length-3 : tie.Need-shape_of-bits invariant-loop-i decreases-loop-i
+same-length-3 c = c.loop-i.invariant.2.run.size
 
-returns : tie.Need-returns invariant-loop decreases-loop
+returns : tie.Need-returns invariant-loop-i decreases-loop-i
 returns c =
-    let l = c.before.loop in
-    let s = c.before.before.before.before.before in
-    let e : l.i ≡ s.args.w = omega (arith, l.invariant.0, c.loop-test.false) in
+    let l = c.loop-i in
+    let s = c in
+    let e : l.i ≡ s.args.w = omega (arith, l.invariant.0, c.loop-i-test.false) in
     rw e at l.invariant.2
 
-pub by-bit-spec : {M : Type 1} → statement M
-by-bit-spec =
+pub by_bit_spec : {M : Type 1} → statement M
+by_bit_spec =
     tie.close
     (tie.spec
-    invariant-loop
-    decreases-loop
+    invariant-loop-i
+    decreases-loop-i
     loop-holds
     add-gate-at
     add-gate-at-2

@@ -6,62 +6,62 @@ use borrow.Author.Rules.{rules}
 use Rattle.gates_words.proofs.bitwise.make.Statement.{statement}
 use Rattle.gates_words.proofs.bitwise.make.Tie as tie
 
-enum_told : tie.Need-enum-told
+enum_told : tie.Need-enum_told-1
 enum_told c = search rules
 
 and-requires : tie.Need-and-requires
 and-requires c κs = search rules
 
-enum-told-2 : tie.Need-enum-told-2
+enum-told-2 : tie.Need-enum_told-in-Or
 enum-told-2 c = search rules
 
 or-requires : tie.Need-or-requires
 or-requires c κs = search rules
 
-enum-told-3 : tie.Need-enum-told-3
+enum-told-3 : tie.Need-enum_told-in-Xor
 enum-told-3 c = search rules
 
 xor-requires : tie.Need-xor-requires
 xor-requires c κs = search rules
 
-same_length : tie.Need-same-length
+same_length : tie.Need-shape_of-graph-in-And
 same_length c = search rules
 
-same-length-2 : tie.Need-same-length-2
+same-length-2 : tie.Need-shape_of-table-in-And
 same-length-2 c = search rules
 
-returns : tie.Need-returns
+returns : tie.Need-returns-in-And
 returns c =
-    let call = c.before.before.before.before in
-    let told = call.before.before.before in
-    let s = told.before.before.before.before in
-    made_as s.args.kind And s.args.a s.args.b told.enum_told.given.1 (omega arith) call.and.ensures
+    let call = c in
+    let told = c in
+    let s = c in
+    made_as s.args.kind And s.args.a s.args.b told.enum_told-1.given.1 (omega arith) call.and.ensures
 
-same-length-3 : tie.Need-same-length-3
+same-length-3 : tie.Need-shape_of-graph-in-Or
 same-length-3 c = search rules
 
-same-length-4 : tie.Need-same-length-4
+same-length-4 : tie.Need-shape_of-table-in-Or
 same-length-4 c = search rules
 
-returns-2 : tie.Need-returns-2
+returns-2 : tie.Need-returns-in-Or
 returns-2 c =
-    let call = c.before.before.before.before in
-    let told = call.before.before.before in
-    let s = told.before.before.before.before in
-    made_as s.args.kind Or s.args.a s.args.b told.enum-told2.given.1 (omega arith) call.or.ensures
+    let call = c in
+    let told = c in
+    let s = c in
+    made_as s.args.kind Or s.args.a s.args.b told.enum_told-in-Or-1.given.1 (omega arith) call.or.ensures
 
-same-length-5 : tie.Need-same-length-5
+same-length-5 : tie.Need-shape_of-graph-in-Xor
 same-length-5 c = search rules
 
-same-length-6 : tie.Need-same-length-6
+same-length-6 : tie.Need-shape_of-table-in-Xor
 same-length-6 c = search rules
 
-returns-3 : tie.Need-returns-3
+returns-3 : tie.Need-returns-in-Xor
 returns-3 c =
-    let call = c.before.before.before.before in
-    let told = call.before.before.before in
-    let s = told.before.before.before.before in
-    made_as s.args.kind Xor s.args.a s.args.b told.enum-told3.given.1 (omega arith) call.xor.ensures
+    let call = c in
+    let told = c in
+    let s = c in
+    made_as s.args.kind Xor s.args.a s.args.b told.enum_told-in-Xor-1.given.1 (omega arith) call.xor.ensures
 
 pub make_spec : {M : Type 1} → statement M
 make_spec =

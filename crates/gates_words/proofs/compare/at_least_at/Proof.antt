@@ -10,19 +10,19 @@ negate-requires c κs = search rules
 majority-requires : tie.Need-majority-requires
 majority-requires c κs = search rules
 
-same_length : tie.Need-same-length
+same_length : tie.Need-shape_of-graph
 same_length c = search rules
 
-same-length-2 : tie.Need-same-length-2
+same-length-2 : tie.Need-shape_of-table
 same-length-2 c = search rules
 
 returns : tie.Need-returns
 returns c =
-    let call = c.before.before.before.before in
-    let n = call.before in
-    let s = n.before.before.before.before.before in
+    let call = c in
+    let n = c in
+    let s = c in
     at-least-made s.args.x s.args.y s.args.carry n.negate.ensures call.majority.ensures
 
-pub at-least-at-spec : {M : Type 1} → statement M
-at-least-at-spec =
+pub at_least_at_spec : {M : Type 1} → statement M
+at_least_at_spec =
     tie.close (tie.spec negate-requires majority-requires same_length same-length-2 returns)

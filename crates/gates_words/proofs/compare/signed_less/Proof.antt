@@ -6,40 +6,40 @@ use borrow.Author.Rules.{rules}
 use Rattle.gates_words.proofs.compare.signed_less.Statement.{statement}
 use Rattle.gates_words.proofs.compare.signed_less.Tie as tie
 
-less-requires : tie.Need-less-requires
+less-requires : tie.Need-less-below-requires
 less-requires c κs = search rules
 
-sub-x : tie.Need-overflow-sub-x
+sub-x : tie.Need-overflow_sub-x
 sub-x c = search rules
 
-add-x : tie.Need-overflow-add-x
+add-x : tie.Need-overflow_add-x
 add-x c = search rules
 
-mul-x : tie.Need-overflow-mul-x
+mul-x : tie.Need-offset_bounds-bits-a
 mul-x c = search rules
 
-shared-slice-read-x : tie.Need-shared-slice-read-x
+shared-slice-read-x : tie.Need-bounds-bits-a
 shared-slice-read-x c = search rules
 
-sub-y : tie.Need-overflow-sub-y
+sub-y : tie.Need-overflow_sub-y
 sub-y c = search rules
 
-add-y : tie.Need-overflow-add-y
+add-y : tie.Need-overflow_add-y
 add-y c = search rules
 
-mul-y : tie.Need-overflow-mul-y
+mul-y : tie.Need-offset_bounds-bits-b
 mul-y c = search rules
 
-shared-slice-read-y : tie.Need-shared-slice-read-y
+shared-slice-read-y : tie.Need-bounds-bits-b
 shared-slice-read-y c = search rules
 
-xor-requires : tie.Need-xor-requires
+xor-requires : tie.Need-xor-signs-requires
 xor-requires c κs =
-    let call = c.before.before.before.before.before.before.before.before in
-    let s = call.before.before.before.before.before.before in
+    let call = c in
+    let s = c in
     let p = s.requires in
     let i = s.args.w - 1 in
-    let e = call.less.ensures in (
+    let e = call.less-below.ensures in (
       omega (arith, p.0, e.most, e.grown.long),
       omega (arith, p.1.low i (omega (arith, p.3)), e.grown.more),
       omega
@@ -48,36 +48,36 @@ xor-requires c κs =
 
 mux-requires : tie.Need-mux-requires
 mux-requires c κs =
-    let second = c.before.before.before.before.before.before in
-    let call = second.before.before.before.before.before.before.before.before.before in
-    let s = call.before.before.before.before.before.before in
+    let second = c in
+    let call = c in
+    let s = c in
     let p = s.requires in
-    let e = call.less.ensures in
-    let d = second.xor.ensures in (
+    let e = call.less-below.ensures in
+    let d = second.xor-signs.ensures in (
       omega (arith, p.0, e.most, e.grown.long, d.most, d.grown.long),
       d.under,
       omega (arith, p.1.low (s.args.w - 1) (omega (arith, p.3)), e.grown.more, d.grown.more),
       omega (arith, e.under, d.grown.more),
     )
 
-same_length : tie.Need-same-length
+same_length : tie.Need-shape_of-graph
 same_length c = search rules
 
-same-length-2 : tie.Need-same-length-2
+same-length-2 : tie.Need-shape_of-table
 same-length-2 c = search rules
 
 returns : tie.Need-returns
 returns c =
-    let third = c.before.before.before.before in
-    let second = third.before.before.before.before.before.before.before in
-    let first = second.before.before.before.before.before.before.before.before.before in
-    let s = first.before.before.before.before.before.before in
+    let third = c in
+    let second = c in
+    let first = c in
+    let s = c in
     let p = s.requires in
     let a = s.args in
-    signed-made a.bits.now a.a a.b p.3 p.1 p.2 first.less.ensures second.xor.ensures third.mux.ensures
+    signed-made a.bits.now a.a a.b p.3 p.1 p.2 first.less-below.ensures second.xor-signs.ensures third.mux.ensures
 
-pub signed-less-spec : {M : Type 1} → statement M
-signed-less-spec =
+pub signed_less_spec : {M : Type 1} → statement M
+signed_less_spec =
     tie.close
     (tie.spec
     less-requires

@@ -10,93 +10,84 @@ use Rattle.lower.proofs.arith.clamp.Tie as tie
 
 -- ---- the entry, from the range's ends
 
-abbrev signed-entry : tie.After-power → tie.Start
-signed-entry c = c.before.before.before.before.before
-
-abbrev unsigned-entry : tie.After-unsigned-max → tie.Start
-unsigned-entry c = c.before.before.before.before.before
-
-abbrev to-unsigned-entry : tie.After-unsigned-max2 → tie.Start
-to-unsigned-entry c = c.before.before.before.before
-
-enum_told : tie.Need-enum-told
+enum_told : tie.Need-enum_told-1
 enum_told c = search rules
 
-sub-minus-power : tie.Need-overflow-sub-minus-power
+sub-minus-power : tie.Need-overflow_sub-narrow
 sub-minus-power c = search rules
 
-minus-power-requires : tie.Need-minus-power-requires
+minus-power-requires : tie.Need-minus_power-low-requires
 minus-power-requires c κs = search rules
 
-sub-power : tie.Need-overflow-sub-power
+sub-power : tie.Need-overflow_sub-narrow-in-Signed
 sub-power c = search rules
 
 power-requires : tie.Need-power-requires
 power-requires c κs = search rules
 
-sub-t13 : tie.Need-overflow-sub-t13
-sub-t13 c = omega (arith, c.power.ensures, pow_pos ((signed-entry c).args.narrow - 1))
+sub-t13 : tie.Need-overflow_sub-high
+sub-t13 c = omega (arith, c.power.ensures, pow_pos (c.args.narrow - 1))
 
-clamp-between-requires : tie.Need-clamp-between-requires
+clamp-between-requires : tie.Need-clamp_between-requires
 clamp-between-requires c κs =
-    let p = c.before in
-    let s = signed-entry p in
+    let p = c in
+    let s = c in
     let b = s.args.narrow - 1 in
-    omega (arith, s.pre, p.power.ensures, p.before.minus-power.ensures, low_fits s.args.wide b, high_fits s.args.wide b (omega (arith, s.pre)))
+    omega (arith, s.requires, p.power.ensures, p.minus_power-low.ensures, low_fits s.args.wide b, high_fits s.args.wide b (omega (arith, s.requires)))
 
-enum-told-2 : tie.Need-enum-told-2
+enum-told-2 : tie.Need-enum_told-in-Unsigned
 enum-told-2 c = search rules
 
-unsigned-max-requires : tie.Need-unsigned-max-requires
+unsigned-max-requires : tie.Need-unsigned_max-requires
 unsigned-max-requires c κs = search rules
 
-clamp-below-requires : tie.Need-clamp-below-requires
+clamp-below-requires : tie.Need-clamp_below-requires
 clamp-below-requires c κs =
-    let s = unsigned-entry c in
-    omega (arith, s.pre, c.unsigned-max.ensures, high_fits s.args.wide s.args.narrow (omega (arith, s.pre)))
+    let s = c in
+    omega (arith, s.requires, c.unsigned_max.ensures, high_fits s.args.wide s.args.narrow (omega (arith, s.requires)))
 
-enum-told-3 : tie.Need-enum-told-3
+enum-told-3 : tie.Need-enum_told-in-SignedToUnsigned
 enum-told-3 c = search rules
 
-unsigned-max-requires-2 : tie.Need-unsigned-max-requires-2
+unsigned-max-requires-2 : tie.Need-unsigned_max-requires-in-SignedToUnsigned
 unsigned-max-requires-2 c κs = search rules
 
-clamp-between-requires-2 : tie.Need-clamp-between-requires-2
+clamp-between-requires-2 : tie.Need-clamp_between-requires-in-SignedToUnsigned
 clamp-between-requires-2 c κs =
-    let m = c.before in
-    let s = to-unsigned-entry m in
-    omega (arith, s.pre, m.unsigned-max2.ensures, high_fits s.args.wide s.args.narrow (omega (arith, s.pre)), pow_pos s.args.wide)
+    let m = c in
+    let s = c in
+    omega (arith, s.requires, m.unsigned_max-in-SignedToUnsigned.ensures, high_fits s.args.wide s.args.narrow (omega (arith, s.requires)), pow_pos s.args.wide)
 
-same_length : tie.Need-same-length
+same_length : tie.Need-shape_of-pool-in-Signed
 same_length c = search rules
 
-returns : tie.Need-returns
+returns : tie.Need-returns-in-Signed
 returns c =
-    let l-clamp-between = c.before.before in
-    let l-power = l-clamp-between.before.before in
-    let l-minus-power = l-power.before in
-    let l-enum-told = l-minus-power.before in
-    clamp-signed l-enum-told.enum_told.given.1 l-power.power.ensures l-minus-power.minus-power.ensures refl l-clamp-between.clamp-between.ensures
+    let l-clamp-between = c in
+    let l-power = c in
+    let l-minus-power = c in
+    let l-enum-told = c in
+    clamp-signed l-enum-told.enum_told-1.given.1 l-power.power.ensures l-minus-power.minus_power-low.ensures refl l-clamp-between.clamp_between.ensures
 
-same-length-2 : tie.Need-same-length-2
+same-length-2 : tie.Need-shape_of-pool-in-Unsigned
 same-length-2 c = search rules
 
-returns-2 : tie.Need-returns-2
+returns-2 : tie.Need-returns-in-Unsigned
 returns-2 c =
-    let l-clamp-below = c.before.before in
-    let l-unsigned-max = l-clamp-below.before in
-    let l-enum-told2 = l-unsigned-max.before.before in
-    clamp-unsigned l-enum-told2.enum-told2.given.1 l-unsigned-max.unsigned-max.ensures l-clamp-below.clamp-below.ensures
+    let l-clamp-below = c in
+    let l-unsigned-max = c in
+    let l-enum-told2 = c in
+    clamp-unsigned l-enum-told2.enum_told-in-Unsigned-1.given.1 l-unsigned-max.unsigned_max.ensures l-clamp-below.clamp_below.ensures
 
-same-length-3 : tie.Need-same-length-3
+same-length-3 : tie.Need-shape_of-pool-in-SignedToUnsigned
 same-length-3 c = search rules
 
-returns-3 : tie.Need-returns-3
+returns-3 : tie.Need-returns-in-SignedToUnsigned
 returns-3 c =
-    let l-clamp-between2 = c.before.before in
-    let l-unsigned-max2 = l-clamp-between2.before.before in
-    let l-enum-told3 = l-unsigned-max2.before in
-    clamp-to-unsigned l-enum-told3.enum-told3.given.1 l-unsigned-max2.unsigned-max2.ensures refl l-clamp-between2.clamp-between2.ensures
+    let l-clamp-between2 = c in
+    let l-unsigned-max2 = c in
+    let l-enum-told3 = c in
+    clamp-to-unsigned l-enum-told3.enum_told-in-SignedToUnsigned-1.given.1 l-unsigned-max2.unsigned_max-in-SignedToUnsigned.ensures refl l-clamp-between2.clamp_between-in-SignedToUnsigned.ensures
 
 pub clamp_spec : {M : Type 1} → statement M
 clamp_spec =

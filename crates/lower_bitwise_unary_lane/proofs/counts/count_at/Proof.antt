@@ -4,28 +4,28 @@ use borrow.Author.Rules.{rules}
 use Rattle.lower_bitwise_unary_lane.proofs.counts.count_at.Statement.{statement}
 use Rattle.lower_bitwise_unary_lane.proofs.counts.count_at.Tie as tie
 
-add_at : tie.Need-overflow-add-at
+add_at : tie.Need-overflow_add-at
 add_at c = search rules
 
-extract-requires : tie.Need-extract-requires
+extract-requires : tie.Need-extract-one-requires
 extract-requires c κs = search rules
 
-zero-ext-requires : tie.Need-zero-ext-requires
+zero-ext-requires : tie.Need-zero_ext-wide-requires
 zero-ext-requires c κs = search rules
 
 bv-requires : tie.Need-bv-requires
 bv-requires c κs = search rules
 
-same_length : tie.Need-same-length
+same_length : tie.Need-shape_of-pool
 same_length c = search rules
 
 returns : tie.Need-returns
 returns c =
-    let l-bv = c.before.before in
-    let l-zero-ext = l-bv.before.before.before.before in
-    let l-extract = l-zero-ext.before.before.before.before in
-    let st = l-extract.before.before.before.before.before in
-    count_at st.requires.1.2 st.requires.1.3 l-extract.extract.ensures l-zero-ext.zero-ext.ensures l-bv.bv.ensures
+    let l-bv = c in
+    let l-zero-ext = c in
+    let l-extract = c in
+    let st = c in
+    count_at st.requires.1.2 st.requires.1.3 l-extract.extract-one.ensures l-zero-ext.zero_ext-wide.ensures l-bv.bv.ensures
 
-pub count-at-spec : {M : Type 1} → statement M
-count-at-spec = tie.close (tie.spec add_at extract-requires zero-ext-requires bv-requires same_length returns)
+pub count_at_spec : {M : Type 1} → statement M
+count_at_spec = tie.close (tie.spec add_at extract-requires zero-ext-requires bv-requires same_length returns)

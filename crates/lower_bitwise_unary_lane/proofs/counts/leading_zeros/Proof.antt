@@ -7,63 +7,57 @@ use Rattle.lower_bitwise_unary_lane.proofs.Layering.{BitsTo, BitsKept, bits_none
 use Rattle.lower_bitwise_unary_lane.proofs.counts.leading_zeros.Statement.{statement}
 use Rattle.lower_bitwise_unary_lane.proofs.counts.leading_zeros.Tie as tie
 
-abbrev invariant-loop : tie.invariant-loop
-invariant-loop pool₀ count value base bits acc₀ i₀ pool acc i = (i ≤ bits) × BitsKept count 5 base.0 bits value (zeros_to bits) pool₀ acc₀ pool acc i
+abbrev invariant-loop-i : tie.invariant-loop-i
+invariant-loop-i pool₀ count value base bits acc₀ i₀ pool acc i = (i ≤ bits) × BitsKept count 5 base.0 bits value (zeros_to bits) pool₀ acc₀ pool acc i
 
-abbrev decreases-loop : tie.decreases-loop
-decreases-loop pool₀ count value base bits acc₀ i₀ pool acc i = bits - i
-
-abbrev entry : tie.At-loop invariant-loop decreases-loop → tie.Start invariant-loop decreases-loop
-entry c = c.before.before.before.before.before.before
+abbrev decreases-loop-i : tie.decreases-loop-i
+decreases-loop-i pool₀ count value base bits acc₀ i₀ pool acc i = bits - i
 
 -- the bits so far, over the pool at entry
-so_far : (c : tie.At-loop invariant-loop decreases-loop) → let a = (entry c).args in
-    BitsTo a.pool.now a.count c.loop.pool c.loop.acc 5 a.base.0 a.bits a.value (zeros_to a.bits) c.loop.i
+so_far : (c : tie.At-loop-i invariant-loop-i decreases-loop-i) → let a = c.args in
+    BitsTo a.pool.now a.count c.loop-i.pool c.loop-i.acc 5 a.base.0 a.bits a.value (zeros_to a.bits) c.loop-i.i
 so_far c =
-    let s = entry c in
-    c.loop.invariant.1 _ (bits_none 5 (zeros_to s.args.bits) s.args.bits s.pre.1.1 s.pre.1.2 (le_refl _) (zeros-none s.args.bits) c.before.before.before.konst.ensures)
+    let s = c in
+    c.loop-i.invariant.1 _ (bits_none 5 (zeros_to s.args.bits) s.args.bits s.requires.1.1 s.requires.1.2 (le_refl _) (zeros-none s.args.bits) c.konst-acc.ensures)
 
-konst-requires : tie.Need-konst-requires invariant-loop decreases-loop
-konst-requires c κs = omega (arith, c.before.before.requires)
+konst-requires : tie.Need-konst-acc-requires invariant-loop-i decreases-loop-i
+konst-requires c κs = omega (arith, c.requires)
 
-loop-holds : tie.Need-loop-init invariant-loop decreases-loop
+loop-holds : tie.Need-loop-i-init invariant-loop-i decreases-loop-i
 loop-holds c = (omega arith, λ old d. d)
 
-zeros-at-requires : tie.Need-zeros-at-requires invariant-loop decreases-loop
+zeros-at-requires : tie.Need-zeros_at-acc-requires invariant-loop-i decreases-loop-i
 zeros-at-requires c κs =
-    let t = c.before in
-    omega (arith, (entry t.before).pre, (so_far t.before).sized, t.loop-test.true)
+    let t = c in
+    omega (arith, t.requires, (so_far c.before.before.before).sized, t.loop-i-test.true)
 
-abbrev turn : tie.After-slice-known3 invariant-loop decreases-loop → tie.In-loop invariant-loop decreases-loop
-turn c = c.before.before.before.before
+add-i : tie.Need-overflow_add-i invariant-loop-i decreases-loop-i
+add-i c = omega (arith, c.loop-i-test.true, c.fits.bits)
 
-add-i : tie.Need-overflow-add-i invariant-loop decreases-loop
-add-i c = omega (arith, (turn c).loop-test.true, (entry (turn c).before).fits.bits)
+loop-less : tie.Need-loop-i-smaller invariant-loop-i decreases-loop-i
+loop-less c = omega (arith, c.loop-i-test.true)
 
-loop-less : tie.Need-loop-smaller invariant-loop decreases-loop
-loop-less c = omega (arith, (turn c).loop-test.true)
-
-loop-again : tie.Need-loop-preserved invariant-loop decreases-loop
+loop-again : tie.Need-loop-i-preserved invariant-loop-i decreases-loop-i
 loop-again c =
-    let t = turn c in
-    let s = t.before.loop in
-    let n = (entry t.before).args.bits in
-    (omega (arith, t.loop-test.taken), λ old d. bits-more 5 (zeros_to n) (zeros_at n) (zeros-more n s.i) (s.inv.1 old d) c.before.before.zeros-at.ensures)
+    let t = c in
+    let s = t.loop-i in
+    let n = t.args.bits in
+    (omega (arith, t.loop-test.taken), λ old d. bits-more 5 (zeros_to n) (zeros_at n) (zeros-more n s.i) (s.inv.1 old d) c.zeros_at-acc.ensures)
 
-same_length : tie.Need-same-length invariant-loop decreases-loop
+same_length : tie.Need-shape_of-pool invariant-loop-i decreases-loop-i
 same_length c = (so_far c.before).sized.long
 
-returns : tie.Need-returns invariant-loop decreases-loop
+returns : tie.Need-returns invariant-loop-i decreases-loop-i
 returns c =
-    let s = c.before in
-    bits-all 5 (zeros_to (entry s).args.bits) (entry s).requires.1.1 (omega (arith, s.loop.invariant.0, c.loop-test.false)) (so_far s)
+    let s = c in
+    bits-all 5 (zeros_to s.args.bits) s.requires.1.1 (omega (arith, s.loop-i.invariant.0, c.loop-i-test.false)) (so_far c.before)
 
-pub leading-zeros-spec : {M : Type 1} → statement M
-leading-zeros-spec =
+pub leading_zeros_spec : {M : Type 1} → statement M
+leading_zeros_spec =
     tie.close
     (tie.spec
-    invariant-loop
-    decreases-loop
+    invariant-loop-i
+    decreases-loop-i
     konst-requires
     loop-holds
     zeros-at-requires

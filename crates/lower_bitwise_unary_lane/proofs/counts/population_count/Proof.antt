@@ -6,63 +6,57 @@ use Rattle.lower_bitwise_unary_lane.proofs.Layering.{BitsTo, BitsKept, bits_none
 use Rattle.lower_bitwise_unary_lane.proofs.counts.population_count.Statement.{statement}
 use Rattle.lower_bitwise_unary_lane.proofs.counts.population_count.Tie as tie
 
-abbrev invariant-loop : tie.invariant-loop
-invariant-loop pool₀ count value base lane-bits acc₀ i₀ pool acc i = (i ≤ lane-bits) × BitsKept count 3 base.0 lane-bits value (count_to lane-bits) pool₀ acc₀ pool acc i
+abbrev invariant-loop-i : tie.invariant-loop-i
+invariant-loop-i pool₀ count value base lane-bits acc₀ i₀ pool acc i = (i ≤ lane-bits) × BitsKept count 3 base.0 lane-bits value (count_to lane-bits) pool₀ acc₀ pool acc i
 
-abbrev decreases-loop : tie.decreases-loop
-decreases-loop pool₀ count value base lane-bits acc₀ i₀ pool acc i = lane-bits - i
-
-abbrev entry : tie.At-loop invariant-loop decreases-loop → tie.Start invariant-loop decreases-loop
-entry c = c.before.before.before.before.before.before
+abbrev decreases-loop-i : tie.decreases-loop-i
+decreases-loop-i pool₀ count value base lane-bits acc₀ i₀ pool acc i = lane-bits - i
 
 -- the bits so far, over the pool at entry
-so_far : (c : tie.At-loop invariant-loop decreases-loop) → let a = (entry c).args in
-    BitsTo a.pool.now a.count c.loop.pool c.loop.acc 3 a.base.0 a.lane-bits a.value (count_to a.lane-bits) c.loop.i
+so_far : (c : tie.At-loop-i invariant-loop-i decreases-loop-i) → let a = c.args in
+    BitsTo a.pool.now a.count c.loop-i.pool c.loop-i.acc 3 a.base.0 a.lane-bits a.value (count_to a.lane-bits) c.loop-i.i
 so_far c =
-    let s = entry c in
-    c.loop.invariant.1 _ (bits_none 3 (count_to s.args.lane-bits) 0 s.pre.1.1 s.pre.1.2 (omega arith) (count_none s.args.lane-bits) c.before.before.before.konst.ensures)
+    let s = c in
+    c.loop-i.invariant.1 _ (bits_none 3 (count_to s.args.lane_bits) 0 s.requires.1.1 s.requires.1.2 (omega arith) (count_none s.args.lane_bits) c.konst-acc.ensures)
 
-konst-requires : tie.Need-konst-requires invariant-loop decreases-loop
-konst-requires c κs = omega (arith, c.before.before.requires)
+konst-requires : tie.Need-konst-acc-requires invariant-loop-i decreases-loop-i
+konst-requires c κs = omega (arith, c.requires)
 
-loop-holds : tie.Need-loop-init invariant-loop decreases-loop
+loop-holds : tie.Need-loop-i-init invariant-loop-i decreases-loop-i
 loop-holds c = (omega arith, λ old d. d)
 
-count-at-requires : tie.Need-count-at-requires invariant-loop decreases-loop
+count-at-requires : tie.Need-count_at-acc-requires invariant-loop-i decreases-loop-i
 count-at-requires c κs =
-    let t = c.before in
-    omega (arith, (entry t.before).pre, (so_far t.before).sized, t.loop-test.true)
+    let t = c in
+    omega (arith, t.requires, (so_far c.before.before.before).sized, t.loop-i-test.true)
 
-abbrev turn : tie.After-slice-known3 invariant-loop decreases-loop → tie.In-loop invariant-loop decreases-loop
-turn c = c.before.before.before.before
+add-i : tie.Need-overflow_add-i invariant-loop-i decreases-loop-i
+add-i c = omega (arith, c.loop-i-test.true, c.fits.lane-bits)
 
-add-i : tie.Need-overflow-add-i invariant-loop decreases-loop
-add-i c = omega (arith, (turn c).loop-test.true, (entry (turn c).before).fits.lane-bits)
+loop-less : tie.Need-loop-i-smaller invariant-loop-i decreases-loop-i
+loop-less c = omega (arith, c.loop-i-test.true)
 
-loop-less : tie.Need-loop-smaller invariant-loop decreases-loop
-loop-less c = omega (arith, (turn c).loop-test.true)
-
-loop-again : tie.Need-loop-preserved invariant-loop decreases-loop
+loop-again : tie.Need-loop-i-preserved invariant-loop-i decreases-loop-i
 loop-again c =
-    let t = turn c in
-    let s = t.before.loop in
-    let n = (entry t.before).args.lane-bits in
-    (omega (arith, t.loop-test.taken), λ old d. bits-more 3 (count_to n) (count_bit_at n) (count-more n s.i) (s.inv.1 old d) c.before.before.count_at.ensures)
+    let t = c in
+    let s = t.loop-i in
+    let n = t.args.lane_bits in
+    (omega (arith, t.loop-test.taken), λ old d. bits-more 3 (count_to n) (count_bit_at n) (count-more n s.i) (s.inv.1 old d) c.count_at-acc.ensures)
 
-same_length : tie.Need-same-length invariant-loop decreases-loop
+same_length : tie.Need-shape_of-pool invariant-loop-i decreases-loop-i
 same_length c = (so_far c.before).sized.long
 
-returns : tie.Need-returns invariant-loop decreases-loop
+returns : tie.Need-returns invariant-loop-i decreases-loop-i
 returns c =
-    let s = c.before in
-    bits-all 3 (count_to (entry s).args.lane-bits) (entry s).requires.1.1 (omega (arith, s.loop.invariant.0, c.loop-test.false)) (so_far s)
+    let s = c in
+    bits-all 3 (count_to s.args.lane_bits) s.requires.1.1 (omega (arith, s.loop-i.invariant.0, c.loop-i-test.false)) (so_far c.before)
 
-pub population-count-spec : {M : Type 1} → statement M
-population-count-spec =
+pub population_count_spec : {M : Type 1} → statement M
+population_count_spec =
     tie.close
     (tie.spec
-    invariant-loop
-    decreases-loop
+    invariant-loop-i
+    decreases-loop-i
     konst-requires
     loop-holds
     count-at-requires

@@ -6,52 +6,43 @@ use Rattle.lower_exact.proofs.opposite.negated.Tie as tie
 
 -- ---- places: the difference from 0, that 0 and the entry
 
-abbrev difference : tie.After-slice-known3 → tie.After-bv
-difference c = c.before.before
-
-abbrev zero : tie.After-bv → tie.After-konst
-zero d = d.before.before.before.before
-
-abbrev entry : tie.After-bv → tie.Start
-entry d = (zero d).before.before.before
-
 -- ---- needs
 
-konst-requires : tie.Need-konst-requires
+konst-requires : tie.Need-konst-zero-requires
 konst-requires c κs = search rules
 
-bv-requires : tie.Need-bv-requires
+bv-requires : tie.Need-bv-opposite-requires
 bv-requires c κs = search rules
 
-same_length : tie.Need-same-length
+same_length : tie.Need-shape_of-pool-then-negate
 same_length c = search rules
 
-returns : tie.Need-returns
+returns : tie.Need-returns-then-negate
 returns c =
-    let d = difference c.before in
-    let p = (entry d).pre.1 in
-    opposite p.1 p.2 c.if1.true (zero d).konst.ensures d.bv.ensures
+    let d = c in
+    let p = d.requires.1 in
+    opposite p.1 p.2 c.if-negate.true d.konst-zero.ensures d.bv-opposite.ensures
 
-compare-requires : tie.Need-compare-requires
+compare-requires : tie.Need-compare-negative-requires
 compare-requires c κs = search rules
 
 ite-requires : tie.Need-ite-requires
 ite-requires c κs = search rules
 
-same-length-2 : tie.Need-same-length-2
+same-length-2 : tie.Need-shape_of-pool
 same-length-2 c = search rules
 
-returns-2 : tie.Need-returns-2
+returns-2 : tie.Need-returns
 returns-2 c =
-    let choice = c.before.before in
-    let below = choice.before.before.before.before in
-    let i = below.before.before in
-    let d = difference i.before in
-    let p = (entry d).pre.1 in
-    absolute p.1 p.2 i.if1.false (zero d).konst.ensures d.bv.ensures below.compare.ensures choice.ite.ensures
+    let choice = c in
+    let below = c in
+    let i = c in
+    let d = c in
+    let p = d.requires.1 in
+    absolute p.1 p.2 i.if-negate.false d.konst-zero.ensures d.bv-opposite.ensures below.compare-negative.ensures choice.ite.ensures
 
-pub negated-spec : {M : Type 1} → statement M
-negated-spec =
+pub negated_spec : {M : Type 1} → statement M
+negated_spec =
     tie.close
     (tie.spec
     konst-requires

@@ -8,56 +8,50 @@ use Rattle.lower_exact.proofs.product.exact_high.Tie as tie
 
 -- ---- places: the entry, and the half that rounds, from the doubled product
 
-abbrev entry : tie.After-power → tie.Start
-entry h = h.before.before
-
-abbrev half : tie.After-double → tie.After-power
-half d = d.before.before
-
 -- ---- needs
 
-mul_wide : tie.Need-overflow-mul-wide
+mul_wide : tie.Need-overflow_mul-wide
 mul_wide c = search rules
 
-add_wide : tie.Need-overflow-add-wide
+add_wide : tie.Need-overflow_add-wide
 add_wide c = search rules
 
-sub-power : tie.Need-overflow-sub-power
+sub-power : tie.Need-overflow_sub-lane_bits
 sub-power c = search rules
 
-power-requires : tie.Need-power-requires
+power-requires : tie.Need-power-half-requires
 power-requires c κs = search rules
 
-double-requires : tie.Need-double-requires
+double-requires : tie.Need-double-doubled-requires
 double-requires c κs = search rules
 
-shift-down-requires : tie.Need-shift-down-requires
+shift-down-requires : tie.Need-shift_down-requires
 shift-down-requires c κs =
-    let d = c.before.before.before in
-    let s = entry (half d) in
-    let n = s.args.lane-bits in (
-      omega (arith, s.pre, d.double.ensures.sized),
+    let d = c in
+    let s = c in
+    let n = s.args.lane_bits in (
+      omega (arith, s.requires, d.double-doubled.ensures.sized),
       (
-        d.double.ensures.sized.under,
-        omega (arith, s.pre),
-        omega (arith, s.pre),
-        rw (half d).power.ensures (half-fits n _ s.pre.1.2 (omega (arith, s.pre))),
-        small n n _ (omega arith) (omega (arith, s.pre)),
+        d.double-doubled.ensures.sized.under,
+        omega (arith, s.requires),
+        omega (arith, s.requires),
+        rw d.power-half.ensures (half-fits n _ s.requires.1.2 (omega (arith, s.requires))),
+        small n n _ (omega arith) (omega (arith, s.requires)),
       ),
     )
 
-same_length : tie.Need-same-length
+same_length : tie.Need-shape_of-pool
 same_length c = search rules
 
 returns : tie.Need-returns
 returns c =
-    let down = c.before.before in
-    let d = down.before.before.before.before in
-    let a = (entry (half d)).args in
-    high a.lane-bits a.rounding (half d).power.ensures d.double.ensures down.shift-down.ensures
+    let down = c in
+    let d = c in
+    let a = d.args in
+    high a.lane-bits a.rounding d.power-half.ensures d.double-doubled.ensures down.shift_down.ensures
 
-pub exact-high-spec : {M : Type 1} → statement M
-exact-high-spec =
+pub exact_high_spec : {M : Type 1} → statement M
+exact_high_spec =
     tie.close
     (tie.spec
     mul_wide

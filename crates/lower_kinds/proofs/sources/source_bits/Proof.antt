@@ -7,22 +7,22 @@ use Rattle.lower_kinds.proofs.sources.source_bits.Statement.{statement}
 use Rattle.lower_kinds.proofs.sources.source_bits.Tie as tie
 
 abbrev kind : tie.After-narrowing → SaturatingKind
-kind n = n.before.args.kind
+kind n = n.args.kind
 
 abbrev bits : tie.After-narrowing → ℕ
-bits n = n.before.args.lane-bits
+bits n = n.args.lane_bits
 
 narrowing-requires : tie.Need-narrowing-requires
 narrowing-requires c κs = search rules
 
-mul-result : tie.Need-overflow-mul-result
+mul-result : tie.Need-overflow_mul-result
 mul-result c = search rules
 
-returns : tie.Need-returns
-returns c = bits-narrowing (kind c.before) (bits c.before) c.before.narrowing.ensures c.if1.true
+returns : tie.Need-returns-then-narrowing
+returns c = bits-narrowing (kind c.before) (bits c.before) c.narrowing.ensures c.if-narrowing.true
 
-returns-2 : tie.Need-returns-2
-returns-2 c = bits-same (kind c.before) (bits c.before) c.before.narrowing.ensures c.if1.false
+returns-2 : tie.Need-returns
+returns-2 c = bits-same (kind c.before) (bits c.before) c.narrowing.ensures c.if-narrowing.false
 
-pub source-bits-spec : {M : Type 1} → statement M
-source-bits-spec = tie.close (tie.spec narrowing-requires mul-result returns returns-2)
+pub source_bits_spec : {M : Type 1} → statement M
+source_bits_spec = tie.close (tie.spec narrowing-requires mul-result returns returns-2)

@@ -4,16 +4,16 @@ use Rattle.lower_shape.proofs.Numbered.{last}
 use Rattle.lower_shape.proofs.arith.absolute_difference_shape.Statement.{statement}
 use Rattle.lower_shape.proofs.arith.absolute_difference_shape.Tie as tie
 
-pub absolute-difference-shape-spec : {M : Type 1} → statement M
+pub absolute_difference_shape_spec : {M : Type 1} → statement M
 unfolding op_at operations
-absolute-difference-shape-spec =
+absolute_difference_shape_spec =
     tie.close
     (tie.spec
     (λ c κs. tt)
     (λ c κs. tt)
     (λ c κs. tt)
     (λ c κs. tt)
-    (λ c i upper. rw c.before.match.keys1 c.integer.ensures)
-    (λ c i upper. rw c.before.match.keys2 c.integer2.ensures)
-    (λ c i upper. rw c.before.match.keys3 c.integer3.ensures)
-    (λ c i upper. rw (last 56 3 c.before.before.requires c.before.match.rest) c.integer4.ensures))
+    (λ c i upper. rw c.match.keys1 c.integer.ensures)
+    (λ c i upper. rw c.match.keys2 c.integer-in-57.ensures)
+    (λ c i upper. rw c.match.keys3 c.integer-in-58.ensures)
+    (λ c i upper. rw (last 56 3 c.requires c.match.rest) c.integer-in_default.ensures))

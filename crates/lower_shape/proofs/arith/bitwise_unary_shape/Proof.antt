@@ -4,12 +4,12 @@ use Rattle.lower_shape.proofs.Numbered.{last}
 use Rattle.lower_shape.proofs.arith.bitwise_unary_shape.Statement.{statement}
 use Rattle.lower_shape.proofs.arith.bitwise_unary_shape.Tie as tie
 
-pub bitwise-unary-shape-spec : {M : Type 1} → statement M
+pub bitwise_unary_shape_spec : {M : Type 1} → statement M
 unfolding op_at operations
-bitwise-unary-shape-spec =
+bitwise_unary_shape_spec =
     tie.close
     (tie.spec
     (λ c i upper. rw c.match.keys1)
     (λ c i upper. rw c.match.keys2)
     (λ c i upper. rw c.match.keys3)
-    (λ c i upper. rw (last 60 3 c.before.requires c.match.rest)))
+    (λ c i upper. rw (last 60 3 c.requires c.match.rest)))

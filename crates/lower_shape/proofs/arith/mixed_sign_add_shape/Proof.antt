@@ -4,10 +4,10 @@ use Rattle.lower_shape.proofs.Numbered.{last}
 use Rattle.lower_shape.proofs.arith.mixed_sign_add_shape.Statement.{statement}
 use Rattle.lower_shape.proofs.arith.mixed_sign_add_shape.Tie as tie
 
-pub mixed-sign-add-shape-spec : {M : Type 1} → statement M
+pub mixed_sign_add_shape_spec : {M : Type 1} → statement M
 unfolding op_at operations
-mixed-sign-add-shape-spec =
+mixed_sign_add_shape_spec =
     tie.close
     (tie.spec
     (λ c i upper. rw c.match.keys1)
-    (λ c i upper. rw (last 54 1 c.before.requires c.match.rest)))
+    (λ c i upper. rw (last 54 1 c.requires c.match.rest)))

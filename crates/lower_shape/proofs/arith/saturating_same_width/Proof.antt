@@ -12,9 +12,9 @@ use Rattle.lower_shape.proofs.arith.saturating_same_width.Tie as tie
 the_last : {n : ℕ} → (19 ≤ n) × (n ≤ 41) × ((n ≤ 26) ⊎ (38 ≤ n)) → ((NoneOf n 19 8 × (n ≡ 38 → ⊥)) × (n ≡ 39 → ⊥)) × (n ≡ 40 → ⊥) → n ≡ 41
 the_last {n} p r = ⊎_elim (λ l. absurd (omega (arith, l, above n 19 8 p.0 r.0.0.0))) (λ l. omega (arith, l, p.1, r.0.0.1, r.0.1, r.1)) p.2
 
-pub saturating-same-width-spec : {M : Type 1} → statement M
+pub saturating_same_width_spec : {M : Type 1} → statement M
 unfolding op_at operations
-saturating-same-width-spec =
+saturating_same_width_spec =
     tie.close
     (tie.spec
     (λ c κs. tt)
@@ -29,15 +29,15 @@ saturating-same-width-spec =
     (λ c κs. tt)
     (λ c κs. tt)
     (λ c κs. tt)
-    (λ c i upper. rw c.before.match.keys1 c.add-sub.ensures)
-    (λ c i upper. rw c.before.match.keys2 c.add-sub2.ensures)
-    (λ c i upper. rw c.before.match.keys3 c.add-sub3.ensures)
-    (λ c i upper. rw c.before.match.keys4 c.add-sub4.ensures)
-    (λ c i upper. rw c.before.match.keys5 c.halving.ensures)
-    (λ c i upper. rw c.before.match.keys6 c.halving2.ensures)
-    (λ c i upper. rw c.before.match.keys7 c.halving3.ensures)
-    (λ c i upper. rw c.before.match.keys8 c.halving4.ensures)
-    (λ c i upper. rw c.before.match.keys9 c.unary.ensures)
-    (λ c i upper. rw c.before.match.keys10 c.unary2.ensures)
-    (λ c i upper. rw c.before.match.keys11 c.multiply-high.ensures)
-    (λ c i upper. rw (the_last c.before.before.requires c.before.match.rest) c.multiply-high2.ensures))
+    (λ c i upper. rw c.match.keys1 c.add_sub.ensures)
+    (λ c i upper. rw c.match.keys2 c.add_sub-in-20.ensures)
+    (λ c i upper. rw c.match.keys3 c.add_sub-in-21.ensures)
+    (λ c i upper. rw c.match.keys4 c.add_sub-in-22.ensures)
+    (λ c i upper. rw c.match.keys5 c.halving.ensures)
+    (λ c i upper. rw c.match.keys6 c.halving-in-24.ensures)
+    (λ c i upper. rw c.match.keys7 c.halving-in-25.ensures)
+    (λ c i upper. rw c.match.keys8 c.halving-in-26.ensures)
+    (λ c i upper. rw c.match.keys9 c.unary.ensures)
+    (λ c i upper. rw c.match.keys10 c.unary-in-39.ensures)
+    (λ c i upper. rw c.match.keys11 c.multiply_high.ensures)
+    (λ c i upper. rw (the_last c.requires c.match.rest) c.multiply_high-in_default.ensures))

@@ -4,13 +4,13 @@ use mathlib.Core.Logic.{inl, inr}
 use Rattle.lower_shape.proofs.arith.saturating_shape.Statement.{statement}
 use Rattle.lower_shape.proofs.arith.saturating_shape.Tie as tie
 
-pub saturating-shape-spec : {M : Type 1} → statement M
-saturating-shape-spec =
+pub saturating_shape_spec : {M : Type 1} → statement M
+saturating_shape_spec =
     tie.close
     (tie.spec
-    (λ c κs. (c.before.requires.0, c.before.requires.1, inl (omega (arith, c.if1.true))))
-    (λ c. c.saturating-same-width.ensures c.before.before.args.i c.before.before.args.upper)
-    (λ c κs. omega (arith, c.before.if1.false, c.if2.true))
-    (λ c. c.saturating-narrowing.ensures)
-    (λ c κs. (c.before.before.requires.0, c.before.before.requires.1, inr c.if2.false))
-    (λ c. c.saturating-same-width2.ensures c.before.before.before.args.i c.before.before.before.args.upper))
+    (λ c κs. (c.requires.0, c.requires.1, inl (omega (arith, c.if-operation-lt27.true))))
+    (λ c. c.saturating_same_width.ensures c.args.i c.args.upper)
+    (λ c κs. omega (arith, c.if-operation-lt27.false, c.if-operation-lt38.true))
+    (λ c. c.saturating_narrowing.ensures)
+    (λ c κs. (c.requires.0, c.requires.1, inr c.if-operation-lt38.false))
+    (λ c. c.saturating_same_width-2.ensures c.args.i c.args.upper))

@@ -4,10 +4,10 @@ use Rattle.lower_shape.proofs.Numbered.{last}
 use Rattle.lower_shape.proofs.arith.shift_insert_shape.Statement.{statement}
 use Rattle.lower_shape.proofs.arith.shift_insert_shape.Tie as tie
 
-pub shift-insert-shape-spec : {M : Type 1} → statement M
+pub shift_insert_shape_spec : {M : Type 1} → statement M
 unfolding op_at operations
-shift-insert-shape-spec =
+shift_insert_shape_spec =
     tie.close
     (tie.spec
     (λ c upper. rw c.match.keys1)
-    (λ c upper. rw (last 17 1 c.before.requires c.match.rest)))
+    (λ c upper. rw (last 17 1 c.requires c.match.rest)))

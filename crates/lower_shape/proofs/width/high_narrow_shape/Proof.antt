@@ -4,16 +4,16 @@ use Rattle.lower_shape.proofs.Numbered.{last}
 use Rattle.lower_shape.proofs.width.high_narrow_shape.Statement.{statement}
 use Rattle.lower_shape.proofs.width.high_narrow_shape.Tie as tie
 
-pub high-narrow-shape-spec : {M : Type 1} → statement M
+pub high_narrow_shape_spec : {M : Type 1} → statement M
 unfolding op_at operations
-high-narrow-shape-spec =
+high_narrow_shape_spec =
     tie.close
     (tie.spec
     (λ c κs. tt)
     (λ c κs. tt)
     (λ c κs. tt)
     (λ c κs. tt)
-    (λ c i. rw c.before.match.keys1 c.high.ensures)
-    (λ c i. rw c.before.match.keys2 c.high2.ensures)
-    (λ c i. rw c.before.match.keys3 c.high3.ensures)
-    (λ c i. rw (last 64 3 c.before.before.requires c.before.match.rest) c.high4.ensures))
+    (λ c i. rw c.match.keys1 c.high.ensures)
+    (λ c i. rw c.match.keys2 c.high-in-65.ensures)
+    (λ c i. rw c.match.keys3 c.high-in-66.ensures)
+    (λ c i. rw (last 64 3 c.requires c.match.rest) c.high-in_default.ensures))

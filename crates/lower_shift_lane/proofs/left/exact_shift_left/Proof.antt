@@ -4,27 +4,27 @@ use borrow.Author.Rules.{rules}
 use Rattle.lower_shift_lane.proofs.left.exact_shift_left.Statement.{statement}
 use Rattle.lower_shift_lane.proofs.left.exact_shift_left.Tie as tie
 
-add_wide : tie.Need-overflow-add-wide
+add_wide : tie.Need-overflow_add-wide
 add_wide c = search rules
 
-add-wide-2 : tie.Need-overflow-add-wide-2
+add-wide-2 : tie.Need-overflow_add-wide-2
 add-wide-2 c = search rules
 
-shift-up-requires : tie.Need-shift-up-requires
+shift-up-requires : tie.Need-shift_up-exact-requires
 shift-up-requires c κs = search rules
 
 clamp-requires : tie.Need-clamp-requires
 clamp-requires c κs = search rules
 
-same_length : tie.Need-same-length
+same_length : tie.Need-shape_of-pool
 same_length c = search rules
 
 returns : tie.Need-returns
 returns c =
-    let l-clamp = c.before.before in
-    let l-shift-up = l-clamp.before.before.before.before in
-    then1 l-shift-up.shift-up.ensures l-clamp.clamp.ensures
+    let l-clamp = c in
+    let l-shift-up = c in
+    then1 l-shift-up.shift_up-exact.ensures l-clamp.clamp.ensures
 
-pub exact-shift-left-spec : {M : Type 1} → statement M
-exact-shift-left-spec =
+pub exact_shift_left_spec : {M : Type 1} → statement M
+exact_shift_left_spec =
     tie.close (tie.spec add_wide add-wide-2 shift-up-requires clamp-requires same_length returns)

@@ -5,44 +5,44 @@ use borrow.Author.Rules.{rules}
 use Rattle.lower_shift_lane.proofs.left.left_immediate.Statement.{statement}
 use Rattle.lower_shift_lane.proofs.left.left_immediate.Tie as tie
 
-enum_told : tie.Need-enum-told
+enum_told : tie.Need-enum_told-1
 enum_told c = search rules
 
-konst-requires : tie.Need-konst-requires
+konst-requires : tie.Need-konst-by-requires
 konst-requires c κs = search rules
 
 bv-requires : tie.Need-bv-requires
 bv-requires c κs = search rules
 
-enum-known-saturate : tie.Need-enum-known-saturate
+enum-known-saturate : tie.Need-enum_known-saturate
 enum-known-saturate c = search rules
 
-saturated-left-requires : tie.Need-saturated-left-requires
+saturated-left-requires : tie.Need-saturated_left-requires
 saturated-left-requires c κs = search rules
 
-same_length : tie.Need-same-length
+same_length : tie.Need-shape_of-pool-in-Never
 same_length c = search rules
 
-returns : tie.Need-returns
+returns : tie.Need-returns-in-Never
 returns c =
-    let l-bv = c.before.before in
-    let l-konst = l-bv.before.before.before.before in
-    let l-enum-told = l-konst.before.before in
-    let st = l-enum-told.before.before.before in
-    left-wrapping st.args.signed l-enum-told.enum_told.given.1 (omega (arith, st.requires)) st.requires.1.1 st.requires.1.2 l-konst.konst.ensures l-bv.bv.ensures
+    let l-bv = c in
+    let l-konst = c in
+    let l-enum-told = c in
+    let st = c in
+    left-wrapping st.args.signed l-enum-told.enum_told-1.given.1 (omega (arith, st.requires)) st.requires.1.1 st.requires.1.2 l-konst.konst-by.ensures l-bv.bv.ensures
 
-same-length-2 : tie.Need-same-length-2
+same-length-2 : tie.Need-shape_of-pool-in-Into
 same-length-2 c = search rules
 
-returns-2 : tie.Need-returns-2
+returns-2 : tie.Need-returns-in-Into
 returns-2 c =
-    let l-saturated-left = c.before.before in
-    let l-saturate = l-saturated-left.before.before.before in
-    let st = l-saturate.before.before.before in
-    left-into st.args.shift st.args.signed l-saturate.saturate.given.1 l-saturated-left.saturated-left.ensures
+    let l-saturated-left = c in
+    let l-saturate = c in
+    let st = c in
+    left-into st.args.shift st.args.signed l-saturate.saturate-1.given.1 l-saturated-left.saturated_left.ensures
 
-pub left-immediate-spec : {M : Type 1} → statement M
-left-immediate-spec =
+pub left_immediate_spec : {M : Type 1} → statement M
+left_immediate_spec =
     tie.close
     (tie.spec
     enum_told

@@ -7,42 +7,42 @@ use borrow.Author.Rules.{rules}
 use Rattle.lower_shift_lane.proofs.left.saturated_left.Statement.{statement}
 use Rattle.lower_shift_lane.proofs.left.saturated_left.Tie as tie
 
-enum_told : tie.Need-enum-told
+enum_told : tie.Need-enum_told-1
 enum_told c = search rules
 
-exact-shift-left-requires : tie.Need-exact-shift-left-requires
+exact-shift-left-requires : tie.Need-exact_shift_left-requires
 exact-shift-left-requires c κs = search rules
 
-same_length : tie.Need-same-length
+same_length : tie.Need-shape_of-pool-in-SignedToUnsigned
 same_length c = search rules
 
-returns : tie.Need-returns
+returns : tie.Need-returns-in-SignedToUnsigned
 returns c =
-    let l-exact-shift-left = c.before.before in
-    let l-enum-told = l-exact-shift-left.before.before in
-    let st = l-enum-told.before.before.before in
-    left-exact st.args.shift st.args.signed l-enum-told.enum_told.given.1 l-exact-shift-left.exact-shift-left.ensures
+    let l-exact-shift-left = c in
+    let l-enum-told = c in
+    let st = c in
+    left-exact st.args.shift st.args.signed l-enum-told.enum_told-1.given.1 l-exact-shift-left.exact_shift_left.ensures
 
-konst-requires : tie.Need-konst-requires
+konst-requires : tie.Need-konst-by-requires
 konst-requires c κs = search rules
 
-saturating-shift-left-requires : tie.Need-saturating-shift-left-requires
+saturating-shift-left-requires : tie.Need-saturating_shift_left-requires
 saturating-shift-left-requires c κs = search rules
 
-same-length-2 : tie.Need-same-length-2
+same-length-2 : tie.Need-shape_of-pool
 same-length-2 c = search rules
 
-returns-2 : tie.Need-returns-2
+returns-2 : tie.Need-returns
 returns-2 c =
-    let l-saturating-shift-left = c.before.before in
-    let l-konst = l-saturating-shift-left.before.before.before.before in
-    let l-match = l-konst.before.before in
-    let st = l-match.before.before in
+    let l-saturating-shift-left = c in
+    let l-konst = c in
+    let l-match = c in
+    let st = c in
     left-clamped st.args.to st.args.signed (λ q. not_third _ l-match.match.keys2 (rw q refl)) (omega (arith, st.requires)) st.requires.1.1 st.requires.1.2
-    l-konst.konst.ensures l-saturating-shift-left.saturating-shift-left.ensures
+    l-konst.konst-by.ensures l-saturating-shift-left.saturating_shift_left.ensures
 
-pub saturated-left-spec : {M : Type 1} → statement M
-saturated-left-spec =
+pub saturated_left_spec : {M : Type 1} → statement M
+saturated_left_spec =
     tie.close
     (tie.spec
     enum_told

@@ -9,73 +9,58 @@ use Rattle.lower_shift_lane.proofs.left.saturating_shift_left.Tie as tie
 
 -- ---- from the place after a call back to the one before it, and what the calls so far leave
 
-abbrev entry : tie.After-bv → tie.Start
-entry c = c.before.before.before
-
 start-run : (s : tie.Start) → Begun s.requires s.args.pool.now s.args.count (s.args.value.0 ∷ s.args.amount.0 ∷ [])
 start-run s = let p = s.requires.1 in begun s.requires _ _ _ (p.0, (p.1, tt))
 
-bv-run : (c : tie.After-bv) → Next (start-run (entry c)) c.bv.ensures.sized
-bv-run c = next (start-run (entry c)) c.bv.ensures.sized
+bv-run : (c : tie.After-bv-shifted) → Next (start-run c.before.before.before) c.bv-shifted.ensures.sized
+bv-run c = next (start-run c.before.before.before) c.bv-shifted.ensures.sized
 
-abbrev to-bv : tie.After-bv2 → tie.After-bv
-to-bv c = c.before.before.before.before.before
+bv2-run : (c : tie.After-bv-restored) → Next (bv-run c.before.before.before.before.before.before) c.bv-restored.ensures.sized
+bv2-run c = next (bv-run c.before.before.before.before.before.before) c.bv-restored.ensures.sized
 
-bv2-run : (c : tie.After-bv2) → Next (bv-run (to-bv c)) c.bv2.ensures.sized
-bv2-run c = next (bv-run (to-bv c)) c.bv2.ensures.sized
+compare-run : (c : tie.After-compare-same) → Next (bv2-run c.before.before.before.before.before) c.compare-same.ensures.sized
+compare-run c = next (bv2-run c.before.before.before.before.before) c.compare-same.ensures.sized
 
-abbrev to-bv2 : tie.After-compare → tie.After-bv2
-to-bv2 c = c.before.before.before.before
+shift-bound-run : (c : tie.After-shift_bound-bound) → Next (compare-run c.before.before.before.before) c.shift_bound-bound.ensures.sized
+shift-bound-run c = next (compare-run c.before.before.before.before) c.shift_bound-bound.ensures.sized
 
-compare-run : (c : tie.After-compare) → Next (bv2-run (to-bv2 c)) c.compare.ensures.sized
-compare-run c = next (bv2-run (to-bv2 c)) c.compare.ensures.sized
+ite-run : (c : tie.After-ite) → Next (shift-bound-run c.before.before.before.before.before.before.before) c.ite.ensures.sized
+ite-run c = next (shift-bound-run c.before.before.before.before.before.before.before) c.ite.ensures.sized
 
-abbrev to-compare : tie.After-shift-bound → tie.After-compare
-to-compare c = c.before.before.before.before
-
-shift-bound-run : (c : tie.After-shift-bound) → Next (compare-run (to-compare c)) c.shift-bound.ensures.sized
-shift-bound-run c = next (compare-run (to-compare c)) c.shift-bound.ensures.sized
-
-abbrev to-shift-bound : tie.After-ite → tie.After-shift-bound
-to-shift-bound c = c.before.before.before.before
-
-ite-run : (c : tie.After-ite) → Next (shift-bound-run (to-shift-bound c)) c.ite.ensures.sized
-ite-run c = next (shift-bound-run (to-shift-bound c)) c.ite.ensures.sized
-
-bv-requires : tie.Need-bv-requires
+bv-requires : tie.Need-bv-shifted-requires
 bv-requires c κs = search rules
 
-shift-op-requires : tie.Need-shift-op-requires
+shift-op-requires : tie.Need-shift_op-op-requires
 shift-op-requires c κs = search rules
 
-bv-requires-2 : tie.Need-bv-requires-2
+bv-requires-2 : tie.Need-bv-restored-requires
 bv-requires-2 c κs = search rules
 
-compare-requires : tie.Need-compare-requires
+compare-requires : tie.Need-compare-same-requires
 compare-requires c κs = search rules
 
-shift-bound-requires : tie.Need-shift-bound-requires
+shift-bound-requires : tie.Need-shift_bound-bound-requires
 shift-bound-requires c κs = search rules
 
 ite-requires : tie.Need-ite-requires
-ite-requires c κs = omega (arith, shift-bound-run c.before.before.before)
+ite-requires c κs = omega (arith, shift-bound-run c.before.before.before.before.before.before)
 
-same_length : tie.Need-same-length
+same_length : tie.Need-shape_of-pool
 same_length c = (ite-run c.before.before).long
 
 returns : tie.Need-returns
 returns c =
-    let l-ite = c.before.before in
-    let l-shift-bound = to-shift-bound l-ite in
-    let l-compare = to-compare l-shift-bound in
-    let l-bv2 = to-bv2 l-compare in
-    let l-bv = to-bv l-bv2 in
-    let s = entry l-bv in
-    saturating s.args.signed s.pre.1.2 s.pre.1.3 l-bv2.before.before.shift-op.ensures l-bv.bv.ensures l-bv2.bv2.ensures
-    l-compare.compare.ensures l-shift-bound.shift-bound.ensures l-ite.ite.ensures
+    let l-ite = c in
+    let l-shift-bound = c in
+    let l-compare = c in
+    let l-bv2 = c in
+    let l-bv = c in
+    let s = c in
+    saturating s.args.signed s.requires.1.2 s.requires.1.3 l-bv2.shift_op-op.ensures l-bv.bv-shifted.ensures l-bv2.bv-restored.ensures
+    l-compare.compare-same.ensures l-shift-bound.shift_bound-bound.ensures l-ite.ite.ensures
 
-pub saturating-shift-left-spec : {M : Type 1} → statement M
-saturating-shift-left-spec =
+pub saturating_shift_left_spec : {M : Type 1} → statement M
+saturating_shift_left_spec =
     tie.close
     (tie.spec
     bv-requires

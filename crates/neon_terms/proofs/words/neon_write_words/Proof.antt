@@ -3,14 +3,14 @@ use borrow.Author.Rules.{rules}
 use Rattle.neon_terms.proofs.words.neon_write_words.Statement.{statement}
 use Rattle.neon_terms.proofs.words.neon_write_words.Tie as tie
 
-write-words-requires : tie.Need-write-words-requires
+write-words-requires : tie.Need-write_words-a-requires
 write-words-requires c κs = tt
 
-same_length : tie.Need-same-length
+same_length : tie.Need-shape_of-bytes
 same_length c = search rules
 
 returns : tie.Need-returns
-returns c = c.before.before.write-words.ensures
+returns c = c.write_words-a.ensures
 
-pub neon-write-words-spec : {M : Type 1} → statement M
-neon-write-words-spec = tie.close (tie.spec write-words-requires same_length returns)
+pub neon_write_words_spec : {M : Type 1} → statement M
+neon_write_words_spec = tie.close (tie.spec write-words-requires same_length returns)

@@ -6,22 +6,22 @@ use borrow.Author.Rules.{rules}
 use Rattle.run_block.proofs.Registers.set.Statement.{statement}
 use Rattle.run_block.proofs.Registers.set.Tie as tie
 
-mul_at : tie.Need-overflow-mul-at
+mul_at : tie.Need-overflow_mul-at
 mul_at c = search rules
 
-mul-m : tie.Need-overflow-mul-m
+mul-m : tie.Need-offset_bounds-m-at
 mul-m c = search rules
 
-element-write-m : tie.Need-element-write-m
+element-write-m : tie.Need-bounds-m-at
 element-write-m c = search rules
 
-add-m : tie.Need-overflow-add-m
+add-m : tie.Need-overflow_add-m
 add-m c = search rules
 
-mul-m-2 : tie.Need-overflow-mul-m-2
+mul-m-2 : tie.Need-offset_bounds-m-at-2
 mul-m-2 c = search rules
 
-element-write-m-2 : tie.Need-element-write-m-2
+element-write-m-2 : tie.Need-bounds-m-at-2
 element-write-m-2 c = search rules
 
 returns : tie.Need-returns

@@ -3,14 +3,14 @@ use borrow.Author.Rules.{rules}
 use Rattle.run_block.proofs.family.second_by.Statement.{statement}
 use Rattle.run_block.proofs.family.second_by.Tie as tie
 
-returns : tie.Need-returns
+returns : tie.Need-returns-then-y
 returns c = search rules
 
-returns-2 : tie.Need-returns-2
-returns-2 c = rw (c.before.before.if1.false, c.before.if2.true)
+returns-2 : tie.Need-returns-then-y-2
+returns-2 c = rw (c.if-y.false, c.if-y-2.true)
 
-returns-3 : tie.Need-returns-3
+returns-3 : tie.Need-returns
 returns-3 c = search rules
 
-pub second-by-spec : {M : Type 1} → statement M
-second-by-spec = tie.close (tie.spec returns returns-2 returns-3)
+pub second_by_spec : {M : Type 1} → statement M
+second_by_spec = tie.close (tie.spec returns returns-2 returns-3)

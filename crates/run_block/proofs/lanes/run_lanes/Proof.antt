@@ -11,158 +11,152 @@ use Rattle.run_block.proofs.Running.{Kept, none_yet, one_more, two-words, in-wor
 use Rattle.run_block.proofs.lanes.run_lanes.Statement.{statement}
 use Rattle.run_block.proofs.lanes.run_lanes.Tie as tie
 
-abbrev invariant-loop : tie.invariant-loop
-invariant-loop op n m k skip element index d a b acc₀ saturated₀ j₀ acc saturated j =
+abbrev invariant-loop-j : tie.invariant-loop-j
+invariant-loop-j op n m k skip element index d a b acc₀ saturated₀ j₀ acc saturated j =
     (j ≤ k)
     × Kept n j (lane_by op n m skip element index.0 (number d) (number a) (number b))
     (beyond_by op n m skip element index.0 (number d) (number a) (number b)) acc saturated
 
-abbrev decreases-loop : tie.decreases-loop
-decreases-loop op n m k skip element index d a b acc₀ saturated₀ j₀ acc saturated j = k - j
+abbrev decreases-loop-j : tie.decreases-loop-j
+decreases-loop-j op n m k skip element index d a b acc₀ saturated₀ j₀ acc saturated j = k - j
 
 -- ---- a turn: the entry before it, its lane, and where the lane's bits are
 
-module _ (c : tie.In-loop invariant-loop decreases-loop) where
-  abbrev entry : tie.Start invariant-loop decreases-loop
+module _ (c : tie.In-loop-j invariant-loop-j decreases-loop-j) where
+  abbrev entry : tie.Start invariant-loop-j decreases-loop-j
   entry = c.before.before
 
   abbrev j : ℕ
-  j = c.before.loop.j
+  j = c.before.loop-j.j
 
   place : entry.args.n * j + entry.args.n ≤ 128
-  place = entry.pre.4.lane_in j c.loop-test.true
+  place = entry.requires.4.lane_in j c.loop-j-test.true
 
   first : entry.args.m * (j + entry.args.skip) + entry.args.m ≤ 128
-  first = entry.pre.4.first_in j c.loop-test.true
+  first = entry.requires.4.first_in j c.loop-j-test.true
 
   near : j + entry.args.skip ≤ 128
-  near = omega (arith, first, le-times entry.args.m (j + entry.args.skip) entry.pre.1)
+  near = omega (arith, first, le-times entry.args.m (j + entry.args.skip) entry.requires.1)
 
   n-le : entry.args.n ≤ 64
-  n-le = at_most entry.args.n entry.pre.4.n_word
+  n-le = at_most entry.args.n entry.requires.4.n_word
 
 -- ---- the turn, from where the second source's lane is known and from the lane that is made
 
-abbrev turn : tie.After-second-at invariant-loop decreases-loop → tie.In-loop invariant-loop decreases-loop
-turn c = c.before.before.before
-
-abbrev made : tie.After-lane-at invariant-loop decreases-loop → tie.In-loop invariant-loop decreases-loop
-made c = turn c.before.before.before
-
-second : (c : tie.After-second-at invariant-loop decreases-loop) → let a = (entry (turn c)).args in a.m * c.second_at.result.0 + a.m ≤ 128
+second : (c : tie.After-second_at invariant-loop-j decreases-loop-j) → let a = (entry c).args in a.m * c.second_at.result.0 + a.m ≤ 128
 second c =
-    let t = turn c in
+    let t = c in
     let a = (entry t).args in
-    subst (λ (k : ℕ). a.m * k + a.m ≤ 128) (sym c.second_at.ensures) ((entry t).pre.4.second_in (j t) t.loop-test.taken)
+    subst (λ (k : ℕ). a.m * k + a.m ≤ 128) (sym c.second_at.ensures) ((entry t).requires.4.second_in (j t) t.loop-test.taken)
 
 -- the lanes that are read
-lane-is : (c : tie.After-lane-at invariant-loop decreases-loop) → let t = made c in let a = (entry t).args in
+lane-is : (c : tie.After-lane_at-l invariant-loop-j decreases-loop-j) → let t = c in let a = (entry t).args in
     Answers (lane_by a.op a.n a.m a.skip a.element a.index.0 (number a.d) (number a.a) (number a.b) (j t))
     (beyond_by a.op a.n a.m a.skip a.element a.index.0 (number a.d) (number a.a) (number a.b) (j t))
-    c.lane-at.result.bits c.lane-at.result.saturated
+    c.lane_at-l.result.bits c.lane_at-l.result.saturated
 unfolding lane
 lane-is c =
-    let a = (entry (made c)).args in
-    let of-b = c.before.before.before in
-    let of-a = of-b.before in
-    answers_at a.op a.n of-a.before.bits_at.ensures of-a.bits-at2.ensures
-    (c.before.bits-at3.ensures ∙ ap (λ (t : ℕ). number a.b / 2 ^ (a.m * t) % 2 ^ a.m) of-b.second_at.ensures)
-    c.lane-at.ensures
+    let a = (entry c).args in
+    let of-b = c in
+    let of-a = c in
+    answers_at a.op a.n of-a.bits_at.ensures of-a.bits_at-in-loop-j.ensures
+    (c.bits_at-in-loop-j-2.ensures ∙ ap (λ (t : ℕ). number a.b / 2 ^ (a.m * t) % 2 ^ a.m) of-b.second_at.ensures)
+    c.lane_at-l.ensures
 
 -- ---- needs
 
-loop-holds : tie.Need-loop-init invariant-loop decreases-loop
+loop-holds : tie.Need-loop-j-init invariant-loop-j decreases-loop-j
 loop-holds c = (omega arith, none_yet _ _ _)
 
-mul-lane-at : tie.Need-overflow-mul-lane-at invariant-loop decreases-loop
+mul-lane-at : tie.Need-overflow_mul-at invariant-loop-j decreases-loop-j
 mul-lane-at c = omega (arith, place c)
 
-bits-at-requires : tie.Need-bits-at-requires invariant-loop decreases-loop
+bits-at-requires : tie.Need-bits_at-requires invariant-loop-j decreases-loop-j
 bits-at-requires c κs =
     let s = entry c in
-    (omega (arith, place c, s.pre.0), in-word s.args.n (j c) s.pre.0 s.pre.4.n_word)
+    (omega (arith, place c, s.requires.0), in-word s.args.n (j c) s.requires.0 s.requires.4.n_word)
 
-add-t19 : tie.Need-overflow-add-t19 invariant-loop decreases-loop
+add-t19 : tie.Need-overflow_add-j invariant-loop-j decreases-loop-j
 add-t19 c = omega (arith, near c.before)
 
-mul-t20 : tie.Need-overflow-mul-t20 invariant-loop decreases-loop
+mul-t20 : tie.Need-overflow_mul-m invariant-loop-j decreases-loop-j
 mul-t20 c = omega (arith, first c.before)
 
-bits-at-requires-2 : tie.Need-bits-at-requires-2 invariant-loop decreases-loop
+bits-at-requires-2 : tie.Need-bits_at-requires-in-loop-j invariant-loop-j decreases-loop-j
 bits-at-requires-2 c κs =
     let s = entry c.before in
-    (omega (arith, first c.before, s.pre.1), in-word s.args.m _ s.pre.1 s.pre.4.m_word)
+    (omega (arith, first c.before, s.requires.1), in-word s.args.m _ s.requires.1 s.requires.4.m_word)
 
-second-at-requires : tie.Need-second-at-requires invariant-loop decreases-loop
+second-at-requires : tie.Need-second_at-requires invariant-loop-j decreases-loop-j
 second-at-requires c κs = omega (arith, near c.before.before)
 
-mul-t25 : tie.Need-overflow-mul-t25 invariant-loop decreases-loop
+mul-t25 : tie.Need-overflow_mul-m-in-loop-j invariant-loop-j decreases-loop-j
 mul-t25 c = omega (arith, second c.before)
 
-bits-at-requires-3 : tie.Need-bits-at-requires-3 invariant-loop decreases-loop
+bits-at-requires-3 : tie.Need-bits_at-requires-in-loop-j-2 invariant-loop-j decreases-loop-j
 bits-at-requires-3 c κs =
-    let s = entry (turn c.before) in
-    (omega (arith, second c.before, s.pre.1), in-word s.args.m _ s.pre.1 s.pre.4.m_word)
+    let s = entry c.before in
+    (omega (arith, second c.before, s.requires.1), in-word s.args.m _ s.requires.1 s.requires.4.m_word)
 
-lane-at-requires : tie.Need-lane-at-requires invariant-loop decreases-loop
+lane-at-requires : tie.Need-lane_at-l-requires invariant-loop-j decreases-loop-j
 lane-at-requires c κs =
-    let t = turn c.before.before in
+    let t = c in
     let s = entry t in
-    let of-a = c.before.before.before in (
-      s.pre.0,
+    let of-a = c in (
+      s.requires.0,
       n-le t,
-      rw of-a.before.bits_at.ensures (mod-lt _ (pow_pos _)),
-      subst (λ (t : ℕ). of-a.bits-at2.result < 2 ^ t)
-          s.pre.2 (rw of-a.bits-at2.ensures (mod-lt _ (pow_pos _))),
-      subst (λ (t : ℕ). c.bits-at3.result < 2 ^ t) s.pre.2
-          (rw c.bits-at3.ensures (mod-lt _ (pow_pos _))),
-      s.pre.3,
+      rw of-a.bits_at.ensures (mod-lt _ (pow_pos _)),
+      subst (λ (t : ℕ). of-a.bits_at-in-loop-j.result < 2 ^ t)
+          s.requires.2 (rw of-a.bits_at-in-loop-j.ensures (mod-lt _ (pow_pos _))),
+      subst (λ (t : ℕ). c.bits_at-in-loop-j-2.result < 2 ^ t) s.requires.2
+          (rw c.bits_at-in-loop-j-2.ensures (mod-lt _ (pow_pos _))),
+      s.requires.3,
     )
 
-shl-requires : tie.Need-shl-requires invariant-loop decreases-loop
-shl-requires c κs = omega (arith, place (made c))
+shl-requires : tie.Need-shl-requires invariant-loop-j decreases-loop-j
+shl-requires c κs = omega (arith, place c)
 
-add-requires : tie.Need-add-requires invariant-loop decreases-loop
+add-requires : tie.Need-add-acc-requires invariant-loop-j decreases-loop-j
 add-requires c κs = tt
 
-add-j : tie.Need-overflow-add-j invariant-loop decreases-loop
+add-j : tie.Need-overflow_add-j-in-loop-j invariant-loop-j decreases-loop-j
 add-j c = omega arith
 
-loop-less : tie.Need-loop-smaller invariant-loop decreases-loop
+loop-less : tie.Need-loop-j-smaller invariant-loop-j decreases-loop-j
 loop-less c = omega arith
 
-loop-again : tie.Need-loop-preserved invariant-loop decreases-loop
+loop-again : tie.Need-loop-j-preserved invariant-loop-j decreases-loop-j
 loop-again c =
-    let at-shl = c.before.before in
-    let l = at-shl.before in
-    let t = made l in
+    let at-shl = c in
+    let l = c in
+    let t = c in
     let s = entry t in (
       omega (arith, t.loop-test.taken),
       one_more s.args.n s.args.k _ _
-          (lane-by-lt s.args.op s.args.n s.args.m s.args.skip s.args.element s.args.index.0 _ _ _ s.pre.0 (n-le t)
-          s.pre.2 s.pre.3) (j t) _ _ _ _ _ _ t.before.loop.inv.1 (place t) (lane-is l).bits_are (lane-is l).saturated_is
-          at-shl.shl.ensures c.before.add.ensures,
+          (lane-by-lt s.args.op s.args.n s.args.m s.args.skip s.args.element s.args.index.0 _ _ _ s.requires.0 (n-le t)
+          s.requires.2 s.requires.3) (j t) _ _ _ _ _ _ t.loop-j.invariant.1 (place t) (lane-is c.before.before.before).bits_are (lane-is c.before.before.before).saturated_is
+          at-shl.shl.ensures c.add-acc.ensures,
     )
 
-returns : tie.Need-returns invariant-loop decreases-loop
+returns : tie.Need-returns invariant-loop-j decreases-loop-j
 returns c =
-    let l = c.before in
-    let s = l.before in
-    let e : l.loop.j ≡ s.args.k = omega arith in
-    let kept = rw e at l.loop.invariant.1 in
+    let l = c in
+    let s = c in
+    let e : l.loop-j.j ≡ s.args.k = omega arith in
+    let kept = rw e at l.loop-j.invariant.1 in
     record {
       bits_are = two-words s.args.n s.args.k _ _ (lane-by-lt s.args.op s.args.n s.args.m s.args.skip s.args.element
-          s.args.index.0 _ _ _ s.requires.0 (at_most s.args.n s.requires.4.n_word) s.requires.2 s.requires.3) l.loop.acc l.loop.saturated kept
+          s.args.index.0 _ _ _ s.requires.0 (at_most s.args.n s.requires.4.n_word) s.requires.2 s.requires.3) l.loop-j.acc l.loop-j.saturated kept
           (all_in s.args.n s.args.k s.requires.4.lane_in);
       saturated_is = kept.flag;
     }
 
-pub run-lanes-spec : {M : Type 1} → statement M
-run-lanes-spec =
+pub run_lanes_spec : {M : Type 1} → statement M
+run_lanes_spec =
     tie.close
     (tie.spec
-    invariant-loop
-    decreases-loop
+    invariant-loop-j
+    decreases-loop-j
     loop-holds
     mul-lane-at
     bits-at-requires

@@ -7,71 +7,65 @@ use Rattle.neon.specs.Arm.{equal_run}
 use Rattle.run_lanes.proofs.bits.run_of.Statement.{statement}
 use Rattle.run_lanes.proofs.bits.run_of.Tie as tie
 
-abbrev invariant-loop : tie.invariant-loop
-invariant-loop t k a r₀ j₀ r j = (j ≤ k) × (equal_run t k a ≡ r + equal_run t j a) × (r + j ≡ k)
+abbrev invariant-loop-j : tie.invariant-loop-j
+invariant-loop-j t k a r₀ j₀ r j = (j ≤ k) × (equal_run t k a ≡ r + equal_run t j a) × (r + j ≡ k)
 
-abbrev decreases-loop : tie.decreases-loop
-decreases-loop t k a r₀ j₀ r j = j
+abbrev decreases-loop-j : tie.decreases-loop-j
+decreases-loop-j t k a r₀ j₀ r j = j
 
 -- ---- places: the entry, and the loop from where a bit is read
 
-abbrev entry : tie.At-loop invariant-loop decreases-loop → tie.Start invariant-loop decreases-loop
-entry c = c.before
-
-abbrev top : tie.After-bit invariant-loop decreases-loop → tie.At-loop invariant-loop decreases-loop
-top c = c.before.before
-
 -- ---- needs
 
-loop-holds : tie.Need-loop-init invariant-loop decreases-loop
+loop-holds : tie.Need-loop-j-init invariant-loop-j decreases-loop-j
 loop-holds c = (omega arith, omega arith, omega arith)
 
-sub-bit : tie.Need-overflow-sub-bit invariant-loop decreases-loop
+sub-bit : tie.Need-overflow_sub-j invariant-loop-j decreases-loop-j
 sub-bit c = omega arith
 
-bit-requires : tie.Need-bit-requires invariant-loop decreases-loop
+bit-requires : tie.Need-bit-requires invariant-loop-j decreases-loop-j
 bit-requires c κs = omega arith
 
-returns : tie.Need-returns invariant-loop decreases-loop
+returns : tie.Need-returns-then-bit-t invariant-loop-j decreases-loop-j
 returns c =
-    let other = c.before in
-    let l = top other in
-    let a = (entry l).args in
-    omega (arith, l.loop.inv.1, run-stop a.t l.loop.j a.a (omega arith) other.bit.ensures.0 c.if1.true)
+    let other = c in
+    let l = c in
+    let a = l.args in
+    omega (arith, l.loop-j.invariant.1, run-stop a.t l.loop-j.j a.a (omega arith) other.bit.ensures.0 c.if-bit-t.true)
 
-add_r : tie.Need-overflow-add-r invariant-loop decreases-loop
+add_r : tie.Need-overflow_add-r invariant-loop-j decreases-loop-j
 add_r c = omega arith
 
-sub-j : tie.Need-overflow-sub-j invariant-loop decreases-loop
+sub-j : tie.Need-overflow_sub-j-in-loop-j invariant-loop-j decreases-loop-j
 sub-j c = omega arith
 
-loop-less : tie.Need-loop-smaller invariant-loop decreases-loop
+loop-less : tie.Need-loop-j-smaller invariant-loop-j decreases-loop-j
 loop-less c = omega arith
 
-loop-again : tie.Need-loop-preserved invariant-loop decreases-loop
+loop-again : tie.Need-loop-j-preserved invariant-loop-j decreases-loop-j
 loop-again c =
-    let same = c.before in
-    let l = top same in
-    let a = (entry l).args in (
+    let same = c in
+    let l = c in
+    let a = l.args in (
       omega arith,
-      omega (arith, l.loop.inv.1, run_more a.t l.loop.j a.a (omega arith) same.bit.ensures.0 c.if1.false),
+      omega (arith, l.loop-j.invariant.1, run_more a.t l.loop-j.j a.a (omega arith) same.bit.ensures.0 c.if-bit-t.false),
       omega arith,
     )
 
-returns-2 : tie.Need-returns-2 invariant-loop decreases-loop
+returns-2 : tie.Need-returns invariant-loop-j decreases-loop-j
 returns-2 c =
-    let l = c.before in
-    let a = (entry l).args in
-    let e : l.loop.j ≡ 0 = omega arith in
-    let z : equal_run a.t l.loop.j a.a ≡ 0 = ap (λ (x : ℕ). equal_run a.t x a.a) e ∙ unfold equal_run in
-    refl in omega (arith, l.loop.invariant.1)
+    let l = c in
+    let a = l.args in
+    let e : l.loop-j.j ≡ 0 = omega arith in
+    let z : equal_run a.t l.loop-j.j a.a ≡ 0 = ap (λ (x : ℕ). equal_run a.t x a.a) e ∙ unfold equal_run in
+    refl in omega (arith, l.loop-j.invariant.1)
 
-pub run-of-spec : {M : Type 1} → statement M
-run-of-spec =
+pub run_of_spec : {M : Type 1} → statement M
+run_of_spec =
     tie.close
     (tie.spec
-    invariant-loop
-    decreases-loop
+    invariant-loop-j
+    decreases-loop-j
     loop-holds
     sub-bit
     bit-requires

@@ -9,74 +9,59 @@ use Rattle.saturation_at.proofs.doubling.either_bit.Tie as tie
 
 -- ---- from the place after a call back to the one before it, and what the calls so far leave
 
-abbrev entry : tie.After-double → tie.Start
-entry c = c.before.before.before
-
 start-run : (s : tie.Start) → Begun s.requires s.args.pool.now s.args.count []
 start-run s = begun s.requires _ _ _ tt
 
-double-run : (c : tie.After-double) → Next (start-run (entry c)) c.double.ensures.sized
-double-run c = next (start-run (entry c)) c.double.ensures.sized
+double-run : (c : tie.After-double-value) → Next (start-run c.before.before.before) c.double-value.ensures.sized
+double-run c = next (start-run c.before.before.before) c.double-value.ensures.sized
 
-abbrev to-double : tie.After-clip → tie.After-double
-to-double c = c.before.before.before.before
+clip-run : (c : tie.After-clip-first) → Next (double-run c.before.before.before.before.before) c.clip-first.ensures.sized
+clip-run c = next (double-run c.before.before.before.before.before) c.clip-first.ensures.sized
 
-clip-run : (c : tie.After-clip) → Next (double-run (to-double c)) c.clip.ensures.sized
-clip-run c = next (double-run (to-double c)) c.clip.ensures.sized
+clamp-run : (c : tie.After-clamp-product) → Next (clip-run c.before.before.before.before.before) c.clamp-product.ensures.sized
+clamp-run c = next (clip-run c.before.before.before.before.before) c.clamp-product.ensures.sized
 
-abbrev to-clip : tie.After-clamp → tie.After-clip
-to-clip c = c.before.before.before.before
+sum-run : (c : tie.After-sum_bit-second) → Next (clamp-run c.before.before.before.before.before) c.sum_bit-second.ensures.sized
+sum-run c = next (clamp-run c.before.before.before.before.before) c.sum_bit-second.ensures.sized
 
-clamp-run : (c : tie.After-clamp) → Next (clip-run (to-clip c)) c.clamp.ensures.sized
-clamp-run c = next (clip-run (to-clip c)) c.clamp.ensures.sized
-
-abbrev to-clamp : tie.After-sum-bit → tie.After-clamp
-to-clamp c = c.before.before.before.before
-
-sum-run : (c : tie.After-sum-bit) → Next (clamp-run (to-clamp c)) c.sum-bit.ensures.sized
-sum-run c = next (clamp-run (to-clamp c)) c.sum-bit.ensures.sized
-
-abbrev to-sum : tie.After-bv → tie.After-sum-bit
-to-sum c = c.before.before.before.before
-
-bv-run : (c : tie.After-bv) → Next (sum-run (to-sum c)) c.bv.ensures.sized
-bv-run c = next (sum-run (to-sum c)) c.bv.ensures.sized
+bv-run : (c : tie.After-bv) → Next (sum-run c.before.before.before.before.before.before) c.bv.ensures.sized
+bv-run c = next (sum-run c.before.before.before.before.before.before) c.bv.ensures.sized
 
 -- ---- needs
 
-add_wide : tie.Need-overflow-add-wide
+add_wide : tie.Need-overflow_add-wide
 add_wide c = search rules
 
-double-requires : tie.Need-double-requires
+double-requires : tie.Need-double-value-requires
 double-requires c κs = search rules
 
-clip-requires : tie.Need-clip-requires
+clip-requires : tie.Need-clip-first-requires
 clip-requires c κs = search rules
 
-clamp-requires : tie.Need-clamp-requires
+clamp-requires : tie.Need-clamp-product-requires
 clamp-requires c κs = search rules
 
-sum-bit-requires : tie.Need-sum-bit-requires
+sum-bit-requires : tie.Need-sum_bit-second-requires
 sum-bit-requires c κs = search rules
 
 bv-requires : tie.Need-bv-requires
-bv-requires c κs = omega (arith, sum-run c.before.before.before)
+bv-requires c κs = omega (arith, sum-run c.before.before.before.before.before)
 
-same_length : tie.Need-same-length
+same_length : tie.Need-shape_of-pool
 same_length c = (bv-run c.before.before).long
 
 returns : tie.Need-returns
 returns c =
-    let l-bv = c.before.before in
-    let l-sum-bit = to-sum l-bv in
-    let l-clamp = to-clamp l-sum-bit in
-    let l-clip = to-clip l-clamp in
-    let l-double = to-double l-clip in
-    let a = (entry l-double).args in
-    either a.op a.lane-bits l-double.double.ensures l-clip.clip.ensures l-clamp.clamp.ensures l-sum-bit.sum-bit.ensures l-bv.bv.ensures
+    let l-bv = c in
+    let l-sum-bit = c in
+    let l-clamp = c in
+    let l-clip = c in
+    let l-double = c in
+    let a = l-double.args in
+    either a.op a.lane-bits l-double.double-value.ensures l-clip.clip-first.ensures l-clamp.clamp-product.ensures l-sum-bit.sum_bit-second.ensures l-bv.bv.ensures
 
-pub either-bit-spec : {M : Type 1} → statement M
-either-bit-spec =
+pub either_bit_spec : {M : Type 1} → statement M
+either_bit_spec =
     tie.close
     (tie.spec
     add_wide

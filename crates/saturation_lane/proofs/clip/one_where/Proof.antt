@@ -4,21 +4,21 @@ use borrow.Author.Rules.{rules}
 use Rattle.saturation_lane.proofs.clip.one_where.Statement.{statement}
 use Rattle.saturation_lane.proofs.clip.one_where.Tie as tie
 
-konst-requires : tie.Need-konst-requires
+konst-requires : tie.Need-konst-one-requires
 konst-requires c κs = search rules
 
 ite-requires : tie.Need-ite-requires
 ite-requires c κs = search rules
 
-same_length : tie.Need-same-length
+same_length : tie.Need-shape_of-pool
 same_length c = search rules
 
 returns : tie.Need-returns
 returns c =
-    let l-ite = c.before.before in
-    let l-konst = l-ite.before.before.before.before in
-    let st = l-konst.before.before.before in
-    one-where l-konst.konst.ensures l-ite.ite.ensures
+    let l-ite = c in
+    let l-konst = c in
+    let st = c in
+    one-where l-konst.konst-one.ensures l-ite.ite.ensures
 
-pub one-where-spec : {M : Type 1} → statement M
-one-where-spec = tie.close (tie.spec konst-requires ite-requires same_length returns)
+pub one_where_spec : {M : Type 1} → statement M
+one_where_spec = tie.close (tie.spec konst-requires ite-requires same_length returns)

@@ -9,72 +9,57 @@ use Rattle.saturation_lane.proofs.shift.register_bit.Tie as tie
 
 -- ---- from the place after a call back to the one before it, and what the calls so far leave
 
-abbrev entry : tie.After-lost → tie.Start
-entry c = c.before.before.before
-
 start-run : (s : tie.Start) → Begun s.requires s.args.pool.now s.args.count []
 start-run s = begun s.requires _ _ _ tt
 
-lost-run : (c : tie.After-lost) → Next (start-run (entry c)) c.lost.ensures.sized
-lost-run c = next (start-run (entry c)) c.lost.ensures.sized
+lost-run : (c : tie.After-lost-left) → Next (start-run c.before.before.before) c.lost-left.ensures.sized
+lost-run c = next (start-run c.before.before.before) c.lost-left.ensures.sized
 
-abbrev to-lost : tie.After-konst → tie.After-lost
-to-lost c = c.before.before.before.before
+konst-run : (c : tie.After-konst-zero) → Next (lost-run c.before.before.before.before) c.konst-zero.ensures.sized
+konst-run c = next (lost-run c.before.before.before.before) c.konst-zero.ensures.sized
 
-konst-run : (c : tie.After-konst) → Next (lost-run (to-lost c)) c.konst.ensures.sized
-konst-run c = next (lost-run (to-lost c)) c.konst.ensures.sized
+negative-run : (c : tie.After-compare-negative) → Next (konst-run c.before.before.before.before.before) c.compare-negative.ensures.sized
+negative-run c = next (konst-run c.before.before.before.before.before) c.compare-negative.ensures.sized
 
-abbrev to-konst : tie.After-compare → tie.After-konst
-to-konst c = c.before.before.before.before
+konst2-run : (c : tie.After-konst-none) → Next (negative-run c.before.before.before.before) c.konst-none.ensures.sized
+konst2-run c = next (negative-run c.before.before.before.before) c.konst-none.ensures.sized
 
-negative-run : (c : tie.After-compare) → Next (konst-run (to-konst c)) c.compare.ensures.sized
-negative-run c = next (konst-run (to-konst c)) c.compare.ensures.sized
-
-abbrev to-negative : tie.After-konst2 → tie.After-compare
-to-negative c = c.before.before.before.before
-
-konst2-run : (c : tie.After-konst2) → Next (negative-run (to-negative c)) c.konst2.ensures.sized
-konst2-run c = next (negative-run (to-negative c)) c.konst2.ensures.sized
-
-abbrev to-konst2 : tie.After-ite → tie.After-konst2
-to-konst2 c = c.before.before.before.before
-
-ite-run : (c : tie.After-ite) → Next (konst2-run (to-konst2 c)) c.ite.ensures.sized
-ite-run c = next (konst2-run (to-konst2 c)) c.ite.ensures.sized
+ite-run : (c : tie.After-ite) → Next (konst2-run c.before.before.before.before.before.before.before) c.ite.ensures.sized
+ite-run c = next (konst2-run c.before.before.before.before.before.before.before) c.ite.ensures.sized
 
 -- ---- needs
 
-lost-requires : tie.Need-lost-requires
+lost-requires : tie.Need-lost-left-requires
 lost-requires c κs = search rules
 
-konst-requires : tie.Need-konst-requires
+konst-requires : tie.Need-konst-zero-requires
 konst-requires c κs = search rules
 
-compare-requires : tie.Need-compare-requires
+compare-requires : tie.Need-compare-negative-requires
 compare-requires c κs = search rules
 
-konst-requires-2 : tie.Need-konst-requires-2
+konst-requires-2 : tie.Need-konst-none-requires
 konst-requires-2 c κs = search rules
 
 ite-requires : tie.Need-ite-requires
-ite-requires c κs = omega (arith, konst2-run c.before.before.before)
+ite-requires c κs = omega (arith, konst2-run c.before.before.before.before.before.before)
 
-same_length : tie.Need-same-length
+same_length : tie.Need-shape_of-pool
 same_length c = (ite-run c.before.before).long
 
 returns : tie.Need-returns
 returns c =
-    let l-ite = c.before.before in
-    let l-konst2 = to-konst2 l-ite in
-    let l-compare = to-negative l-konst2 in
-    let l-konst = to-konst l-compare in
-    let l-lost = to-lost l-konst in
-    let st = entry l-lost in
-    register st.args.lane-bits st.args.rounding st.args.signed st.pre.1.2 st.pre.1.3 l-lost.lost.ensures l-konst.konst.ensures
-    l-compare.compare.ensures l-konst2.konst2.ensures l-ite.ite.ensures
+    let l-ite = c in
+    let l-konst2 = c in
+    let l-compare = c in
+    let l-konst = c in
+    let l-lost = c in
+    let st = c in
+    register st.args.lane_bits st.args.rounding st.args.signed st.requires.1.2 st.requires.1.3 l-lost.lost-left.ensures l-konst.konst-zero.ensures
+    l-compare.compare-negative.ensures l-konst2.konst-none.ensures l-ite.ite.ensures
 
-pub register-bit-spec : {M : Type 1} → statement M
-register-bit-spec =
+pub register_bit_spec : {M : Type 1} → statement M
+register_bit_spec =
     tie.close
     (tie.spec
     lost-requires

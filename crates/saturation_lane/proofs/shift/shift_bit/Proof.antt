@@ -12,65 +12,59 @@ use Rattle.saturation_lane.proofs.shift.shift_bit.Tie as tie
 
 -- ---- a shift to the left: where its kind is known, and the entry from there
 
-abbrev left : tie.After-known-told → tie.After-kind
-left c = c.before
-
-abbrev left-entry : tie.After-known-told → tie.Start
-left-entry c = (left c).before.before.before
-
 -- ---- needs
 
-enum-known-kind : tie.Need-enum-known-kind
+enum-known-kind : tie.Need-enum_known-kind
 enum-known-kind c = search rules
 
-left-some-requires : tie.Need-left-some-requires
+left-some-requires : tie.Need-left_some-requires
 left-some-requires c κs =
-    let e = (left c.before).kind.given.1 in
-    let st = left-entry c.before in (
-      omega (arith, st.pre),
+    let e = c.kind-1.given.1 in
+    let st = c in (
+      omega (arith, st.requires),
       (
-        omega (arith, st.pre),
-        subst (λ (k : ShiftKind). AmountIn k st.args.lane-bits) e st.pre.1.4,
-        omega (arith, st.pre),
-        subst (λ (k : ShiftKind). saturable_shift k ≡ true) e st.pre.1.5,
+        omega (arith, st.requires),
+        subst (λ (k : ShiftKind). AmountIn k st.args.lane_bits) e st.requires.1.4,
+        omega (arith, st.requires),
+        subst (λ (k : ShiftKind). saturable_shift k ≡ true) e st.requires.1.5,
       ),
     )
 
-enum_told : tie.Need-enum-told
+enum_told : tie.Need-enum_told-1
 enum_told c = search rules
 
-enum-known-kind-2 : tie.Need-enum-known-kind-2
+enum-known-kind-2 : tie.Need-enum_known-kind-in-Register-1
 enum-known-kind-2 c = search rules
 
-register-bit-requires : tie.Need-register-bit-requires
+register-bit-requires : tie.Need-register_bit-requires
 register-bit-requires c κs = search rules
 
-same_length : tie.Need-same-length
+same_length : tie.Need-shape_of-pool-in-LeftImmediate
 same_length c = search rules
 
-returns : tie.Need-returns
+returns : tie.Need-returns-in-LeftImmediate
 returns c =
-    let l-left-some = c.before.before in
-    let l-known-told = l-left-some.before.before in
-    is-left (left-entry l-known-told).args.signed (left l-known-told).kind.given.1 l-left-some.left-some.ensures
+    let l-left-some = c in
+    let l-known-told = c in
+    is-left l-known-told.args.signed l-known-told.kind-1.given.1 l-left-some.left_some.ensures
 
-returns-2 : tie.Need-returns-2
+returns-2 : tie.Need-returns-in-RightImmediate
 returns-2 c =
-    let st = c.before.before.before in
-    absurd (not_right st.args.kind c.enum_told.given.1 st.requires.1.5)
+    let st = c in
+    absurd (not_right st.args.kind c.enum_told-1.given.1 st.requires.1.5)
 
-same-length-2 : tie.Need-same-length-2
+same-length-2 : tie.Need-shape_of-pool-in-Register
 same-length-2 c = search rules
 
-returns-3 : tie.Need-returns-3
+returns-3 : tie.Need-returns-in-Register
 returns-3 c =
-    let l-register-bit = c.before.before in
-    let l-kind2 = l-register-bit.before.before.before in
-    let st = l-kind2.before.before.before in
-    is-register st.args.signed l-kind2.kind2.given.1 st.requires.1.5 l-register-bit.register-bit.ensures
+    let l-register-bit = c in
+    let l-kind2 = c in
+    let st = c in
+    is-register st.args.signed l-kind2.kind-in-Register-1.given.1 st.requires.1.5 l-register-bit.register_bit.ensures
 
-pub shift-bit-spec : {M : Type 1} → statement M
-shift-bit-spec =
+pub shift_bit_spec : {M : Type 1} → statement M
+shift_bit_spec =
     tie.close
     (tie.spec
     enum-known-kind

@@ -8,42 +8,42 @@ use borrow.Author.Rules.{rules}
 use Rattle.script_text.proofs.term.bit.Statement.{statement}
 use Rattle.script_text.proofs.term.bit.Tie as tie
 
-shr-result : tie.Need-overflow-shr-result
+shr-result : tie.Need-overflow_shr-result
 shr-result c = search rules
 
-add-result : tie.Need-overflow-add-result
+add-result : tie.Need-overflow_add-result
 add-result c = search rules
 
-cast-result : tie.Need-overflow-cast-result
+cast-result : tie.Need-overflow_cast-result
 cast-result c = search rules
 
-returns : tie.Need-returns
+returns : tie.Need-returns-then-k-lt64
 returns c =
-    let a = c.before.args in ap (λ (x : ℕ). 48 + x) (sym (low_bit a.low a.high a.k c.if1.true))
+    let a = c.args in ap (λ (x : ℕ). 48 + x) (sym (low_bit a.low a.high a.k c.if-k-lt64.true))
 
-shr-result-2 : tie.Need-overflow-shr-result-2
+shr-result-2 : tie.Need-overflow_shr-result-then-k-lt128
 shr-result-2 c = search rules
 
-add-result-2 : tie.Need-overflow-add-result-2
+add-result-2 : tie.Need-overflow_add-result-then-k-lt128
 add-result-2 c = search rules
 
-cast-result-2 : tie.Need-overflow-cast-result-2
+cast-result-2 : tie.Need-overflow_cast-result-then-k-lt128
 cast-result-2 c = search rules
 
-returns-2 : tie.Need-returns-2
+returns-2 : tie.Need-returns-then-k-lt128
 returns-2 c =
-    let at-if1 = c.before in
-    let at-args = at-if1.before in
-    let a = at-args.args in ap (λ (x : ℕ). 48 + x % 2) (sym (high_part a.low a.high a.k at-args.requires.2 at-if1.if1.false))
+    let at-if1 = c in
+    let at-args = c in
+    let a = at-args.args in ap (λ (x : ℕ). 48 + x % 2) (sym (high_part a.low a.high a.k at-args.requires.2 at-if1.if-k-lt64.false))
 
-returns-3 : tie.Need-returns-3
+returns-3 : tie.Need-returns
 returns-3 c =
-    let a = c.before.before.args in
-    let e : a.k ≡ 128 = omega (arith, c.before.before.requires.0, c.if2.false) in
-    sym (ap (λ (k : ℕ). 48 + wide a.low a.high / 2 ^ k % 2) e ∙ ap (λ (x : ℕ). 48 + x) (top_bit a.low a.high c.before.before.requires.2 c.before.before.requires.1))
+    let a = c.args in
+    let e : a.k ≡ 128 = omega (arith, c.requires.0, c.if-k-lt128.false) in
+    sym (ap (λ (k : ℕ). 48 + wide a.low a.high / 2 ^ k % 2) e ∙ ap (λ (x : ℕ). 48 + x) (top_bit a.low a.high c.requires.2 c.requires.1))
 
-pub bit-spec : {M : Type 1} → statement M
-bit-spec =
+pub bit_spec : {M : Type 1} → statement M
+bit_spec =
     tie.close
     (tie.spec
     shr-result

@@ -14,7 +14,7 @@ named : {k : ℕ} (y : ℕ) → k ≡ y → function_of (kind_at k) ≡ function
 named y e = ap (λ (k : ℕ). function_of (kind_at k)) e
 
 -- past the arms of 3 to 18 it is 19
-last-is : (c : tie.At-match-rest) → c.before.before.args.k ≡ 19
+last-is : (c : tie.In_default) → c.before.before.args.k ≡ 19
 last-is c =
     let s = c.before.before in
     let k = s.args.k in
@@ -30,9 +30,9 @@ last-is c =
     last-kind k from-19 s.requires.0.1
 
 -- each arm's key is the kind whose function is due
-pub put-function-spec : {M : Type 1} → statement M
+pub put_function_spec : {M : Type 1} → statement M
 unfolding kind_at kinds
-put-function-spec =
+put_function_spec =
     tie.close
     (tie.spec
     (λ c. search rules)
@@ -72,34 +72,34 @@ put-function-spec =
     (λ c. search rules)
     (λ c. wrote_as (named 3 c.before.before.before.before.before.match.keys1) c.before.before.put.ensures)
     (λ c. search rules)
-    (λ c. wrote_as (named 4 c.before.before.before.before.before.match.keys2) c.before.before.put2.ensures)
+    (λ c. wrote_as (named 4 c.before.before.before.before.before.match.keys2) c.before.before.put-in-4.ensures)
     (λ c. search rules)
-    (λ c. wrote_as (named 5 c.before.before.before.before.before.match.keys3) c.before.before.put3.ensures)
+    (λ c. wrote_as (named 5 c.before.before.before.before.before.match.keys3) c.before.before.put-in-5.ensures)
     (λ c. search rules)
-    (λ c. wrote_as (named 6 c.before.before.before.before.before.match.keys4) c.before.before.put4.ensures)
+    (λ c. wrote_as (named 6 c.before.before.before.before.before.match.keys4) c.before.before.put-in-6.ensures)
     (λ c. search rules)
-    (λ c. wrote_as (named 7 c.before.before.before.before.before.match.keys5) c.before.before.put5.ensures)
+    (λ c. wrote_as (named 7 c.before.before.before.before.before.match.keys5) c.before.before.put-in-7.ensures)
     (λ c. search rules)
-    (λ c. wrote_as (named 8 c.before.before.before.before.before.match.keys6) c.before.before.put6.ensures)
+    (λ c. wrote_as (named 8 c.before.before.before.before.before.match.keys6) c.before.before.put-in-8.ensures)
     (λ c. search rules)
-    (λ c. wrote_as (named 9 c.before.before.before.before.before.match.keys7) c.before.before.put7.ensures)
+    (λ c. wrote_as (named 9 c.before.before.before.before.before.match.keys7) c.before.before.put-in-9.ensures)
     (λ c. search rules)
-    (λ c. wrote_as (named 10 c.before.before.before.before.before.match.keys8) c.before.before.put8.ensures)
+    (λ c. wrote_as (named 10 c.before.before.before.before.before.match.keys8) c.before.before.put-in-10.ensures)
     (λ c. search rules)
-    (λ c. wrote_as (named 11 c.before.before.before.before.before.match.keys9) c.before.before.put9.ensures)
+    (λ c. wrote_as (named 11 c.before.before.before.before.before.match.keys9) c.before.before.put-in-11.ensures)
     (λ c. search rules)
-    (λ c. wrote_as (named 12 c.before.before.before.before.before.match.keys10) c.before.before.put10.ensures)
+    (λ c. wrote_as (named 12 c.before.before.before.before.before.match.keys10) c.before.before.put-in-12.ensures)
     (λ c. search rules)
-    (λ c. wrote_as (named 13 c.before.before.before.before.before.match.keys11) c.before.before.put11.ensures)
+    (λ c. wrote_as (named 13 c.before.before.before.before.before.match.keys11) c.before.before.put-in-13.ensures)
     (λ c. search rules)
-    (λ c. wrote_as (named 14 c.before.before.before.before.before.match.keys12) c.before.before.put12.ensures)
+    (λ c. wrote_as (named 14 c.before.before.before.before.before.match.keys12) c.before.before.put-in-14.ensures)
     (λ c. search rules)
-    (λ c. wrote_as (named 15 c.before.before.before.before.before.match.keys13) c.before.before.put13.ensures)
+    (λ c. wrote_as (named 15 c.before.before.before.before.before.match.keys13) c.before.before.put-in-15.ensures)
     (λ c. search rules)
-    (λ c. wrote_as (named 16 c.before.before.before.before.before.match.keys14) c.before.before.put14.ensures)
+    (λ c. wrote_as (named 16 c.before.before.before.before.before.match.keys14) c.before.before.put-in-16.ensures)
     (λ c. search rules)
-    (λ c. wrote_as (named 17 c.before.before.before.before.before.match.keys15) c.before.before.put15.ensures)
+    (λ c. wrote_as (named 17 c.before.before.before.before.before.match.keys15) c.before.before.put-in-17.ensures)
     (λ c. search rules)
-    (λ c. wrote_as (named 18 c.before.before.before.before.before.match.keys16) c.before.before.put16.ensures)
+    (λ c. wrote_as (named 18 c.before.before.before.before.before.match.keys16) c.before.before.put-in-18.ensures)
     (λ c. search rules)
-    (λ c. wrote_as (named 19 (last-is c.before.before.before.before.before)) c.before.before.put17.ensures))
+    (λ c. wrote_as (named 19 (last-is c.before.before.before.before.before)) c.before.before.put-in_default.ensures))

@@ -4,29 +4,30 @@ use borrow.Author.Rules.{rules}
 use Rattle.script_text.proofs.term.put_register_name.Statement.{statement}
 use Rattle.script_text.proofs.term.put_register_name.Tie as tie
 
-slice-aggregate-put : tie.Need-slice-aggregate-put
-slice-aggregate-put c = search rules
-
-put-requires : tie.Need-put-requires
+put-requires : tie.Need-put-i-requires
 put-requires c κs =
-    let st = c.before.before.before in
+    let st = c in
     (room-front _ st.requires)
 
-put-number-requires : tie.Need-put-number-requires
+put-number-requires : tie.Need-put_number-requires
 put-number-requires c κs =
-    let at-put = c.before.before.before in
-    let st = at-put.before.before.before.before in
-    (room-step at-put.put.ensures st.requires)
+    let at-put = c in
+    let st = c in
+    (room-step at-put.put-i.ensures st.requires)
 
-same_length : tie.Need-same-length
+same_length : tie.Need-shape_of-buf
 same_length c = search rules
 
 returns : tie.Need-returns
 returns c =
-    let at-put-number = c.before.before in
-    let at-put = at-put-number.before.before.before.before in
-    wrote_then at-put.put.ensures at-put-number.put-number.ensures
+    let at-put-number = c in
+    let at-put = c in
+    wrote_then at-put.put-i.ensures at-put-number.put_number.ensures
 
-pub put-register-name-spec : {M : Type 1} → statement M
-put-register-name-spec =
-    tie.close (tie.spec slice-aggregate-put put-requires put-number-requires same_length returns)
+pub put_register_name_spec : {M : Type 1} → statement M
+put_register_name_spec =
+    tie.close (tie.spec
+    put-requires
+    put-number-requires
+    same_length
+    returns)

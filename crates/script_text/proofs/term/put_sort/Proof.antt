@@ -10,72 +10,51 @@ use Rattle.script_text.proofs.term.put_sort.Tie as tie
 
 -- ---- places after each text of a sort that is not Bool, and room for those that are left
 
-abbrev entry : tie.Else1 → tie.Start
-entry c = c.before.before
+room : (c : tie.Else-width-eq0) → let a = c.args in Room a.buf.now a.at (bytes "(_ BitVec " ++ (decimal a.width ++ bytes ")"))
+room c = room_as (long-sort _ c.if-width-eq0.false) c.requires
 
-abbrev before-1 : tie.After-put2 → tie.Else1
-before-1 c = c.before.before.before
-
-abbrev before-2 : tie.After-put-number → tie.After-put2
-before-2 c = c.before.before.before.before
-
-room : (c : tie.Else1) → let a = (entry c).args in Room a.buf.now a.at (bytes "(_ BitVec " ++ (decimal a.width ++ bytes ")"))
-room c = room_as (long-sort _ c.if1.false) (entry c).requires
-
-room-1 : (c : tie.After-put2) → Room c.put2.new.1.0 c.put2.result (decimal (entry (before-1 c)).args.width ++ bytes ")")
-room-1 c = room-step c.put2.ensures (room (before-1 c))
+room-1 : (c : tie.After-put-i) → Room c.put-i.new.1.0 c.put-i.result (decimal c.args.width ++ bytes ")")
+room-1 c = room-step c.put-i.ensures (room c.before.before.before.before)
 
 -- ---- needs
 
-slice-aggregate-put : tie.Need-slice-aggregate-put
-slice-aggregate-put c = search rules
-
 put-requires : tie.Need-put-requires
-put-requires c κs = let b = c.before.before in room_as (short-sort _ b.if1.true) b.before.before.requires
+put-requires c κs = let b = c in room_as (short-sort _ b.if-width-eq0.true) b.requires
 
-same_length : tie.Need-same-length
+same_length : tie.Need-shape_of-buf-then-width-eq0
 same_length c = search rules
 
-returns : tie.Need-returns
-returns c = let w = c.before.before in wrote_as (short-sort _ w.before.before.before.if1.true) w.put.ensures
+returns : tie.Need-returns-then-width-eq0
+returns c = let w = c in wrote_as (short-sort _ w.if-width-eq0.true) w.put.ensures
 
-slice-aggregate-put-2 : tie.Need-slice-aggregate-put-2
-slice-aggregate-put-2 c = search rules
+put-requires-2 : tie.Need-put-i-requires
+put-requires-2 c κs = room-front _ (room c.before.before.before)
 
-put-requires-2 : tie.Need-put-requires-2
-put-requires-2 c κs = room-front _ (room c.before.before)
-
-put-number-requires : tie.Need-put-number-requires
+put-number-requires : tie.Need-put_number-j-requires
 put-number-requires c κs = room-front _ (room-1 c.before.before.before)
 
-slice-aggregate-put-3 : tie.Need-slice-aggregate-put-3
-slice-aggregate-put-3 c = search rules
+put-requires-3 : tie.Need-put-requires-2
+put-requires-3 c κs = let w2 = c in room-step w2.put_number-j.ensures (room-1 c.before.before.before.before.before.before.before.before.before)
 
-put-requires-3 : tie.Need-put-requires-3
-put-requires-3 c κs = let w2 = c.before.before.before.before in room-step w2.put-number.ensures (room-1 (before-2 w2))
-
-same-length-2 : tie.Need-same-length-2
+same-length-2 : tie.Need-shape_of-buf
 same-length-2 c = search rules
 
-returns-2 : tie.Need-returns-2
+returns-2 : tie.Need-returns
 returns-2 c =
-    let w3 = c.before.before in
-    let w2 = w3.before.before.before.before.before in
-    let w1 = before-2 w2 in
-    wrote_as (long-sort _ (before-1 w1).if1.left) (wrote_then w1.put2.ensures (wrote_then w2.put-number.ensures w3.put3.ensures))
+    let w3 = c in
+    let w2 = c in
+    let w1 = c in
+    wrote_as (long-sort _ w1.if1.left) (wrote_then w1.put-i.ensures (wrote_then w2.put_number-j.ensures w3.put-2.ensures))
 
-pub put-sort-spec : {M : Type 1} → statement M
-put-sort-spec =
+pub put_sort_spec : {M : Type 1} → statement M
+put_sort_spec =
     tie.close
     (tie.spec
-    slice-aggregate-put
     put-requires
     same_length
     returns
-    slice-aggregate-put-2
     put-requires-2
     put-number-requires
-    slice-aggregate-put-3
     put-requires-3
     same-length-2
     returns-2)

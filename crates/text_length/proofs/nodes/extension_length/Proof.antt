@@ -7,25 +7,25 @@ use borrow.Author.Rules.{rules}
 use Rattle.text_length.proofs.nodes.extension_length.Statement.{statement}
 use Rattle.text_length.proofs.nodes.extension_length.Tie as tie
 
-width-of-requires : tie.Need-width-of-requires
+width-of-requires : tie.Need-width_of-requires
 width-of-requires c κs = search rules
 
-decimal-length-requires : tie.Need-decimal-length-requires
+decimal-length-requires : tie.Need-decimal_length-requires
 decimal-length-requires c κs =
-    let s = c.before.before in
-    rw c.width_of_lem.ensures.0 (width_small s.args.p.now s.args.n.0 s.requires.0 _ refl)
+    let s = c in
+    rw c.width_of.ensures.0 (width_small s.args.p.now s.args.n.0 s.requires.0 _ refl)
 
-add-result : tie.Need-overflow-add-result
+add-result : tie.Need-overflow_add-result
 add-result c = search rules
 
 returns : tie.Need-returns
 returns c =
-    let w = c.before in
-    let s = w.before.before in
+    let w = c in
+    let s = c in
     let e = about-extend s.args.p.now s.args.n.0 s.requires.0 _ refl s.requires.1 in
-    let x = rw w.width_of_lem.ensures.0 at c.decimal-length.ensures.0 in
-    (omega (arith, e, x), omega (arith, c.decimal-length.ensures.1))
+    let x = rw w.width_of.ensures.0 at c.decimal_length.ensures.0 in
+    (omega (arith, e, x), omega (arith, c.decimal_length.ensures.1))
 
-pub extension-length-spec : {M : Type 1} → statement M
-extension-length-spec =
+pub extension_length_spec : {M : Type 1} → statement M
+extension_length_spec =
     tie.close (tie.spec width-of-requires decimal-length-requires add-result returns)

@@ -22,225 +22,195 @@ abbrev node : tie.Start → ℕ
 node s = s.args.n.0
 
 -- the kind is read
-abbrev start : tie.After-kind-of → tie.Start
-start c = c.before.before.before
-
-abbrev kind : tie.After-kind-of → ℕ
-kind c = c.kind-of.result
+abbrev kind : tie.After-kind_of-k → ℕ
+kind c = c.kind_of-k.result
 
 -- ---- places: the entry from a node that is no leaf, and where it is found to be none
-
-abbrev entry : tie.Else1 → tie.Start
-entry e = start e.before
-
-abbrev operator : tie.After-two-lengths → tie.Else1
-operator t = t.before.before
-
-abbrev range : tie.After-length-at → tie.Then3
-range l = l.before.before
-
-abbrev range-inner : tie.After-length-at → tie.Else1
-range-inner l = (range l).before.before
-
-abbrev extension : tie.After-length-at2 → tie.Then4
-extension l = l.before.before
-
-abbrev extension-inner : tie.After-length-at2 → tie.Else1
-extension-inner l = (extension l).before.before.before
-
-abbrev joined : tie.After-two-lengths2 → tie.Else1
-joined t = t.before.before.before.before
-
-abbrev ite : tie.After-length-at3 → tie.Then5
-ite l = l.before.before
-
-abbrev ite-pair : tie.After-length-at3 → tie.After-two-lengths2
-ite-pair l = (ite l).before
 
 -- ---- what is known there
 
 -- an earlier node has a place, and its length is known
-held : (e : tie.Else1) {m : ℕ} → m < node (entry e) → Kept (entry e).args.lengths.now m
-held e l = let s = entry e in kept s.pre.1.1 s.pre.1.0 l
+held : (e : tie.Else-k-lt-ADD) {m : ℕ} → m < node e.before.before.before.before → Kept e.args.lengths.now m
+held e l = let s = e in kept s.requires.1.1 s.requires.1.0 l
 
-known : (e : tie.Else1) {m : ℕ} → m < node (entry e) → let s = entry e in get_or s.args.lengths.now m 0 ≡ min (length (text (pool s) m)) s.args.b
-known e {m} l = (entry e).requires.1.1.at m l
+known : (e : tie.Else-k-lt-ADD) {m : ℕ} → m < node e.before.before.before.before → let s = e in get_or s.args.lengths.now m 0 ≡ min (length (text (pool e.before.before.before.before) m)) s.args.b
+known e {m} l = e.requires.1.1.at m l
 
 -- a kind from 3 on has a first operand, and one that is not single a second
-one : (e : tie.Else1) → let s = entry e in op_a (pool s) (node s) < node s
-one e = let s = entry e in first-less (pool s) (node s) s.pre.0 _ e.before.kind-of.ensures e.if1.false
+one : (e : tie.Else-k-lt-ADD) → let s = e in op_a (pool e.before.before.before.before) (node e.before.before.before.before) < node e.before.before.before.before
+one e = let s = e in first-less (pool e.before.before.before.before) (node e.before.before.before.before) s.requires.0 _ e.kind_of-k.ensures e.if-k-lt-ADD.false
 
-two : (e : tie.Else1) → single (kind e.before) ≡ false → let s = entry e in op_b (pool s) (node s) < node s
-two e f = let s = entry e in second-less (pool s) (node s) s.pre.0 _ e.before.kind-of.ensures e.if1.false f
+two : (e : tie.Else-k-lt-ADD) → single (kind e.before) ≡ false → let s = e in op_b (pool e.before.before.before.before) (node e.before.before.before.before) < node e.before.before.before.before
+two e f = let s = e in second-less (pool e.before.before.before.before) (node e.before.before.before.before) s.requires.0 _ e.kind_of-k.ensures e.if-k-lt-ADD.false f
 
 -- an operator
-operator-is : (c : tie.Then2) → single (kind c.before.before) ≡ false
-operator-is c = not-single {k = kind c.before.before} (λ e. omega (arith, e, c.if2.true)) (omega (arith, c.if2.true))
+operator-is : (c : tie.Then-k-lt-ITE) → single (kind c.before.before) ≡ false
+operator-is c = not-single {k = kind c.before.before} (λ e. omega (arith, e, c.if-k-lt-ITE.true)) (omega (arith, c.if-k-lt-ITE.true))
 
 -- an Ite or a Concat
-joins-is : (c : tie.Else4) → single (kind c.before.before.before.before) ≡ false
-joins-is c = not-single c.before.if3.false c.if4.false
+joins-is : (c : tie.Else-k-ge-ZERO_EXTEND) → single (kind c.before.before.before.before) ≡ false
+joins-is c = not-single c.if-k-eq-EXTRACT.false c.if-k-ge-ZERO_EXTEND.false
 
 -- an Ite's third operand
-three : (c : tie.Then5) → let s = entry (joined c.before) in op_c (pool s) (node s) < node s
+three : (c : tie.Then-k-eq-ITE) → let s = c in op_c (pool c.before.before.before.before.before.before.before.before.before) (node c.before.before.before.before.before.before.before.before.before) < node c.before.before.before.before.before.before.before.before.before
 three c =
-    let e = joined c.before in
-    let s = entry e in
-    (ite-c (pool s) (node s) s.pre.0 _ e.before.kind-of.ensures c.if5.true).before
+    let e = c in
+    let s = c in
+    (ite-c (pool c.before.before.before.before.before.before.before.before.before) (node c.before.before.before.before.before.before.before.before.before) s.requires.0 _ e.kind_of-k.ensures c.if-k-eq-ITE.true).before
 
 -- ---- needs
 
-kind-of-requires : tie.Need-kind-of-requires
+kind-of-requires : tie.Need-kind_of-k-requires
 kind-of-requires c κs = search rules
 
-leaf-length-requires : tie.Need-leaf-length-requires
+leaf-length-requires : tie.Need-leaf_length-requires
 leaf-length-requires c κs = search rules
 
 least-requires : tie.Need-least-requires
 least-requires c κs = search rules
 
-returns : tie.Need-returns
+returns : tie.Need-returns-then-k-lt-ADD
 returns c = search rules
 
-two-lengths-requires : tie.Need-two-lengths-requires
-two-lengths-requires c κs = let e = c.before in ((entry e).requires.0.inside, (held e (one e), held e (two e (operator-is c))))
+two-lengths-requires : tie.Need-two_lengths-requires
+two-lengths-requires c κs = let e = c in (e.requires.0.inside, (held e (one c.before), held e (two c.before (operator-is c))))
 
-operator-characters-requires : tie.Need-operator-characters-requires
+operator-characters-requires : tie.Need-operator_characters-requires
 operator-characters-requires c κs = search rules
 
-add-least : tie.Need-overflow-add-least
+add-least : tie.Need-overflow_add-two_lengths
 add-least c =
-    let o = c.before in
-    let e = operator o in
-    omega (arith, o.two-lengths.ensures, c.operator-characters.ensures.1, (held e (one e)).small, (held e (two e (operator-is o.before))).small)
+    let o = c in
+    let e = c in
+    omega (arith, o.two_lengths.ensures, c.operator_characters.ensures.1, (held e (one c.before.before.before)).small, (held e (two c.before.before.before (operator-is c.before.before))).small)
 
-least-requires-2 : tie.Need-least-requires-2
+least-requires-2 : tie.Need-least-requires-then-k-lt-ITE
 least-requires-2 c κs = search rules
 
-returns-2 : tie.Need-returns-2
+returns-2 : tie.Need-returns-then-k-lt-ITE
 returns-2 c =
-    let o = c.before.before in
-    let e = operator o in
-    let s = entry e in
-    let z = pair_size (pool s) (node s) s.pre.0 _ e.before.kind-of.ensures (an-operator e.if1.left o.before.if2.true) in
+    let o = c in
+    let e = c in
+    let s = c in
+    let z = pair_size (pool c.before.before.before.before.before.before.before.before) (node c.before.before.before.before.before.before.before.before) s.requires.0 _ e.kind_of-k.ensures (an-operator e.if1.left o.if-k-lt-ITE.true) in
     omega
-    (arith, c.least2.ensures, o.two-lengths.ensures, c.before.operator-characters.ensures.0, known e (one e), known e (two e (operator-is o.before)), z)
+    (arith, c.least-then-k-lt-ITE.ensures, o.two_lengths.ensures, c.operator_characters.ensures.0, known e (one c.before.before.before.before), known e (two c.before.before.before.before (operator-is c.before.before.before)), z)
 
 first-requires : tie.Need-first-requires
 first-requires c κs = search rules
 
-length-at-requires : tie.Need-length-at-requires
-length-at-requires c κs = let e = c.before.before.before in rw c.first.ensures (held e (one e)).below
+length-at-requires : tie.Need-length_at-requires
+length-at-requires c κs = let e = c in rw c.first.ensures (held e (one c.before.before.before)).below
 
-range-length-requires : tie.Need-range-length-requires
+range-length-requires : tie.Need-range_length-requires
 range-length-requires c κs =
-    let e = range-inner c in
-    ((entry e).pre.0, sym e.before.kind-of.ensures ∙ (range c).if3.true)
+    let e = c in
+    (e.requires.0, sym e.kind_of-k.ensures ∙ c.if-k-eq-EXTRACT.true)
 
-add-least-2 : tie.Need-overflow-add-least-2
+add-least-2 : tie.Need-overflow_add-length_at
 add-least-2 c =
-    let r = c.before in
-    let e = range-inner r in
-    omega (arith, (held e (one e)).small, rw r.before.first.ensures at r.length_at.ensures, c.range_length.ensures.1)
+    let r = c in
+    let e = c in
+    omega (arith, (held e (one c.before.before.before.before.before)).small, rw r.first.ensures at r.length_at.ensures, c.range_length.ensures.1)
 
-least-requires-3 : tie.Need-least-requires-3
+least-requires-3 : tie.Need-least-requires-then-k-eq-EXTRACT
 least-requires-3 c κs = search rules
 
-returns-3 : tie.Need-returns-3
+returns-3 : tie.Need-returns-then-k-eq-EXTRACT
 returns-3 c =
-    let r = c.before.before in
-    let e = range-inner r in
-    let s = entry e in
-    let x = rw (← e.before.kind-of.ensures) at c.before.range_length.ensures.0 in
-    let z = single-size (pool s) (node s) s.pre.0 _ e.before.kind-of.ensures (a-range (range r).if3.true) in
-    omega (arith, c.least3.ensures, known e (one e), rw r.before.first.ensures at r.length_at.ensures, x, z)
+    let r = c in
+    let e = c in
+    let s = c in
+    let x = rw (← e.kind_of-k.ensures) at c.range_length.ensures.0 in
+    let z = single-size (pool c.before.before.before.before.before.before.before.before.before.before) (node c.before.before.before.before.before.before.before.before.before.before) s.requires.0 _ e.kind_of-k.ensures (a-range r.if-k-eq-EXTRACT.true) in
+    omega (arith, c.least-then-k-eq-EXTRACT.ensures, known e (one c.before.before.before.before.before.before), rw r.first.ensures at r.length_at.ensures, x, z)
 
-first-requires-2 : tie.Need-first-requires-2
+first-requires-2 : tie.Need-first-requires-then-k-ge-ZERO_EXTEND
 first-requires-2 c κs = search rules
 
-length-at-requires-2 : tie.Need-length-at-requires-2
-length-at-requires-2 c κs = let e = c.before.before.before.before in rw c.first2.ensures (held e (one e)).below
+length-at-requires-2 : tie.Need-length_at-requires-then-k-ge-ZERO_EXTEND
+length-at-requires-2 c κs = let e = c in rw c.first-then-k-ge-ZERO_EXTEND.ensures (held e (one c.before.before.before.before)).below
 
-extension-length-requires : tie.Need-extension-length-requires
+extension-length-requires : tie.Need-extension_length-requires
 extension-length-requires c κs =
-    let e = extension-inner c in
-    ((entry e).pre.0, rw (← e.before.kind-of.ensures) (extension c).if4.true)
+    let e = c in
+    (e.requires.0, rw (← e.kind_of-k.ensures) c.if-k-ge-ZERO_EXTEND.true)
 
-add-least-3 : tie.Need-overflow-add-least-3
+add-least-3 : tie.Need-overflow_add-length_at-then-k-ge-ZERO_EXTEND
 add-least-3 c =
-    let x = c.before in
-    let e = extension-inner x in
-    omega (arith, (held e (one e)).small, rw x.before.first2.ensures at x.length-at2.ensures, c.extension-length.ensures.1)
+    let x = c in
+    let e = c in
+    omega (arith, (held e (one c.before.before.before.before.before.before)).small, rw x.first-then-k-ge-ZERO_EXTEND.ensures at x.length_at-then-k-ge-ZERO_EXTEND.ensures, c.extension_length.ensures.1)
 
-least-requires-4 : tie.Need-least-requires-4
+least-requires-4 : tie.Need-least-requires-then-k-ge-ZERO_EXTEND
 least-requires-4 c κs = search rules
 
-returns-4 : tie.Need-returns-4
+returns-4 : tie.Need-returns-then-k-ge-ZERO_EXTEND
 returns-4 c =
-    let l = c.before.before in
-    let e = extension-inner l in
-    let s = entry e in
-    let x = rw (← e.before.kind-of.ensures) at c.before.extension-length.ensures.0 in
-    let z = single-size (pool s) (node s) s.pre.0 _ e.before.kind-of.ensures (an-extension (extension l).if4.true) in
-    omega (arith, c.least4.ensures, known e (one e), rw l.before.first2.ensures at l.length-at2.ensures, x, z)
+    let l = c in
+    let e = c in
+    let s = c in
+    let x = rw (← e.kind_of-k.ensures) at c.extension_length.ensures.0 in
+    let z = single-size (pool c.before.before.before.before.before.before.before.before.before.before.before) (node c.before.before.before.before.before.before.before.before.before.before.before) s.requires.0 _ e.kind_of-k.ensures (an-extension l.if-k-ge-ZERO_EXTEND.true) in
+    omega (arith, c.least-then-k-ge-ZERO_EXTEND.ensures, known e (one c.before.before.before.before.before.before.before), rw l.first-then-k-ge-ZERO_EXTEND.ensures at l.length_at-then-k-ge-ZERO_EXTEND.ensures, x, z)
 
-two-lengths-requires-2 : tie.Need-two-lengths-requires-2
-two-lengths-requires-2 c κs = let e = c.before.before.before in ((entry e).requires.0.inside, (held e (one e), held e (two e (joins-is c))))
+two-lengths-requires-2 : tie.Need-two_lengths-two-requires
+two-lengths-requires-2 c κs = let e = c in (e.requires.0.inside, (held e (one c.before.before.before), held e (two c.before.before.before (joins-is c))))
 
 third-requires : tie.Need-third-requires
 third-requires c κs = search rules
 
-length-at-requires-3 : tie.Need-length-at-requires-3
-length-at-requires-3 c κs = rw c.third.ensures (held (joined c.before.before) (three c.before)).below
+length-at-requires-3 : tie.Need-length_at-requires-then-k-eq-ITE
+length-at-requires-3 c κs = rw c.third.ensures (held c.before.before (three c.before)).below
 
 -- the two lengths of an Ite or a Concat have a sum, and the three of an Ite
-pair-sum : (c : tie.After-two-lengths2) → c.two-lengths2.result ≤ 8589934592
-pair-sum c = let e = joined c in omega (arith, c.two-lengths2.ensures, (held e (one e)).small, (held e (two e (joins-is c.before))).small)
+pair-sum : (c : tie.After-two_lengths-two) → c.two_lengths-two.result ≤ 8589934592
+pair-sum c = let e = c in omega (arith, c.two_lengths-two.ensures, (held e (one c.before.before.before.before)).small, (held e (two c.before.before.before.before (joins-is c.before))).small)
 
-sum : (c : tie.After-length-at3) → (ite-pair c).two-lengths2.result + c.length-at3.result ≤ 12884901888
+sum : (c : tie.After-length_at-then-k-eq-ITE) → c.two_lengths-two.result + c.length_at-then-k-eq-ITE.result ≤ 12884901888
 sum c =
-    let z = rw c.before.third.ensures at c.length-at3.ensures in
-    omega (arith, pair-sum (ite-pair c), z, (held (joined (ite-pair c)) (three (ite c))).small)
+    let z = rw c.third.ensures at c.length_at-then-k-eq-ITE.ensures in
+    omega (arith, pair-sum c.before.before.before, z, (held c (three c.before.before)).small)
 
-add-least-4 : tie.Need-overflow-add-least-4
+add-least-4 : tie.Need-overflow_add-two
 add-least-4 c = omega (arith, sum c)
 
-add-least-5 : tie.Need-overflow-add-least-5
+add-least-5 : tie.Need-overflow_add-two-then-k-eq-ITE
 add-least-5 c = omega (arith, sum c)
 
-least-requires-5 : tie.Need-least-requires-5
+least-requires-5 : tie.Need-least-requires-then-k-eq-ITE
 least-requires-5 c κs = search rules
 
-returns-5 : tie.Need-returns-5
+returns-5 : tie.Need-returns-then-k-eq-ITE
 returns-5 c =
-    let l = c.before in
-    let i = ite l in
-    let t = ite-pair l in
-    let e = joined t in
-    let s = entry e in
-    let x = rw l.before.third.ensures at l.length-at3.ensures in
-    let z = ite-size (pool s) (node s) s.pre.0 _ e.before.kind-of.ensures i.if5.taken in
-    omega (arith, c.least5.ensures, t.two-lengths2.ensures, x, known e (one e), known e (two e (joins-is t.before)), known e (three i), z)
+    let l = c in
+    let i = c in
+    let t = c in
+    let e = c in
+    let s = c in
+    let x = rw l.third.ensures at l.length_at-then-k-eq-ITE.ensures in
+    let z = ite-size (pool c.before.before.before.before.before.before.before.before.before.before.before.before) (node c.before.before.before.before.before.before.before.before.before.before.before.before) s.requires.0 _ e.kind_of-k.ensures i.if5.taken in
+    omega (arith, c.least-then-k-eq-ITE.ensures, t.two_lengths-two.ensures, x, known e (one c.before.before.before.before.before.before.before.before), known e (two c.before.before.before.before.before.before.before.before (joins-is c.before.before.before.before.before)), known e (three c.before.before.before), z)
 
-add-least-6 : tie.Need-overflow-add-least-6
+add-least-6 : tie.Need-overflow_add-two-2
 add-least-6 c = omega (arith, pair-sum c.before)
 
-least-requires-6 : tie.Need-least-requires-6
+least-requires-6 : tie.Need-least-requires-2
 least-requires-6 c κs = search rules
 
-returns-6 : tie.Need-returns-6
+returns-6 : tie.Need-returns
 returns-6 c =
-    let i = c.before in
-    let t = i.before in
-    let j = t.before in
-    let e = joined t in
-    let s = entry e in
-    let k : kind e.before ≡ 17 = omega (arith, j.before.before.if2.false, j.before.if3.false, j.if4.false, i.if5.false) in
-    let z = pair_size (pool s) (node s) s.pre.0 _ e.before.kind-of.ensures (a-concat k) in
-    omega (arith, c.least6.ensures, t.two-lengths2.ensures, known e (one e), known e (two e (joins-is j)), concat-own k, z)
+    let i = c in
+    let t = c in
+    let j = c in
+    let e = c in
+    let s = c in
+    let k : kind c.before.before.before.before.before.before.before ≡ 17 = omega (arith, j.if-k-lt-ITE.false, j.if-k-eq-EXTRACT.false, j.if-k-ge-ZERO_EXTEND.false, i.if-k-eq-ITE.false) in
+    let z = pair_size (pool c.before.before.before.before.before.before.before.before.before.before) (node c.before.before.before.before.before.before.before.before.before.before) s.requires.0 _ e.kind_of-k.ensures (a-concat k) in
+    omega (arith, c.least-2.ensures, t.two_lengths-two.ensures, known e (one c.before.before.before.before.before.before), known e (two c.before.before.before.before.before.before (joins-is c.before.before.before)), concat-own k, z)
 
-pub known-length-spec : {M : Type 1} → statement M
-known-length-spec =
+pub known_length_spec : {M : Type 1} → statement M
+known_length_spec =
     tie.close
     (tie.spec
     kind-of-requires

@@ -8,41 +8,35 @@ use Rattle.text_length.proofs.nodes.leaf_length.Tie as tie
 
 -- ---- the entry, of a Var and of a Const
 
-abbrev of-var : tie.Then1 → tie.Start
-of-var c = c.before.before
-
-abbrev of-const : tie.Else1 → tie.Start
-of-const c = c.before.before
-
 -- ---- needs
 
 low-requires : tie.Need-low-requires
 low-requires c κs = search rules
 
-decimal-length-requires : tie.Need-decimal-length-requires
+decimal-length-requires : tie.Need-decimal_length-requires
 decimal-length-requires c κs =
-    let s = of-var c.before in
-    rw c.low.ensures (register-small s.args.p.now s.args.n.0 s.pre.0 s.args.k s.pre.1 c.before.if1.true)
+    let s = c in
+    rw c.low.ensures (register-small s.args.p.now s.args.n.0 s.requires.0 s.args.k s.requires.1 c.if-k-eq-VAR.true)
 
-add-result : tie.Need-overflow-add-result
+add-result : tie.Need-overflow_add-result
 add-result c = search rules
 
-returns : tie.Need-returns
+returns : tie.Need-returns-then-k-eq-VAR
 returns c =
-    let l = c.before in
-    let i = l.before in
-    let s = of-var i in
-    omega (arith, size-var s.args.p.now s.args.n.0 s.pre.0 s.args.k s.pre.1 i.if1.true, rw l.low.ensures at c.decimal-length.ensures.0)
+    let l = c in
+    let i = c in
+    let s = c in
+    omega (arith, size-var s.args.p.now s.args.n.0 s.requires.0 s.args.k s.requires.1 i.if-k-eq-VAR.true, rw l.low.ensures at c.decimal_length.ensures.0)
 
-width-of-requires : tie.Need-width-of-requires
+width-of-requires : tie.Need-width_of-requires
 width-of-requires c κs = search rules
 
-decimal-length-requires-2 : tie.Need-decimal-length-requires-2
+decimal-length-requires-2 : tie.Need-decimal_length-requires-2
 decimal-length-requires-2 c κs =
-    let s = of-const c.before in
-    rw c.width_of_lem.ensures.0 (width_small s.args.p.now s.args.n.0 s.pre.0 s.args.k s.pre.1)
+    let s = c in
+    rw c.width_of.ensures.0 (width_small s.args.p.now s.args.n.0 s.requires.0 s.args.k s.requires.1)
 
-add-result-2 : tie.Need-overflow-add-result-2
+add-result-2 : tie.Need-overflow_add-result-2
 add-result-2 c = search rules
 
 low-requires-2 : tie.Need-low-requires-2
@@ -51,30 +45,30 @@ low-requires-2 c κs = search rules
 high-requires : tie.Need-high-requires
 high-requires c κs = search rules
 
-hex-length-requires : tie.Need-hex-length-requires
+hex-length-requires : tie.Need-hex_length-requires
 hex-length-requires c κs = search rules
 
-add-result-3 : tie.Need-overflow-add-result-3
+add-result-3 : tie.Need-overflow_add-result-3
 add-result-3 c = search rules
 
-returns-2 : tie.Need-returns-2
+returns-2 : tie.Need-returns
 returns-2 c =
-    let h = c.before in
-    let l = h.before in
-    let d = l.before in
-    let w = d.before in
-    let i = w.before in
-    let s = of-const i in
-    let k = is-const s.args.p.now s.args.n.0 s.pre.0 s.args.k s.pre.1 s.pre.2 i.if1.false in
+    let h = c in
+    let l = c in
+    let d = c in
+    let w = c in
+    let i = c in
+    let s = c in
+    let k = is-const s.args.p.now s.args.n.0 s.requires.0 s.args.k s.requires.1 s.requires.2 i.if-k-eq-VAR.false in
     omega (
       arith,
-      size-const s.args.p.now s.args.n.0 s.pre.0 s.args.k s.pre.1 k,
-      rw w.width_of_lem.ensures.0 at d.decimal-length2.ensures.0,
-      rw (l.low2.ensures, h.high.ensures) at c.hex-length.ensures.0,
+      size-const s.args.p.now s.args.n.0 s.requires.0 s.args.k s.requires.1 k,
+      rw w.width_of.ensures.0 at d.decimal_length-2.ensures.0,
+      rw (l.low-2.ensures, h.high.ensures) at c.hex_length.ensures.0,
     )
 
-pub leaf-length-spec : {M : Type 1} → statement M
-leaf-length-spec =
+pub leaf_length_spec : {M : Type 1} → statement M
+leaf_length_spec =
     tie.close
     (tie.spec
     low-requires

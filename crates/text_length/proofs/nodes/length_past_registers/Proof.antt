@@ -5,23 +5,23 @@ use borrow.Author.Rules.{rules}
 use Rattle.text_length.proofs.nodes.length_past_registers.Statement.{statement}
 use Rattle.text_length.proofs.nodes.length_past_registers.Tie as tie
 
-register-lengths-requires : tie.Need-register-lengths-requires
+register-lengths-requires : tie.Need-register_lengths-lengths-requires
 register-lengths-requires c κs = search rules
 
-slice-aggregate-length-from : tie.Need-slice-aggregate-length-from
+slice-aggregate-length-from : tie.Need-slice_bounds-length_from-end
 slice-aggregate-length-from c = search rules
 
-length-from-requires : tie.Need-length-from-requires
+length-from-requires : tie.Need-length_from-requires
 length-from-requires c κs =
-    let l = c.before in
-    let s = l.before.before in
-    let e = l.register-lengths.ensures in
+    let l = c in
+    let s = c in
+    let e = l.register_lengths-lengths.ensures in
     (s.requires.0.0, ((omega (arith, e.long, s.requires.1.0), s.requires.1.1.1), registers-known s.requires.0.0 s.requires.1.0.0 s.requires.0.1 e s.requires.1.1.0))
 
 returns : tie.Need-returns
 returns c = search rules
 
-pub length-past-registers-spec : {M : Type 1} → statement M
-length-past-registers-spec =
+pub length_past_registers_spec : {M : Type 1} → statement M
+length_past_registers_spec =
     tie.close
     (tie.spec register-lengths-requires slice-aggregate-length-from length-from-requires returns)

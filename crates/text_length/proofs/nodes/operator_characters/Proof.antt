@@ -5,17 +5,17 @@ use borrow.Author.Rules.{rules}
 use Rattle.text_length.proofs.nodes.operator_characters.Statement.{statement}
 use Rattle.text_length.proofs.nodes.operator_characters.Tie as tie
 
-sub-result : tie.Need-overflow-sub-result
+sub-result : tie.Need-overflow_sub-result
 sub-result c = search rules
 
-mul-result : tie.Need-overflow-mul-result
+mul-result : tie.Need-overflow_mul-result
 mul-result c = search rules
 
-shr-result : tie.Need-overflow-shr-result
+shr-result : tie.Need-overflow_shr-result
 shr-result c = search rules
 
 returns : tie.Need-returns
 returns c = let e = operator-own c.args.k c.requires.0 c.requires.1 in (e, omega arith)
 
-pub operator-characters-spec : {M : Type 1} → statement M
-operator-characters-spec = tie.close (tie.spec sub-result mul-result shr-result returns)
+pub operator_characters_spec : {M : Type 1} → statement M
+operator_characters_spec = tie.close (tie.spec sub-result mul-result shr-result returns)

@@ -8,46 +8,46 @@ use borrow.Author.Rules.{rules}
 use Rattle.words_encoding.proofs.decode.immediate_at.Statement.{statement}
 use Rattle.words_encoding.proofs.decode.immediate_at.Tie as tie
 
-minus-or-zero-requires : tie.Need-minus-or-zero-requires
+minus-or-zero-requires : tie.Need-minus_or_zero-requires
 minus-or-zero-requires c κs = search rules
 
-mul-minus-or-zero : tie.Need-overflow-mul-minus-or-zero
+mul-minus-or-zero : tie.Need-overflow_mul-bits
 mul-minus-or-zero c = search rules
 
-minus-or-zero-requires-2 : tie.Need-minus-or-zero-requires-2
+minus-or-zero-requires-2 : tie.Need-minus_or_zero-requires-in-3
 minus-or-zero-requires-2 c κs = search rules
 
-element-at-requires : tie.Need-element-at-requires
+element-at-requires : tie.Need-element_at-requires
 element-at-requires c κs = search rules
 
-returns : tie.Need-returns
+returns : tie.Need-returns-in-1
 returns c =
-    let a = c.before.args in
+    let a = c.args in
     λ o v h e. at_none (form o).immediate a.bits a.w (sym (parts a.code o v h e).row ∙ c.match.keys1)
 
-returns-2 : tie.Need-returns-2
+returns-2 : tie.Need-returns-in-2
 returns-2 c =
-    let left = c.before in
-    let a = left.before.args in
-    λ o v h e. at_left (form o).immediate a.bits a.w c.minus-or-zero.result c.minus-or-zero.ensures (sym (parts a.code o v h e).row ∙ left.match.keys2)
+    let left = c in
+    let a = left.args in
+    λ o v h e. at_left (form o).immediate a.bits a.w c.minus_or_zero.result c.minus_or_zero.ensures (sym (parts a.code o v h e).row ∙ left.match.keys2)
 
-returns-3 : tie.Need-returns-3
+returns-3 : tie.Need-returns-in-3
 returns-3 c =
-    let right = c.before in
-    let a = right.before.args in
-    λ o v h e. at_right (form o).immediate a.bits a.w c.minus-or-zero2.result c.minus-or-zero2.ensures (sym (parts a.code o v h e).row ∙ right.match.keys3)
+    let right = c in
+    let a = right.args in
+    λ o v h e. at_right (form o).immediate a.bits a.w c.minus_or_zero-in-3.result c.minus_or_zero-in-3.ensures (sym (parts a.code o v h e).row ∙ right.match.keys3)
 
-returns-4 : tie.Need-returns-4
+returns-4 : tie.Need-returns-in_default
 returns-4 c =
-    let element = c.before in
-    let a = element.before.args in
+    let element = c in
+    let a = element.args in
     let t = element.match.rest in
     λ o v h e.
     let r = (parts a.code o v h e).row in
-    at-element (form o).immediate a.bits a.w c.element-at.result c.element-at.ensures (omega (arith, r, t)) (omega (arith, r, t)) (omega (arith, r, t))
+    at-element (form o).immediate a.bits a.w c.element_at.result c.element_at.ensures (omega (arith, r, t)) (omega (arith, r, t)) (omega (arith, r, t))
 
-pub immediate-at-spec : {M : Type 1} → statement M
-immediate-at-spec =
+pub immediate_at_spec : {M : Type 1} → statement M
+immediate_at_spec =
     tie.close
     (tie.spec
     minus-or-zero-requires

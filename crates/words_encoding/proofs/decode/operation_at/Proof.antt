@@ -36,41 +36,41 @@ found w c k e h q l =
     ∙ ap (rule 0) place
     ∙ looked-up w c k e h q l
 
-class-at-requires : tie.Need-class-at-requires
+class-at-requires : tie.Need-class_at-class-requires
 class-at-requires c κs = search rules
 
-key-requires : tie.Need-key-requires
+key-requires : tie.Need-key-at-requires
 key-requires c κs = search rules
 
-mul-k : tie.Need-overflow-mul-k
+mul-k : tie.Need-overflow_mul-k
 mul-k c = search rules
 
-add-k : tie.Need-overflow-add-k
+add-k : tie.Need-overflow_add-k
 add-k c = search rules
 
-mul-result : tie.Need-overflow-mul-result
+mul-result : tie.Need-offset_bounds-k
 mul-result c = search rules
 
-array-read-result : tie.Need-array-read-result
+array-read-result : tie.Need-bounds-k
 array-read-result c = search rules
 
-mul-result-2 : tie.Need-overflow-mul-result-2
+mul-result-2 : tie.Need-overflow_mul-result
 mul-result-2 c = search rules
 
-shr-result : tie.Need-overflow-shr-result
+shr-result : tie.Need-overflow_shr-result
 shr-result c = search rules
 
 returns : tie.Need-returns
 unfolding table tabulate word lanes operation_of op_at operations
 returns c =
-    let w = c.before.before.args.w in
-    let a = c.before.class-at in
-    let k = c.key in
-    let at : ℕ = get_or table (8 * a.result + k.result / 8) 0 / 2 ^ (8 * (k.result % 8)) % 256 in
-    let e : at ≡ operation_at w = found w a.result k.result a.ensures.0 a.ensures.1 k.ensures.0 k.ensures.1 in
+    let w = c.args.w in
+    let a = c.class_at-class in
+    let k = c.key-at in
+    let at : ℕ = get_or table (8 * a.result-1 + k.result-1 / 8) 0 / 2 ^ (8 * (k.result-1 % 8)) % 256 in
+    let e : at ≡ operation_at w = found w a.result-1 k.result-1 a.ensures.0 a.ensures.1 k.ensures.0 k.ensures.1 in
     (e, subst (λ (x : ℕ). x ≤ 67) (sym e) (at-le w))
 
-pub operation-at-spec : {M : Type 1} → statement M
-operation-at-spec =
+pub operation_at_spec : {M : Type 1} → statement M
+operation_at_spec =
     tie.close
     (tie.spec class-at-requires key-requires mul-k add-k mul-result array-read-result mul-result-2 shr-result returns)

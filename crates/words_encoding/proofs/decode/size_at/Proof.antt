@@ -7,26 +7,26 @@ use borrow.Author.Rules.{rules}
 use Rattle.words_encoding.proofs.decode.size_at.Statement.{statement}
 use Rattle.words_encoding.proofs.decode.size_at.Tie as tie
 
-size-of-immh-requires : tie.Need-size-of-immh-requires
+size-of-immh-requires : tie.Need-size_of_immh-requires
 size-of-immh-requires c κs = search rules
 
-returns : tie.Need-returns
+returns : tie.Need-returns-then-class-eq4
 returns c =
-    let immh = c.before.before in
+    let immh = c in
     let a = immh.args in
-    (size-by-immh a.operation a.w immh.requires.0 immh.requires.1 c.size-of-immh.result (sym c.before.if1.true ∙ immh.requires.2) c.size-of-immh.ensures.0, c.size-of-immh.ensures.1)
+    (size-by-immh a.operation a.w immh.requires.0 immh.requires.1 c.size_of_immh.result (sym c.if-class-eq4.true ∙ immh.requires.2) c.size_of_immh.ensures.0, c.size_of_immh.ensures.1)
 
-returns-2 : tie.Need-returns-2
+returns-2 : tie.Need-returns-then-operation-eq63
 returns-2 c =
-    let rbit = c.before.before in
+    let rbit = c in
     let a = rbit.args in
-    (size-of-rbit a.operation a.w rbit.requires.0 rbit.requires.1 (eq-eqb a.operation 63 c.if2.true), omega arith)
+    (size-of-rbit a.operation a.w rbit.requires.0 rbit.requires.1 (eq-eqb a.operation 63 c.if-operation-eq63.true), omega arith)
 
-returns-3 : tie.Need-returns-3
+returns-3 : tie.Need-returns
 returns-3 c =
-    let field = c.before.before in
+    let field = c in
     let a = field.args in
-    (size-by-field a.operation a.w field.requires.0 field.requires.1 (λ e. c.before.if1.false (field.requires.2 ∙ e)) (ne_eqb a.operation 63 c.if2.false), omega arith)
+    (size-by-field a.operation a.w field.requires.0 field.requires.1 (λ e. c.if-class-eq4.false (field.requires.2 ∙ e)) (ne_eqb a.operation 63 c.if-operation-eq63.false), omega arith)
 
-pub size-at-spec : {M : Type 1} → statement M
-size-at-spec = tie.close (tie.spec size-of-immh-requires returns returns-2 returns-3)
+pub size_at_spec : {M : Type 1} → statement M
+size_at_spec = tie.close (tie.spec size-of-immh-requires returns returns-2 returns-3)

@@ -27,68 +27,65 @@ legal : (s : tie.Start) → Accepted (asked s)
 legal s = accepted (asked s) s.requires
 
 -- the entry, from where all parts of the word are known
-abbrev entry : tie.After-view-part → tie.Start
-entry c = c.before.before.before.before.before.before
-
-form-code-requires : tie.Need-form-code-requires
+form-code-requires : tie.Need-form_code-code-requires
 form-code-requires c κs = search rules
 
-lane-bits-requires : tie.Need-lane-bits-requires
+lane-bits-requires : tie.Need-lane_bits-requires
 lane-bits-requires c κs =
     (legal c.before).form_of.arranged
 
-size-part-requires : tie.Need-size-part-requires
+size-part-requires : tie.Need-size_part-requires
 size-part-requires c κs =
     let f = (legal c.before.before).form_of in (f.from_one, f.to_last, f.arranged)
 
-place-requires : tie.Need-place-requires
+place-requires : tie.Need-place-fields-requires
 place-requires c κs =
-    let st = c.before.before.before in
-    let l = legal st in
+    let st = c in
+    let l = legal c.before.before.before in
     let o = op_at st.args.operation in
     let v = arrangement_at st.args.arrangement in
-    (omega (arith, c.before.lane-bits.ensures, (sized v).most), c.size-part.ensures.1, omega (arith, l.form_of.high, most-small (form o).immediate v), omega (arith, l.at-m, m-le o v))
+    (omega (arith, c.lane_bits.ensures, (sized v).most), c.size_part.ensures.1, omega (arith, l.form_of.high, most-small (form o).immediate v), omega (arith, l.at-m, m-le o v))
 
 fixed-requires : tie.Need-fixed-requires
 fixed-requires c κs =
     let f = (legal c.before.before.before.before).form_of in (f.from_one, f.to_last)
 
-view-part-requires : tie.Need-view-part-requires
+view-part-requires : tie.Need-view_part-requires
 view-part-requires c κs =
     let f = (legal c.before.before.before.before.before).form_of in (f.from_one, f.to_last, f.arranged)
 
-add-result : tie.Need-overflow-add-result
+add-result : tie.Need-overflow_add-result
 add-result c = search rules
 
-add-result-2 : tie.Need-overflow-add-result-2
+add-result-2 : tie.Need-overflow_add-result-2
 add-result-2 c = search rules
 
-mul-result : tie.Need-overflow-mul-result
-mul-result c = omega (arith, (legal (entry c)).at_n)
+mul-result : tie.Need-overflow_mul-result
+mul-result c = omega (arith, (legal c.before.before.before.before.before.before).at_n)
 
-add-result-3 : tie.Need-overflow-add-result-3
+add-result-3 : tie.Need-overflow_add-result-3
 add-result-3 c =
-    omega (arith, (legal (entry c)).at_n, c.before.fixed.ensures.1, c.view-part.ensures.1, c.before.before.place.ensures.1)
+    omega (arith, (legal c.before.before.before.before.before.before).at_n, c.fixed.ensures.1, c.view_part.ensures.1, c.place-fields.ensures.1)
 
-add-result-4 : tie.Need-overflow-add-result-4
+add-result-4 : tie.Need-overflow_add-result-4
 add-result-4 c =
-    let l = legal (entry c) in omega (arith, l.at_n, l.at-d, c.before.fixed.ensures.1, c.view-part.ensures.1, c.before.before.place.ensures.1)
+    let l = legal c.before.before.before.before.before.before in omega (arith, l.at_n, l.at-d, c.fixed.ensures.1, c.view_part.ensures.1, c.place-fields.ensures.1)
 
 returns : tie.Need-returns
 returns c =
-    let p = c.before.before in
-    let r = asked (entry c) in
+    let p = c in
+    let r = asked c.before.before.before.before.before.before in
     let o = op_at r.operation in
     let v = arrangement_at r.arrangement in
-    let k = coded r.operation r.arrangement r.i 0 (form-legal r (entry c).requires) in
-    let q = p.place.ensures.0 o v k.0 (p.before.before.before.form-code.ensures ∙ k.1) in
-    sum-as r.n r.d c.before.fixed.ensures.0 c.view-part.ensures.0
-    (q ∙ ap (λ (b : ℕ). place_part (form o).immediate b p.before.size-part.result r.i r.m) p.before.before.lane-bits.ensures
-    ∙ ap (λ (s : ℕ). place_part (form o).immediate (bits_of_lane v) s r.i r.m) p.before.size-part.ensures.0)
-    ∙ sym (encode-sum r (entry c).requires)
+    let k = coded r.operation r.arrangement r.i 0 (form-legal r c.requires) in
+    let q = p.place-fields.ensures.0 o v k.0 (p.form_code-code.ensures ∙ k.1) in
+    sum-as r.n r.d c.fixed.ensures.0 c.view_part.ensures.0
+    (q ∙ ap (λ (b : ℕ). place_part (form o).immediate b p.size_part.result r.i r.m) p.lane_bits.ensures
+    ∙ ap (λ (s : ℕ). place_part (form o).immediate (bits_of_lane v) s r.i r.m) p.size_part.ensures.0)
+    ∙ sym (encode-sum r c.requires)
 
-pub encode-word-spec : {M : Type 1} → statement M
-encode-word-spec =
+pub encode_word_spec : {M : Type 1} → statement M
+encode_word_spec =
     tie.close
     (tie.spec
     form-code-requires

@@ -18,13 +18,13 @@ word k = fixed_of (op_at (suc k))
 table : List ℕ
 table = tabulate word 0 67
 
-sub-k : tie.Need-overflow-sub-k
+sub-k : tie.Need-overflow_sub-k
 sub-k c = search rules
 
-mul-result : tie.Need-overflow-mul-result
+mul-result : tie.Need-offset_bounds-k
 mul-result c = search rules
 
-array-read-result : tie.Need-array-read-result
+array-read-result : tie.Need-bounds-k
 array-read-result c = search rules
 
 returns : tie.Need-returns
@@ -35,5 +35,5 @@ returns c =
     let e : get_or table (k - 1) 0 ≡ fixed_of (op_at k) = entry word 67 (k - 1) (omega arith) ∙ ap (λ (j : ℕ). fixed_of (op_at j)) one in
     (e, subst (λ (x : ℕ). x < 2147483648) (sym e) (fixed-fits k c.requires.0 c.requires.1))
 
-pub fixed-spec : {M : Type 1} → statement M
-fixed-spec = tie.close (tie.spec sub-k mul-result array-read-result returns)
+pub fixed_spec : {M : Type 1} → statement M
+fixed_spec = tie.close (tie.spec sub-k mul-result array-read-result returns)

@@ -7,5 +7,5 @@ returns : tie.Need-returns
 returns c =
     long-is c.args.operation c.requires.0 c.requires.1
 
-pub is-long-spec : {M : Type 1} → statement M
-is-long-spec = tie.close (tie.spec returns)
+pub is_long_spec : {M : Type 1} → statement M
+is_long_spec = tie.close (tie.spec returns)

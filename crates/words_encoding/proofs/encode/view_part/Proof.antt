@@ -12,32 +12,29 @@ use borrow.Author.Rules.{rules}
 use Rattle.words_encoding.proofs.encode.view_part.Statement.{statement}
 use Rattle.words_encoding.proofs.encode.view_part.Tie as tie
 
-abbrev long : tie.After-is-full → tie.After-is-long
-long f = f.before.before
-
 -- the lanes are not long: Q tells the view
-viewed : (f : tie.After-is-full) (b : Bool) → f.is-full.result ≡ b → let a = (long f).before.args in
+viewed : (f : tie.After-is_full) (b : Bool) → f.is_full.result ≡ b → let a = f.args in
     1073741824 * bit b ≡ view_part (form (op_at a.operation)).lanes (arrangement_at a.arrangement)
 viewed f b e =
-    let a = (long f).before.args in
-    view-other (form (op_at a.operation)).lanes (arrangement_at a.arrangement) b (sym (long f).is-long.ensures ∙ f.before.if1.false) (sym f.is-full.ensures ∙ e)
+    let a = f.args in
+    view-other (form (op_at a.operation)).lanes (arrangement_at a.arrangement) b (sym f.is_long.ensures ∙ f.if-is_long.false) (sym f.is_full.ensures ∙ e)
 
-is-long-requires : tie.Need-is-long-requires
+is-long-requires : tie.Need-is_long-requires
 is-long-requires c κs = search rules
 
-returns : tie.Need-returns
+returns : tie.Need-returns-then-is_long
 returns c =
-    let a = c.before.before.args in
-    (view-long (form (op_at a.operation)).lanes (arrangement_at a.arrangement) (sym c.before.is-long.ensures ∙ c.if1.true), omega arith)
+    let a = c.args in
+    (view-long (form (op_at a.operation)).lanes (arrangement_at a.arrangement) (sym c.is_long.ensures ∙ c.if-is_long.true), omega arith)
 
-is-full-requires : tie.Need-is-full-requires
+is-full-requires : tie.Need-is_full-requires
 is-full-requires c κs = search rules
 
-returns-2 : tie.Need-returns-2
-returns-2 c = (viewed c.before true c.if2.true, omega arith)
+returns-2 : tie.Need-returns-then-is_full
+returns-2 c = (viewed c.before true c.if-is_full.true, omega arith)
 
-returns-3 : tie.Need-returns-3
-returns-3 c = (viewed c.before false c.if2.false, omega arith)
+returns-3 : tie.Need-returns-else-is_full
+returns-3 c = (viewed c.before false c.if-is_full.false, omega arith)
 
-pub view-part-spec : {M : Type 1} → statement M
-view-part-spec = tie.close (tie.spec is-long-requires returns is-full-requires returns-2 returns-3)
+pub view_part_spec : {M : Type 1} → statement M
+view_part_spec = tie.close (tie.spec is-long-requires returns is-full-requires returns-2 returns-3)
