@@ -12,7 +12,7 @@ import re
 import sys
 
 WORD = r"[A-Za-z0-9_'\u2080-\u2089+-]+"
-SUB = {"ensures", "result", "new", "old", "invariant", "inv", "true", "false", "branch", "auto", "is", "not", "given", "element_fits", "kept", "fact", "raw", "fits", "requires", "was", "step"}
+SUB = {"ensures", "result", "new", "invariant", "inv", "true", "false", "branch", "auto", "is", "not", "given", "element_fits", "fact", "raw"}
 
 
 def norm(n):
@@ -56,18 +56,25 @@ def spec_args(text):
     return start, i, split_args(text[start:i])
 
 
-def steps(names):
-    """Old step name to its new one, with the renamed fields."""
-    out = {}
-    for place, parent, step, callee, fields in names["places"]:
-        if step[0]:
+def steps(names, place=None):
+    """Old step name to its new one, with the renamed fields: of the places above a place, or of all."""
+    out, above = {}, None
+    if place is not None:
+        by_old = {p[0]: new for p, new in zip(names["places"], names["places_by_name"])}
+        parent = {new: by_old.get(p[1]) for p, new in zip(names["places"], names["places_by_name"])}
+        above = set()
+        while place in parent:
+            above.add(place)
+            place = parent[place]
+    for (_, _, step, _, fields), new_place in zip(names["places"], names["places_by_name"]):
+        if step[0] and (above is None or new_place in above):
             known = out.setdefault(norm(step[0]), (step[1], dict()))
             known[1].update({norm(a): b for a, b in fields})
     return out
 
 
-def turn_paths(text, names):
-    table = steps(names)
+def turn_paths(text, names, place=None):
+    table = steps(names, place)
     variables = {}
     for loop, live in names["loops"]:
         for v in live:
@@ -82,7 +89,12 @@ def turn_paths(text, names):
             if f.endswith("_lem") and norm(f[:-4]) in table:
                 key = norm(f[:-4])
             nxt = fields[i + 1] if i + 1 < len(fields) else None
-            if key in table and (nxt is None or nxt in SUB or norm(nxt) in variables or norm(nxt) in table[key][1]) and f not in ("args", "before"):
+            if nxt in ("taken", "left") and key in table:
+                nxt = {"taken": "true", "left": "false"}[nxt]
+            if nxt and re.fullmatch(r"keys\d+", nxt) and key == "match":
+                nxt = "is"
+            first = all(g == "before" for g in fields[:i])
+            if first and key in table and (nxt is None or nxt in SUB or norm(nxt) in variables or norm(nxt) in table[key][1]) and f not in ("args", "before"):
                 new, sub = table[key]
                 out.append(new)
                 if nxt is not None:
@@ -128,7 +140,7 @@ def blocks(text):
     """The top declarations of a file: a signature with its clauses each, and what stands between."""
     out, cur = [], []
     for line in text.split("\n"):
-        m = re.match(rf"^(?:abbrev pub |unfoldable pub |abbrev |unfoldable |pub )?({WORD}) : ", line)
+        m = re.match(rf"^(?:abbrev pub |unfoldable pub |abbrev |unfoldable |pub )?({WORD}) :(?: |$)", line)
         if line and not line[0].isspace() and (m or line.startswith(("use ", "--", "module", "pub record", "record", "pub data", "data"))):
             if cur:
                 out.append("\n".join(cur))
@@ -211,7 +223,7 @@ def places_flat(text, names, needs, lead):
     moves, asks = set(), {}
     keep = []
     for b in parts:
-        m = re.match(rf"(?s)(?:abbrev |unfoldable |pub )*({WORD}) : (?:\(({WORD}) : )?tie\.({WORD})((?: (?:invariant|decreases)-[\w-]+)*)\)? →\s*(.*)", b)
+        m = re.match(rf"(?s)(?:abbrev |unfoldable |pub )*({WORD}) :\s+(?:\(({WORD}) : )?tie\.({WORD})((?: (?:invariant|decreases)-[\w-]+)*)\)? →\s*(.*)", b)
         if m and not m[3].startswith("Need-"):
             if re.match(rf"tie\.{WORD}(?: (?:invariant|decreases)-[\w-]+)*\s*\n", m[5]) and not m[2]:
                 moves.add(m[1])
@@ -220,7 +232,7 @@ def places_flat(text, names, needs, lead):
         keep.append(b)
     said, out = [], []
     for b in keep:
-        m = re.match(rf"(?s)(?:abbrev |unfoldable |pub )*({WORD}) : (.*)", b)
+        m = re.match(rf"(?s)(?:abbrev |unfoldable |pub )*({WORD}) :\s+(.*)", b)
         if not m or "tie.close" in b:
             if "tie.close" in b:
                 got = spec_args(b)
@@ -229,18 +241,20 @@ def places_flat(text, names, needs, lead):
                 for i, a in enumerate(args):
                     p = lambdas(a)
                     if p and i >= lead:
+                        a = turn_paths(a, names, asked[needs[i - lead]])
                         a = flat(a, p, asked[needs[i - lead]], moves, asks, tree, said)
                     turned.append(a)
                 if turned != args:
                     b = b[:s] + "\n    " + "\n    ".join(turned) + b[e:]
-            out.append(b)
+            out.append(b if "tie.close" in b else turn_paths(b, names))
             continue
-        at = re.search(rf"^(?:abbrev |unfoldable |pub )*{WORD} : (?:\({WORD} : )?tie\.({WORD})", b)
+        at = re.search(rf"^(?:abbrev |unfoldable |pub )*{WORD} :\s+(?:\({WORD} : )?tie\.({WORD})", b)
         if not at or at[1].startswith(("invariant", "decreases")):
             out.append(b)
             continue
         place = asked.get(at[1][5:]) if at[1].startswith("Need-") else at[1]
         # each clause has a parameter of its own
+        b = turn_paths(b, names, place)
         lines = re.split(rf"(?m)^(?={re.escape(m[1])} (?!:))", b)
         sig = lines[0]
         c = re.search(rf"\(({WORD}) : tie\.", sig)
@@ -309,7 +323,7 @@ def main(argv):
                 for_hand.append(where)
                 print(f"left: {where}: {len(args)} arguments for {lead} + {len(needs)}; settled {names['settled']}")
             text = re.sub(r"(?<=[\w)])\.pre(?![\w-])", ".requires", text)
-            text = turn_paths(text, names)
+            text = re.sub(r"(?<=[\w)])\.inv(?![\w-])", ".invariant", text)
             text = places(text, names)
             loops = {norm(old): new for (old, new), _ in names["loops"]}
             for old, new in [l[0] for l in names["loops"]]:

@@ -56,7 +56,7 @@ returns-2 c =
     record {
       number = e.block_refusal-refused.ensures.0;
       position = e.block_refusal-refused.ensures.1;
-      refused = λ h. absurd (h (omega (arith, e.if1.left)));
+      refused = λ h. absurd (h (omega (arith, e.if-number-gt0.false)));
       accepted = λ z. all_done (accepted c.before.before.before.before.before.before.before.before).placed p.start_pool-start.ensures.0 (runs-first p.start_pool-start.ensures.1 r.run_records-map.ensures);
     }
 

@@ -35,7 +35,7 @@ loop-less c = omega (arith, c.loop-r-test.true)
 loop-again : tie.Need-loop-r-preserved invariant-loop-r decreases-loop-r
 loop-again c =
     let t = c in
-    (omega (arith, t.loop-test.taken), start-more t.loop-test.taken (room c.before.before.before.before) t.loop-r.invariant.1 c.var.ensures)
+    (omega (arith, t.loop-r-test.true), start-more t.loop-r-test.true (room c.before.before.before.before) t.loop-r.invariant.1 c.var.ensures)
 
 initial-requires : tie.Need-initial-requires invariant-loop-r decreases-loop-r
 initial-requires c κs = search rules

@@ -41,7 +41,7 @@ returns c =
     let t = c in
     let l = t.loop-j in
     let n = number_is c.before in
-    let e = sym l.inv.2 ∙ refused-here t.args.records.now l.j _ t.loop-test.taken (omega (arith, n, c.if-number-gt0.true)) in
+    let e = sym l.invariant.2 ∙ refused-here t.args.records.now l.j _ t.loop-j-test.true (omega (arith, n, c.if-number-gt0.true)) in
     (n ∙ sym (ap (λ (x : Refusal). x.number) e), sym (ap (λ (x : Refusal). x.position) e))
 
 add-j : tie.Need-overflow_add-j invariant-loop-j decreases-loop-j
@@ -54,9 +54,9 @@ loop-again : tie.Need-loop-j-preserved invariant-loop-j decreases-loop-j
 loop-again c =
     let t = c in
     let l = t.loop-j in (
-      l.inv.0,
-      omega (arith, t.loop-test.taken),
-      sym (passed_here t.args.records.now l.j _ t.loop-test.taken (omega (arith, number_is c.before, c.if-number-gt0.false))) ∙ l.inv.2,
+      l.invariant.0,
+      omega (arith, t.loop-j-test.true),
+      sym (passed_here t.args.records.now l.j _ t.loop-j-test.true (omega (arith, number_is c.before, c.if-number-gt0.false))) ∙ l.invariant.2,
     )
 
 returns-2 : tie.Need-returns invariant-loop-j decreases-loop-j

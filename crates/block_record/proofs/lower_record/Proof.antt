@@ -37,12 +37,12 @@ nodes s = nodes-in s.args.map s.requires.1.0 (the s) s.requires.1.1
 legal : (c : tie.After-form_code-code) → let a = c.args in form_number a.operation a.arrangement a.i 0 ≡ 0
 legal c = form-legal (the c.before.before) c.requires.1.1
 
-says : {P : Op → Arrangement → Type 0} (c : tie.After-form_code-code) → OfCode c.form_code-code.result P
+says : {P : Op → Arrangement → Type 0} (c : tie.After-form_code-code) → OfCode c.form-code.result P
     → let a = (entry c).args in P (op_at a.operation) (arrangement_at a.arrangement)
 says c h =
     let a = (entry c).args in
     let k = coded a.operation a.arrangement a.i 0 (legal c) in
-    h (op_at a.operation) (arrangement_at a.arrangement) k.0 (c.form_code-code.ensures ∙ k.1)
+    h (op_at a.operation) (arrangement_at a.arrangement) k.0 (c.form-code.ensures ∙ k.1)
 
 -- ---- the room that is left after each call
 

@@ -96,7 +96,7 @@ next-requires c κs =
 add-level : tie.Need-overflow_add-level invariant-loop-link decreases-loop-link
 add-level c =
     let l = c in
-    omega (arith, link-low c.before.before.before.before.before, l.requires.0, l.loop-link.invariant.0, l.loop-link.invariant.1.deeper (omega (arith, l.loop-link.invariant.0, c.loop-test.taken)))
+    omega (arith, link-low c.before.before.before.before.before, l.requires.0, l.loop-link.invariant.0, l.loop-link.invariant.1.deeper (omega (arith, l.loop-link.invariant.0, c.loop-link-test.true)))
 
 link-at-requires-2 : tie.Need-link_at-link-requires-in-loop-link invariant-loop-link decreases-loop-link
 link-at-requires-2 c κs = let l = c in (l.requires.0.3, omega (arith, link-low c.before.before.before.before.before, l.requires.0, c.next-slot.ensures.1))
@@ -109,7 +109,7 @@ loop-less c =
     let k = l.key_of-k.result in
     let e = c.link_at-link-in-loop-link.ensures.0 ∙ ap (λ (i : ℕ). get_or (slots_in c.before.before.before.before.before.before.before.before.before.before.before.before) i 0) c.next-slot.ensures.0 in
     let m = l.loop-link.link - 1 in
-    let t = o.loop-test.taken in
+    let t = o.loop-link-test.true in
     falls l.loop-link.level l.loop-link.link c.link_at-link-in-loop-link.result t (omega (arith, link-low c.before.before.before.before.before.before, s.requires.0))
     (λ h g. omega (arith, e, next-rises (slots_in c.before.before.before.before.before.before.before.before.before.before.before.before) s.requires.1.1 k m l.loop-link.level h (omega (arith, g, e)), t))
 
@@ -121,9 +121,9 @@ loop-again c =
     let a = s.args in
     let k = l.key_of-k.result in
     let m = l.loop-link.link - 1 in
-    let here : get_or (slots_in c.before.before.before.before.before.before.before.before.before.before.before.before) l.loop-link.slot 0 ≡ suc m = omega (arith, l.loop-link.invariant.0, o.loop-test.taken) in
+    let here : get_or (slots_in c.before.before.before.before.before.before.before.before.before.before.before.before) l.loop-link.slot 0 ≡ suc m = omega (arith, l.loop-link.invariant.0, o.loop-link-test.true) in
     let differs : same_key (key_of a.pool.now a.class.now m) k ≡ false =
-    sym (o.same.ensures ∙ ap (λ (x : Key). same_key x k) o.key_of.ensures.0) ∙ o.if1.left in (
+    sym (o.same.ensures ∙ ap (λ (x : Key). same_key x k) o.key_of.ensures.0) ∙ o.if-same.false in (
       c.link_at-link-in-loop-link.ensures.0,
       rw c.next-slot.ensures.0
           (search-next a.pool.now a.class.now (slots_in c.before.before.before.before.before.before.before.before.before.before.before.before) k s.requires.1.1 l.loop-link.slot l.loop-link.level m here differs l.loop-link.invariant.1),

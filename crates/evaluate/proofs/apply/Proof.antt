@@ -32,15 +32,15 @@ joined-lt a b wa wb h l m =
 
 bv-add-requires : tie.Need-bv_add-requires
 unfolding kind_at kinds
-bv-add-requires c κs = let q = rw c.match.keys1 at c.requires.0 in (omega (arith, q.1))
+bv-add-requires c κs = let q = rw c.in-3.is at c.requires.0 in (omega (arith, q.1))
 
 bv-sub-requires : tie.Need-bv_sub-requires
 unfolding kind_at kinds
-bv-sub-requires c κs = let q = rw c.match.keys2 at c.requires.0 in (omega (arith, q.1), q.3)
+bv-sub-requires c κs = let q = rw c.in-4.is at c.requires.0 in (omega (arith, q.1), q.3)
 
 bv-mul-requires : tie.Need-bv_mul-requires
 unfolding kind_at kinds
-bv-mul-requires c κs = let q = rw c.match.keys3 at c.requires.0 in (omega (arith, q.1))
+bv-mul-requires c κs = let q = rw c.in-5.is at c.requires.0 in (omega (arith, q.1))
 
 and-requires : tie.Need-and-requires
 and-requires c κs = search rules
@@ -53,15 +53,15 @@ xor-requires c κs = search rules
 
 bv-shl-requires : tie.Need-bv_shl-requires
 unfolding kind_at kinds
-bv-shl-requires c κs = let q = rw c.match.keys7 at c.requires.0 in (omega (arith, q.1))
+bv-shl-requires c κs = let q = rw c.in-9.is at c.requires.0 in (omega (arith, q.1))
 
 bv-lshr-requires : tie.Need-bv_lshr-requires
 unfolding kind_at kinds
-bv-lshr-requires c κs = let q = rw c.match.keys8 at c.requires.0 in (omega (arith, q.1), q.2)
+bv-lshr-requires c κs = let q = rw c.in-10.is at c.requires.0 in (omega (arith, q.1), q.2)
 
 bv-ashr-requires : tie.Need-bv_ashr-requires
 unfolding kind_at kinds
-bv-ashr-requires c κs = let q = rw c.match.keys9 at c.requires.0 in (q.0, omega (arith, q.1), q.2)
+bv-ashr-requires c κs = let q = rw c.in-11.is at c.requires.0 in (q.0, omega (arith, q.1), q.2)
 
 equal-requires : tie.Need-equal-requires
 equal-requires c κs = search rules
@@ -77,18 +77,18 @@ bit-requires-2 c κs = search rules
 
 bv-slt-requires : tie.Need-bv_slt-requires
 unfolding kind_at kinds
-bv-slt-requires c κs = let q = rw c.match.keys12 at c.requires.0 in (q.0, omega (arith, q.1))
+bv-slt-requires c κs = let q = rw c.in-14.is at c.requires.0 in (q.0, omega (arith, q.1))
 
 bit-requires-3 : tie.Need-bit-requires-in-14
 bit-requires-3 c κs = search rules
 
 bv-extract-requires : tie.Need-bv_extract-requires
 unfolding kind_at kinds
-bv-extract-requires c κs = let q = rw c.match.keys13 at c.requires.0 in (q.0, omega (arith, q.1))
+bv-extract-requires c κs = let q = rw c.in-16.is at c.requires.0 in (q.0, omega (arith, q.1))
 
 bv-concat-requires : tie.Need-bv_concat-requires
 unfolding kind_at kinds
-bv-concat-requires c κs = let q = rw c.match.keys14 at c.requires.0 in (omega (arith, q.0), joined-lt _ _ _ _ q.0 q.1 q.2)
+bv-concat-requires c κs = let q = rw c.in-17.is at c.requires.0 in (omega (arith, q.0), joined-lt _ _ _ _ q.0 q.1 q.2)
 
 bv-sext-requires : tie.Need-bv_sext-requires
 unfolding kind_at kinds
@@ -96,63 +96,63 @@ bv-sext-requires c κs = let q = rw (last c) at c.requires.0 in (q.0, q.1, omega
 
 returns : tie.Need-returns-in-3
 unfolding kind_at kinds
-returns c = rw c.match.keys1 c.bv_add.ensures
+returns c = rw c.in-3.is c.bv_add.ensures
 
 returns-2 : tie.Need-returns-in-4
 unfolding kind_at kinds
-returns-2 c = rw c.match.keys2 c.bv_sub.ensures
+returns-2 c = rw c.in-4.is c.bv_sub.ensures
 
 returns-3 : tie.Need-returns-in-5
 unfolding kind_at kinds
-returns-3 c = rw c.match.keys3 c.bv_mul.ensures
+returns-3 c = rw c.in-5.is c.bv_mul.ensures
 
 returns-4 : tie.Need-returns-in-6
 unfolding kind_at kinds
-returns-4 c = rw c.match.keys4 c.and.ensures
+returns-4 c = rw c.in-6.is c.and.ensures
 
 returns-5 : tie.Need-returns-in-7
 unfolding kind_at kinds
-returns-5 c = rw c.match.keys5 c.or.ensures
+returns-5 c = rw c.in-7.is c.or.ensures
 
 returns-6 : tie.Need-returns-in-8
 unfolding kind_at kinds
-returns-6 c = rw c.match.keys6 c.xor.ensures
+returns-6 c = rw c.in-8.is c.xor.ensures
 
 returns-7 : tie.Need-returns-in-9
 unfolding kind_at kinds
-returns-7 c = rw c.match.keys7 c.bv_shl.ensures
+returns-7 c = rw c.in-9.is c.bv_shl.ensures
 
 returns-8 : tie.Need-returns-in-10
 unfolding kind_at kinds
-returns-8 c = rw c.match.keys8 c.bv_lshr.ensures
+returns-8 c = rw c.in-10.is c.bv_lshr.ensures
 
 returns-9 : tie.Need-returns-in-11
 unfolding kind_at kinds
-returns-9 c = rw c.match.keys9 c.bv_ashr.ensures
+returns-9 c = rw c.in-11.is c.bv_ashr.ensures
 
 returns-10 : tie.Need-returns-in-12
 unfolding kind_at kinds
-returns-10 c = rw c.match.keys10 (c.bit.ensures ∙ ap bit c.equal.ensures)
+returns-10 c = rw c.in-12.is (c.bit.ensures ∙ ap bit c.equal.ensures)
 
 returns-11 : tie.Need-returns-in-13
 unfolding kind_at kinds
-returns-11 c = rw c.match.keys11 (c.bit-in-13.ensures ∙ ap bit c.less.ensures)
+returns-11 c = rw c.in-13.is (c.bit-in-13.ensures ∙ ap bit c.less.ensures)
 
 returns-12 : tie.Need-returns-in-14
 unfolding kind_at kinds
-returns-12 c = rw c.match.keys12 (c.bit-in-14.ensures ∙ ap bit c.bv_slt.ensures)
+returns-12 c = rw c.in-14.is (c.bit-in-14.ensures ∙ ap bit c.bv_slt.ensures)
 
 returns-13 : tie.Need-returns-in-16
 unfolding kind_at kinds
-returns-13 c = rw c.match.keys13 c.bv_extract.ensures
+returns-13 c = rw c.in-16.is c.bv_extract.ensures
 
 returns-14 : tie.Need-returns-in-17
 unfolding kind_at kinds
-returns-14 c = rw c.match.keys14 c.bv_concat.ensures
+returns-14 c = rw c.in-17.is c.bv_concat.ensures
 
 returns-15 : tie.Need-returns-in-18
 unfolding kind_at kinds
-returns-15 c = rw c.match.keys15
+returns-15 c = rw c.in-18.is
 
 returns-16 : tie.Need-returns-in_default
 unfolding kind_at kinds

@@ -44,8 +44,8 @@ applied-requires c κs =
     let a = c in
     let e = c in
     let s = entry e in (
-      (s.requires.0.0, is-k e, e.if1.left, no-ite e),
-      held-ok _ _ _ s.requires.0.0 _ (is-k e) s.requires.0.2 e.if1.left (no-ite e) (a.load.ensures ∙ s.requires.1.0 (from-three e))
+      (s.requires.0.0, is-k e, e.if-k-lt-ADD.false, no-ite e),
+      held-ok _ _ _ s.requires.0.0 _ (is-k e) s.requires.0.2 e.if-k-lt-ADD.false (no-ite e) (a.load.ensures ∙ s.requires.1.0 (from-three e))
           (λ q. c.load-2.ensures ∙ s.requires.1.1 (from-three e) (rw (← is-k e) q)),
     )
 
@@ -60,7 +60,7 @@ returns-2 c =
     let e = c in
     let s = entry e in
     c.store-2.ensures ∙ d.applied.ensures
-    ∙ held-is _ _ _ s.requires.0.0 _ (is-k e) s.requires.0.2 e.if1.left (no-ite e) (a.load.ensures ∙ s.requires.1.0 (from-three e))
+    ∙ held-is _ _ _ s.requires.0.0 _ (is-k e) s.requires.0.2 e.if-k-lt-ADD.false (no-ite e) (a.load.ensures ∙ s.requires.1.0 (from-three e))
     (λ q. b.load-2.ensures ∙ s.requires.1.1 (from-three e) (rw (← is-k e) q))
 
 pub combine_spec : {M : Type 1} → statement M

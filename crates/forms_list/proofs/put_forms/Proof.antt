@@ -54,7 +54,7 @@ returns c =
     let l = c.loop-operation in
     let a = c.args in
     let e : l.operation ≡ 67 = omega (arith, l.invariant.1, c.loop-operation-test.false) in
-    subst (λ (j : ℕ). Wrote a.buf.now a.at (up_to j texts) l.end l.buf-1) e l.invariant.0
+    subst (λ (j : ℕ). Wrote a.buf.now a.at (up_to j texts) l.end l.buf) e l.invariant.0
 
 pub put_forms_spec : {M : Type 1} → statement M
 put_forms_spec =

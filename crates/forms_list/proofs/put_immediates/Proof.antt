@@ -48,7 +48,7 @@ put-line-requires c κs =
     let t = c.loop-i-test.true in
     let e : a.least + (l.i - a.least) ≡ l.i = omega (arith, l.invariant.1) in (
       (st.requires.0.0, st.requires.0.1, omega (arith, st.requires.0.2, t), omega arith, omega arith, st.requires.0.3),
-      subst (λ (i : ℕ). Room l.buf-1 l.end (row a.operation a.arrangement a.m i)) e
+      subst (λ (i : ℕ). Room l.buf l.end (row a.operation a.arrangement a.m i)) e
           (room_next (rows a.operation a.arrangement a.least a.m) (suc a.most - a.least) (l.i - a.least) (omega (arith, l.invariant.1, t)) st.requires.1 l.invariant.0),
     )
 
@@ -84,7 +84,7 @@ returns c =
     let l = c.loop-i in
     let a = c.args in
     let e : l.i - a.least ≡ suc a.most - a.least = omega (arith, l.invariant.1, l.invariant.2, c.loop-i-test.false) in
-    subst (λ (j : ℕ). Wrote a.buf.now a.at (up_to j (rows a.operation a.arrangement a.least a.m)) l.end l.buf-1) e l.invariant.0
+    subst (λ (j : ℕ). Wrote a.buf.now a.at (up_to j (rows a.operation a.arrangement a.least a.m)) l.end l.buf) e l.invariant.0
 
 pub put_immediates_spec : {M : Type 1} → statement M
 put_immediates_spec =

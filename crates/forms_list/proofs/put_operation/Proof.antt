@@ -52,7 +52,7 @@ returns c =
     let l = c.loop-arrangement in
     let a = c.args in
     let e : l.arrangement ≡ 7 = omega (arith, l.invariant.1, c.loop-arrangement-test.false) in
-    subst (λ (j : ℕ). Wrote a.buf.now a.at (up_to j (λ v. arrangement_text a.operation v)) l.end l.buf-1) e l.invariant.0
+    subst (λ (j : ℕ). Wrote a.buf.now a.at (up_to j (λ v. arrangement_text a.operation v)) l.end l.buf) e l.invariant.0
 
 pub put_operation_spec : {M : Type 1} → statement M
 put_operation_spec =

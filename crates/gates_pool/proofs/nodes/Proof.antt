@@ -30,16 +30,16 @@ node-requires c κs =
     node-ready l.loop-n.invariant.2 k t.loop-n-test.true p.0 p.1 p.2 s.requires.1
 
 add-n : tie.Need-overflow_add-n invariant-loop-n decreases-loop-n
-add-n c = let t = c in omega (arith, t.loop-test.taken, t.fits.count)
+add-n c = let t = c in omega (arith, t.loop-n-test.true, t.fits.count)
 
 loop-less : tie.Need-loop-n-smaller invariant-loop-n decreases-loop-n
-loop-less c = let t = c in omega (arith, t.loop-test.taken)
+loop-less c = let t = c in omega (arith, t.loop-n-test.true)
 
 loop-again : tie.Need-loop-n-preserved invariant-loop-n decreases-loop-n
 loop-again c =
     let t = c in
     let l = t.loop-n in
-    (omega (arith, t.loop-test.taken), search rules, nodes-more l.inv.2 c.node-all.ensures)
+    (omega (arith, t.loop-n-test.true), search rules, nodes-more l.invariant.2 c.node-all.ensures)
 
 same_length : tie.Need-shape_of-graph invariant-loop-n decreases-loop-n
 same_length c = c.loop-n.invariant.2.grown.long

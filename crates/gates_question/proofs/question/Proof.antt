@@ -74,7 +74,7 @@ returns-2 c =
     let p = passed e.before.before.before.before.before.before.before.before.before.before.before.before.before.before.before.before in
     let made = e.differ-found.ensures in
     record {
-      number_is = sym d.if1.left ∙ d.refusal-number.ensures;
+      number_is = sym d.if-number-ne0.false ∙ d.refusal-number.ensures;
       refused = λ h. absurd (h refl);
       done = λ z. asks p d.both-made.ensures made;
       few = few p d.both-made.ensures made;

@@ -43,7 +43,7 @@ move-one-requires c κs =
     let s = c in
     let a = s.args in
     let l = t.loop-m in (
-      (s.requires.1.0.1, omega arith, l.inv.1, omega arith),
+      (s.requires.1.0.1, omega arith, l.invariant.1, omega arith),
       ((omega arith, omega (arith, long c.before.before), omega arith), word_small a.second.now a.d l.m s.requires.0.0 c.loop-m-test.true (omega arith)),
     )
 
@@ -64,8 +64,8 @@ loop-again c =
     let more = tested.loop-m-test.true in (
       omega arith,
       omega arith,
-      λ x y. second_at a.first.now a.c a.second.now a.d x y s.requires.1.0.1 s.requires.0.2 _ l.out-1 _ l.m l.inv.1 more (omega (arith, long c.before.before.before.before.before))
-          (moved-parts a.second.now a.d l.m s.requires.0.0 more a.c) moved.move_one.ensures (l.inv.2 x y),
+      λ x y. second_at a.first.now a.c a.second.now a.d x y s.requires.1.0.1 s.requires.0.2 _ l.out-1 _ l.m l.invariant.1 more (omega (arith, long c.before.before.before.before.before))
+          (moved-parts a.second.now a.d l.m s.requires.0.0 more a.c) moved.move_one.ensures (l.invariant.2 x y),
     )
 
 same_length : tie.Need-shape_of-out invariant-loop-m decreases-loop-m

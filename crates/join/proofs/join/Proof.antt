@@ -59,7 +59,7 @@ returns-2 c =
     let e = c in
     let a = e.args in
     let p = passed c.before.before.before.before.before.before.before.before in
-    all_done a.first.now a.c a.second.now a.d a.x a.y a.out.now e.join_number-number.ensures (omega (arith, e.if1.left))
+    all_done a.first.now a.c a.second.now a.d a.x a.y a.out.now e.join_number-number.ensures (omega (arith, e.if-number-gt0.false))
     (eq-at a.first.now a.c a.second.now a.d a.x a.y p.first-starts.enough p.second-starts.enough a.out.now _ _
     (omega (arith, p.room, (t.copy_pools.ensures 0 0).long)) q.put_eq.ensures (t.copy_pools.ensures a.x a.y))
 

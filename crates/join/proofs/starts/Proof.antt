@@ -52,7 +52,7 @@ returns-3 c =
     let t = c in
     let a = t.args in
     not-var a.pool.now a.count
-    (rules-bad a.pool.now t.loop-n.n a.count (omega (arith, t.if2.left)) (sym c.is_register.ensures ∙ not-true _ c.if-not-is_register.true-raw))
+    (rules-bad a.pool.now t.loop-n.n a.count (omega (arith, t.if-count-lt32.false)) (sym c.is_register.ensures ∙ not-true _ c.if-not-is_register.true-raw))
 
 add-n : tie.Need-overflow_add-n invariant-loop-n decreases-loop-n
 add-n c = omega arith

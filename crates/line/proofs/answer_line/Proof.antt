@@ -39,8 +39,8 @@ d_is : (c : tie.After-lower_block-answer) → get_or c.fields_of-numbers.result 
 d_is c = ap (λ (z : List ℕ). get_or z 3 0) c.fields_of-numbers.ensures
 
 node-is : (c : tie.After-get-node) → let l = c in
-    c.get-node.result.0 ≡ node_of l.lower_block-answer.result.map-1 (record_of l.args.line.now).d
-node-is c = let l = c in c.get-node.ensures ∙ ap (node_of l.lower_block-answer.result.map-1) (d_is c.before.before.before.before.before.before)
+    c.get-node.result.0 ≡ node_of l.lower_block-answer.result.map (record_of l.args.line.now).d
+node-is c = let l = c in c.get-node.ensures ∙ ap (node_of l.lower_block-answer.result.map) (d_is c.before.before.before.before.before.before)
 
 returns : tie.Need-returns-then-out-at
 returns c =
@@ -107,8 +107,8 @@ returns-4 c =
     let l = c in
     let q = c in
     let a = l.args in
-    let w = refused a.pool.now a.line.now a.out.now a.at q.if2.left (in-columns c.before.before.before.before.before.before.before.before.before.before.before.before) (one c.before.before.before.before.before.before.before.before) refusal.if-answer-gt0.true number.put_refusal-then-answer-gt0.ensures in
-    (w, (lowered-one a.pool.now a.line.now a.out.now a.at q.if2.left (in-columns c.before.before.before.before.before.before.before.before.before.before.before.before) (one c.before.before.before.before.before.before.before.before), inside (places a.pool.now) a.line.now w))
+    let w = refused a.pool.now a.line.now a.out.now a.at q.if-out-at-lt-ANSWER_ROOM.false (in-columns c.before.before.before.before.before.before.before.before.before.before.before.before) (one c.before.before.before.before.before.before.before.before) refusal.if-answer-gt0.true number.put_refusal-then-answer-gt0.ensures in
+    (w, (lowered-one a.pool.now a.line.now a.out.now a.at q.if-out-at-lt-ANSWER_ROOM.false (in-columns c.before.before.before.before.before.before.before.before.before.before.before.before) (one c.before.before.before.before.before.before.before.before), inside (places a.pool.now) a.line.now w))
 
 array-read-get : tie.Need-bounds-numbers-3
 array-read-get c = search rules
@@ -139,8 +139,8 @@ returns-5 c =
     let l = c in
     let q = c in
     let a = l.args in
-    let w = done a.pool.now a.line.now a.out.now a.at _ q.if2.left (in-columns c.before.before.before.before.before.before.before.before.before.before.before.before.before.before) (one c.before.before.before.before.before.before.before.before.before.before) (accepted c.before.before.before.before.before.before) (node-is c.before.before.before.before) term.put_term.ensures in
-    (w, (lowered-one a.pool.now a.line.now a.out.now a.at q.if2.left (in-columns c.before.before.before.before.before.before.before.before.before.before.before.before.before.before) (one c.before.before.before.before.before.before.before.before.before.before), inside (places a.pool.now) a.line.now w))
+    let w = done a.pool.now a.line.now a.out.now a.at _ q.if-out-at-lt-ANSWER_ROOM.false (in-columns c.before.before.before.before.before.before.before.before.before.before.before.before.before.before) (one c.before.before.before.before.before.before.before.before.before.before) (accepted c.before.before.before.before.before.before) (node-is c.before.before.before.before) term.put_term.ensures in
+    (w, (lowered-one a.pool.now a.line.now a.out.now a.at q.if-out-at-lt-ANSWER_ROOM.false (in-columns c.before.before.before.before.before.before.before.before.before.before.before.before.before.before) (one c.before.before.before.before.before.before.before.before.before.before), inside (places a.pool.now) a.line.now w))
 
 pub answer_line_spec : {M : Type 1} → statement M
 answer_line_spec =

@@ -53,7 +53,7 @@ add-n c =
     omega arith
 
 loop-less : tie.Need-loop-i-smaller-then-n-held invariant-loop-i decreases-loop-i
-loop-less c = omega (arith, c.loop-test.taken)
+loop-less c = omega (arith, c.loop-i-test.true)
 
 loop-again : tie.Need-loop-i-preserved-then-n-held invariant-loop-i decreases-loop-i
 loop-again c =
@@ -64,7 +64,7 @@ loop-again c =
     same-held s.held.now s.len (drop s.from s.input.now) s.from (get_or s.input.now j 0) (drop (j + 1) s.input.now) o.if-b-eq10.false c.if-n-held.true (next c.before.before)
 
 loop-less-2 : tie.Need-loop-i-smaller invariant-loop-i decreases-loop-i
-loop-less-2 c = omega (arith, c.loop-test.taken)
+loop-less-2 c = omega (arith, c.loop-i-test.true)
 
 loop-again-2 : tie.Need-loop-i-preserved invariant-loop-i decreases-loop-i
 loop-again-2 c =

@@ -68,7 +68,7 @@ returns c =
     let l = c.loop-j in
     let a = c.args in
     let e : l.j ≡ line_count a.bytes.now = omega (arith, l.invariant.1, l.invariant.2, c.loop-j-test.false) in
-    subst (λ (j : ℕ). Wrote a.records.now 0 (up_to j (rows a.bytes.now)) l.end l.records-1) e l.invariant.0
+    subst (λ (j : ℕ). Wrote a.records.now 0 (up_to j (rows a.bytes.now)) l.end l.records) e l.invariant.0
 
 pub put_numbers_spec : {M : Type 1} → statement M
 put_numbers_spec =

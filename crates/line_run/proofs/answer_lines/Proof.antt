@@ -72,12 +72,12 @@ gather-requires c κs = tt
 slice-reshare-prefix-answer-line : tie.Need-slice_bounds-answer_line-end invariant-loop-next decreases-loop-next
 slice-reshare-prefix-answer-line c =
     let g = c in
-    omega (arith, fits g, g.gather-g.kept.0)
+    omega (arith, fits g, g.gather.kept.0)
 
 slice-aggregate-answer-line : tie.Need-slice_bounds-answer_line-end-then-g invariant-loop-next decreases-loop-next
 slice-aggregate-answer-line c =
     let g = c in
-    sym (length-take-le _ _ (omega (arith, fits g, g.gather-g.kept.0)))
+    sym (length-take-le _ _ (omega (arith, fits g, g.gather.kept.0)))
 
 answer-line-requires : tie.Need-answer_line-output-requires invariant-loop-next decreases-loop-next
 answer-line-requires c κs = tt
@@ -86,7 +86,7 @@ answer-line-requires c κs = tt
 loop-less : tie.Need-loop-next-smaller-then-g invariant-loop-next decreases-loop-next
 loop-less c =
     let g = c in
-    omega (arith, more g, g.loop-test.taken)
+    omega (arith, more g, g.loop-next-test.true)
 
 loop-again : tie.Need-loop-next-preserved-then-g invariant-loop-next decreases-loop-next
 loop-again c =
@@ -99,13 +99,13 @@ loop-again c =
     let same-places : p ≡ places l.args.pool.now = ap places_in i.2 in
     let turned =
     turn-ended p l.loop-next.held l.args.input.now l.loop-next.len l.loop-next.next g.gather-g.result _ (holds-25 g) g.gather-g.ensures
-    t.if2.taken i.1 (omega (arith, g.if1.left)) a.answer_line-output.ensures.0
+    t.if-g.true i.1 (omega (arith, g.if-out-output-lt-ANSWER_ROOM.false)) a.answer_line-output.ensures.0
     in (
-      omega (arith, fits g, g.gather-g.kept.0),
+      omega (arith, fits g, g.gather.kept.0),
       a.answer_line-output.ensures.1.1 i.1,
-      a.answer_line-output.kept.0 ∙ i.2,
-      g.gather-g.kept.0 ∙ i.3,
-      a.answer_line-output.kept.1.1.0 ∙ i.4,
+      a.answer-line.kept.0 ∙ i.2,
+      g.gather.kept.0 ∙ i.3,
+      a.answer-line.kept.1.1.0 ∙ i.4,
       omega (arith, i.5, more g),
       λ e. absurd (omega (arith, i.5, more g, e)),
       λ rest. rw (sym same-places) (turned rest) ∙ i.7 rest,
@@ -115,7 +115,7 @@ loop-again c =
 loop-less-2 : tie.Need-loop-next-smaller invariant-loop-next decreases-loop-next
 loop-less-2 c =
     let g = c in
-    omega (arith, more g, g.loop-test.taken)
+    omega (arith, more g, g.loop-next-test.true)
 
 loop-again-2 : tie.Need-loop-next-preserved invariant-loop-next decreases-loop-next
 loop-again-2 c =
@@ -126,10 +126,10 @@ loop-again-2 c =
     let turned =
     turn-open p l.loop-next.held l.args.input.now l.loop-next.len l.loop-next.next g.gather-g.result _ (holds-25 g) g.gather-g.ensures c.if-g.false
     in (
-      omega (arith, fits g, g.gather-g.kept.0),
+      omega (arith, fits g, g.gather.kept.0),
       i.1,
       i.2,
-      g.gather-g.kept.0 ∙ i.3,
+      g.gather.kept.0 ∙ i.3,
       i.4,
       omega (arith, i.5, more g),
       λ e. absurd (omega (arith, i.5, more g, e)),

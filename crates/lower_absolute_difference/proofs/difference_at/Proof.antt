@@ -64,7 +64,7 @@ returns c =
     let l-extract-lane = c in
     let s = c in
     let w = s.requires.1.1 in
-    difference-added s.args.signed s.args.accumulate w.0 w.1 w.2 w.3 l-if1.if1.taken
+    difference-added s.args.signed s.args.accumulate w.0 w.1 w.2 w.3 l-if1.if-accumulate.true
     l-extract-lane.extract_lane-a.ensures l-extract-lane2.extract_lane-b.ensures l-difference.absolute_difference_lane-difference.ensures
     l-extract-lane3.extract_lane-previous.ensures l-bv.bv.ensures
 

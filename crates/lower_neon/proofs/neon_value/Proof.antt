@@ -32,7 +32,7 @@ most : (s : tie.Start) → let a = s.args.shape in (5 * a.lane_bits + 2) * a.lan
 most s = omega (arith, nodes-most s.args.shape.lane_bits s.args.shape.lanes (eight s) (wide s).3)
 
 -- the sources that it reads and what it asks of its lanes, once the operation is known to be op
-asked : (s : tie.Start) {op : NeonOp} → s.args.shape.op-1 ≡ op → let a = s.args in
+asked : (s : tie.Start) {op : NeonOp} → s.args.shape.op ≡ op → let a = s.args in
     Ready a.count a.second a.d a.shape.lane_bits a.shape.lanes a.shape.source_index.0 op
 asked s e =
     let a = s.args in

@@ -44,13 +44,13 @@ extract-lane-requires-2 c κs =
     omega (arith, s.requires.0, s.requires.1.0.1 (used c.before), u.extract_lane-a.ensures.sized, fits c.before.before.before.before.before.before.before)
 
 second : (c : tie.Joined-uses_second) → let u = c in let s = u.args in let a = u.extract_lane-a in
-    Second a.last.0 a.result c.if1.pool-1 c.if1.b (uses_second s.kind) s.second u.source_bits-bits.result s.index.0
+    Second a.last.0 a.result c.if1.pool c.if1.b (uses_second s.kind) s.second u.source_bits-bits.result s.index.0
 second c =
     let e = sym c.uses_second.ensures in
     ⊎_elim (λ w. inl (e ∙ w.0.taken, rw (w.5, w.6) w.2.ensures)) (λ w. inr (e ∙ w.0.left, w.1, w.2)) c.if-uses_second.branch
 
 -- what both take
-taken : (c : tie.Joined-uses_second) → let u = c in let s = u.args in Both s.pool.now s.count c.if1.pool-1 u.extract_lane-a.result c.if1.b
+taken : (c : tie.Joined-uses_second) → let u = c in let s = u.args in Both s.pool.now s.count c.if1.pool u.extract_lane-a.result c.if1.b
 taken c = both-sized c.extract_lane-a.ensures (second c)
 
 -- ---- the lane

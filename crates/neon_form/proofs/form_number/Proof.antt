@@ -31,7 +31,7 @@ formed : (c : tie.Else-code-eq0) → let a = c.args in (is_arrangement a.arrange
     × (form_code_at a.operation a.arrangement ≡ form_code (op c.before.before) (arrangement c.before.before))
 formed c =
     let o = c in
-    with-form _ _ o.if1.left o.if2.left (λ z. c.if-code-eq0.false (c.form_code-code.ensures ∙ z))
+    with-form _ _ o.if-operation-lt1.false o.if-operation-gt67.false (λ z. c.if-code-eq0.false (c.form_code-code.ensures ∙ z))
 
 left : (c : tie.Else-code-eq0) → let a = c.args in
     form_number a.operation a.arrangement a.i 0

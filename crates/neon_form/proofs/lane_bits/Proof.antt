@@ -7,27 +7,27 @@ use Rattle.neon_form.proofs.lane_bits.Tie as tie
 
 returns : tie.Need-returns-in-0
 unfolding arrangement_at arrangements
-returns c = rw c.match.keys1 refl
+returns c = rw c.in-0.is refl
 
 returns-2 : tie.Need-returns-in-1
 unfolding arrangement_at arrangements
-returns-2 c = rw c.match.keys2 refl
+returns-2 c = rw c.in-1.is refl
 
 returns-3 : tie.Need-returns-in-2
 unfolding arrangement_at arrangements
-returns-3 c = rw c.match.keys3 refl
+returns-3 c = rw c.in-2.is refl
 
 returns-4 : tie.Need-returns-in-3
 unfolding arrangement_at arrangements
-returns-4 c = rw c.match.keys4 refl
+returns-4 c = rw c.in-3.is refl
 
 returns-5 : tie.Need-returns-in-4
 unfolding arrangement_at arrangements
-returns-5 c = rw c.match.keys5 refl
+returns-5 c = rw c.in-4.is refl
 
 returns-6 : tie.Need-returns-in-5
 unfolding arrangement_at arrangements
-returns-6 c = rw c.match.keys6 refl
+returns-6 c = rw c.in-5.is refl
 
 returns-7 : tie.Need-returns-in_default
 unfolding arrangement_at arrangements

@@ -17,13 +17,13 @@ sub-result-2 : tie.Need-overflow_sub-result-in_default
 sub-result-2 c = let s = c in omega (arith, quotient s.args.bits s.requires.0 s.requires.1)
 
 returns : tie.Need-returns-in-1
-returns c o v h e = most-none (form o).immediate c.args.bits (sym (parts c.args.code o v h e).row ∙ c.match.keys1)
+returns c o v h e = most-none (form o).immediate c.args.bits (sym (parts c.args.code o v h e).row ∙ c.in-1.is)
 
 returns-2 : tie.Need-returns-in-2
-returns-2 c o v h e = most-left (form o).immediate c.args.bits (sym (parts c.args.code o v h e).row ∙ c.match.keys2)
+returns-2 c o v h e = most-left (form o).immediate c.args.bits (sym (parts c.args.code o v h e).row ∙ c.in-2.is)
 
 returns-3 : tie.Need-returns-in-3
-returns-3 c o v h e = most-right (form o).immediate c.args.bits (sym (parts c.args.code o v h e).row ∙ c.match.keys3)
+returns-3 c o v h e = most-right (form o).immediate c.args.bits (sym (parts c.args.code o v h e).row ∙ c.in-3.is)
 
 returns-4 : tie.Need-returns-in_default
 returns-4 c o v h e =

@@ -40,7 +40,7 @@ module _ (c : tie.After-width_of) where
   one = c.before.before.before.before
 
   wide : c.width_of.result ≡ w_a (ws (word one)) (n (word one))
-  wide = width-before (ws (word one)) (n (word one)) (operand-is one) one.if1.left c.width_of.ensures.0
+  wide = width-before (ws (word one)) (n (word one)) (operand-is one) one.if-n-rest.false c.width_of.ensures.0
 
 cut-hi-requires : tie.Need-cut_hi-hi-requires
 cut-hi-requires c κs = search rules
@@ -92,7 +92,7 @@ returns-4 c =
     let w = word o in
     let own : Own (ws w) (n w) l-width-of2.width_of-2.result (high w).cut_hi-hi.result.0 w.before.cut_lo-lo.result.0 l-set-of.set_of.result =
     record { width_is = l-width-of2.width_of-2.ensures.0; x-is = (high w).cut_hi-hi.ensures; y-is = w.before.cut_lo-lo.ensures; set_is = l-set-of.set_of.ensures.0 } in
-    extract-at (ws w) (n w) own (only o) v.if-hi-lo.false l-if3.if-width_of-hi.false (wide v) (set_before (ws w) (n w) (operand-is o) o.if1.left c.set_of-2.ensures.0)
+    extract-at (ws w) (n w) own (only o) v.if-hi-lo.false l-if3.if-width_of-hi.false (wide v) (set_before (ws w) (n w) (operand-is o) o.if-n-rest.false c.set_of-2.ensures.0)
 
 pub extract_ok_spec : {M : Type 1} → statement M
 extract_ok_spec =

@@ -82,8 +82,8 @@ returns-5 c =
     let m = c in
     let z = c in
     let a = z.args in
-    accepted a.graph.now a.count a.l.0 a.words.now (length a.marks.now) (length a.starts.now) (good c.before.before.before.before.before.before.before.before.before.before.before) m.if2.left
-    m.if3.left s.if4.left (sym r.refused_step-step.ensures ∙ c.if-step-eq0.true)
+    accepted a.graph.now a.count a.l.0 a.words.now (length a.marks.now) (length a.starts.now) (good c.before.before.before.before.before.before.before.before.before.before.before) m.if-variables-literal.false
+    m.if-marks-limit.false s.if-starts-words.false (sym r.refused_step-step.ensures ∙ c.if-step-eq0.true)
 
 same-length-3 : tie.Need-shape_of-marks
 same-length-3 c = search rules
@@ -98,8 +98,8 @@ returns-6 c =
     let m = c in
     let z = c in
     let a = z.args in
-    refused a.graph.now a.count a.l.0 a.words.now (length a.marks.now) (length a.starts.now) (good c.before.before.before.before.before.before.before.before.before.before.before) m.if2.left
-    m.if3.left s.if4.left (λ e. c.if-step-eq0.false (r.refused_step-step.ensures ∙ e)) r.refused_step-step.result r.refused_step-step.ensures
+    refused a.graph.now a.count a.l.0 a.words.now (length a.marks.now) (length a.starts.now) (good c.before.before.before.before.before.before.before.before.before.before.before) m.if-variables-literal.false
+    m.if-marks-limit.false s.if-starts-words.false (λ e. c.if-step-eq0.false (r.refused_step-step.ensures ∙ e)) r.refused_step-step.result r.refused_step-step.ensures
 
 pub check_refutation_spec : {M : Type 1} → statement M
 check_refutation_spec =

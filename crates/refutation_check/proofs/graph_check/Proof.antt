@@ -40,7 +40,7 @@ returns-2 : tie.Need-returns-then-limit-left_of invariant-loop-n decreases-loop-
 returns-2 c =
     let t = c in
     let a = t.args in
-    sym (left-bad a.graph.now a.count t.loop-n.n t.loop-test.taken (rw c.left_of.ensures at c.if-limit-left_of.true))
+    sym (left-bad a.graph.now a.count t.loop-n.n t.loop-n-test.true (rw c.left_of.ensures at c.if-limit-left_of.true))
 
 right-of-requires : tie.Need-right_of-requires invariant-loop-n decreases-loop-n
 right-of-requires c κs = search rules
@@ -49,7 +49,7 @@ returns-3 : tie.Need-returns-then-limit-right_of invariant-loop-n decreases-loop
 returns-3 c =
     let t = c in
     let a = t.args in
-    sym (right-bad a.graph.now a.count t.loop-n.n t.loop-test.taken (rw c.right_of.ensures at c.if-limit-right_of.true))
+    sym (right-bad a.graph.now a.count t.loop-n.n t.loop-n-test.true (rw c.right_of.ensures at c.if-limit-right_of.true))
 
 add-n : tie.Need-overflow_add-n invariant-loop-n decreases-loop-n
 add-n c = omega arith
@@ -65,7 +65,7 @@ loop-again c =
     let a = t.args in
     let l = t.loop-n in (
       omega arith,
-      gates-more a.graph.now l.n l.inv.1 (rw o.left_of.ensures at r.if-limit-left_of.false) (rw r.right_of.ensures at c.if-limit-right_of.false),
+      gates-more a.graph.now l.n l.invariant.1 (rw o.left_of.ensures at r.if-limit-left_of.false) (rw r.right_of.ensures at c.if-limit-right_of.false),
     )
 
 returns-4 : tie.Need-returns invariant-loop-n decreases-loop-n

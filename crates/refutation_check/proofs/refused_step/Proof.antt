@@ -30,27 +30,27 @@ marks_now c = c.step-next.new.1.1.1.1.1.1.1.0
 -- the step is accepted, and the next one's place
 accepted :
     (c : tie.Else-next-eq0 invariant-loop-count decreases-loop-count)
-    → let s = c.before.before.before in let t = turn s in
-    (ok_at t ≡ true) × (s.step-next.result ≡ after_step (entry t).args.words.now t.loop-count.at)
+    → let s = c in let t = c in
+    (ok_at c.before.before.before.before.before ≡ true) × (s.step-next.result ≡ after_step t.args.words.now t.loop-count.at)
 accepted c =
-    let s = c.before.before.before in
-    let t = turn s in
-    let ws = (entry t).args.words.now in
-    let h = skipped ws t.loop-count.at in skip-some (ok_at t) (h + get_or ws h 0) s.step-next.result s.step-next.ensures.0 c.if-next-eq0.false
+    let s = c in
+    let t = c in
+    let ws = t.args.words.now in
+    let h = skipped ws t.loop-count.at in skip-some (ok_at c.before.before.before.before.before) (h + get_or ws h 0) s.step-next.result s.step-next.ensures.0 c.if-next-eq0.false
 
 long :
-    (c : tie.After-step-next invariant-loop-count decreases-loop-count) → length (marks_now c) ≡ length (entry (turn c)).args.marks.now
-long c = c.step-next.auto.1.1.1.1.1.1.1.0 ∙ (turn c).loop-count.invariant.0.ready.room ∙ sym (entry (turn c)).requires.2
+    (c : tie.After-step-next invariant-loop-count decreases-loop-count) → length (marks_now c) ≡ length c.args.marks.now
+long c = c.step-next.auto.1.1.1.1.1.1.1.0 ∙ c.loop-count.invariant.0.ready.room ∙ sym c.requires.2
 
 -- the step's place is in the words, and it has a place of its own
 within :
     (c : tie.Else-next-eq0 invariant-loop-count decreases-loop-count)
-    → let t = turn c.before.before.before in let ws = (entry t).args.words.now in let l = t.loop-count in
+    → let t = c in let ws = t.args.words.now in let l = t.loop-count in
     (l.at < after_step ws l.at) × (after_step ws l.at ≤ length ws) × (l.k < length l.starts)
-    × (length l.starts ≡ length (entry t).args.starts.now)
+    × (length l.starts ≡ length t.args.starts.now)
 within c =
-    let l = (turn c.before.before.before).loop-count in
-    let ok = (accepted c).0 in (omega arith, step-ends l.inv.0 ok, place-left l.inv.0 ok, l.inv.1)
+    let l = c.loop-count in
+    let ok = (accepted c).0 in (omega arith, step-ends l.invariant.0 ok, place-left l.invariant.0 ok, l.invariant.1)
 
 clear-requires : tie.Need-clear-requires invariant-loop-count decreases-loop-count
 clear-requires c κs = search rules
@@ -120,8 +120,8 @@ loop-again c =
     let t = c in
     let l = t.loop-count in
     let p = accepted z in (
-      rw p.1 (going_on l.inv.0 p.0 (marks_now c.before.before.before.before.before) c.if-words-at-eq0.false s.step-next.auto.1.1.1.1.1.1.1.0 s.step-next.ensures.1),
-      length-set l.starts l.k l.at ∙ l.inv.1,
+      rw p.1 (going_on l.invariant.0 p.0 (marks_now c.before.before.before.before.before) c.if-words-at-eq0.false s.step-next.auto.1.1.1.1.1.1.1.0 s.step-next.ensures.1),
+      length-set l.starts l.k l.at ∙ l.invariant.1,
     )
 
 pub refused_step_spec : {M : Type 1} → statement M

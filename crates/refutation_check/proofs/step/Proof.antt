@@ -27,34 +27,34 @@ steps_in s = let a = s.args in clauses_to a.words.now a.starts.now a.l a.k
 -- the clause is there, and the hints after it
 clause-there :
     (c : tie.Else-hints-eq0)
-    → let s = entry c.before in (whole (drop s.args.at (words_in s)) ≡ true) × (c.before.skip-hints.result ≡ skipped (words_in s) s.args.at)
+    → let s = c in (whole (drop s.args.at (words_in c.before.before.before.before.before.before)) ≡ true) × (c.skip-hints.result ≡ skipped (words_in c.before.before.before.before.before.before) s.args.at)
 clause-there c =
-    let s = entry c.before in
+    let s = c in
     let at = s.args.at in
-    skip-some (whole (drop at (words_in s))) (at + get_or (words_in s) at 0) c.before.skip-hints.result c.before.skip-hints.ensures c.if-hints-eq0.false
+    skip-some (whole (drop at (words_in c.before.before.before.before.before.before))) (at + get_or (words_in c.before.before.before.before.before.before) at 0) c.skip-hints.result c.skip-hints.ensures c.if-hints-eq0.false
 
 hints-there :
     (c : tie.Else-end-eq0)
-    → let h = c.before.before.before in let ws = words_in (entry h) in let at = h.skip-hints.result in
-    (whole (drop at ws) ≡ true) × (c.before.skip-end.result ≡ skipped ws at)
+    → let h = c in let ws = words_in c.before.before.before.before.before.before.before.before in let at = h.skip-hints.result in
+    (whole (drop at ws) ≡ true) × (c.skip-end.result ≡ skipped ws at)
 hints-there c =
-    let h = c.before.before.before in
-    let ws = words_in (entry h) in
-    let at = h.skip-hints.result in skip-some (whole (drop at ws)) (at + get_or ws at 0) c.before.skip-end.result c.before.skip-end.ensures c.if-end-eq0.false
+    let h = c in
+    let ws = words_in c.before.before.before.before.before.before.before.before in
+    let at = h.skip-hints.result in skip-some (whole (drop at ws)) (at + get_or ws at 0) c.skip-end.result c.skip-end.ensures c.if-end-eq0.false
 
 -- the ends of the clause and of the hints
 ends :
     (c : tie.Else-end-eq0)
-    → let h = c.before.before.before in let s = entry h in let e = c.before.skip-end.result in
-    (s.args.at + 1 ≤ h.skip-hints.result) × (h.skip-hints.result + 1 ≤ e) × (e ≤ length (words_in s))
+    → let h = c in let s = c in let e = c.skip-end.result in
+    (s.args.at + 1 ≤ h.skip-hints.result) × (h.skip-hints.result + 1 ≤ e) × (e ≤ length (words_in c.before.before.before.before.before.before.before.before))
 ends c =
-    let h = c.before.before.before in
-    let s = entry h in
+    let h = c in
+    let s = c in
     let p = clause-there c.before.before in
     let q = hints-there c in (
       omega (arith, p.1),
       omega (arith, q.1),
-      omega (arith, q.1, whole-fits (words_in s) h.skip-hints.result q.0),
+      omega (arith, q.1, whole-fits (words_in c.before.before.before.before.before.before.before.before) h.skip-hints.result q.0),
     )
 
 -- past the marks
@@ -76,33 +76,33 @@ all-below c = sym c.set_false.ensures.answer ∙ not-false _ c.if-not-set_false.
 -- the answer of `conflict` is that of the step
 step_is :
     (c : tie.After-conflict)
-    → let z = c.before.before in let s = entry (both z).before.before.before in
-    c.conflict.result ≡ step_ok s.args.graph.now s.args.count (steps_in s) (drop s.args.at (words_in s))
+    → let z = c in let s = c in
+    c.conflict.result ≡ step_ok s.args.graph.now s.args.count (steps_in c.before.before.before.before.before.before.before.before.before.before.before.before.before.before.before) (drop s.args.at (words_in c.before.before.before.before.before.before.before.before.before.before.before.before.before.before.before))
 step_is c =
-    let z = c.before.before in
-    let b = both z in
-    let h = b.before.before.before in
-    let s = entry h in
+    let z = c in
+    let b = c in
+    let h = c in
+    let s = c in
     let a = s.args in
-    let ws = words_in s in
+    let ws = words_in c.before.before.before.before.before.before.before.before.before.before.before.before.before.before.before in
     let at = h.skip-hints.result in
-    let end = b.before.skip-end.result in
+    let end = b.skip-end.result in
     let clause = slice (a.at + 1) at ws in
     let f = clause-there b.before.before in
     let t = hints-there b in
-    let m = z.before.before.before.set_false.ensures.marks_are (not-false _ z.if-not-set_false.false-raw) in
+    let m = z.set_false.ensures.marks_are (not-false _ z.if-not-set_false.false-raw) in
     c.conflict.ensures.0
-    ∙ ap (λ (x : ℕ → Bool). refutation.conflict a.graph.now a.count (steps_in s) x (slice (at + 1) end ws))
-    (marked_more (marks_now z) 0 a.k (some-mark z)
-    ∙ ap (λ (x : ℕ → Bool). and_false x 0) (marked-clause a.marks.now (marks_now z) a.k clause s.requires.1 m))
-    ∙ sym (low a.graph.now a.count (steps_in s) ws a.at at end f.1 t.1 f.0 t.0 (all-below z))
+    ∙ ap (λ (x : ℕ → Bool). refutation.conflict a.graph.now a.count (steps_in c.before.before.before.before.before.before.before.before.before.before.before.before.before.before.before) x (slice (at + 1) end ws))
+    (marked_more (marks_now c.before.before) 0 a.k (some-mark c.before.before)
+    ∙ ap (λ (x : ℕ → Bool). and_false x 0) (marked-clause a.marks.now (marks_now c.before.before) a.k clause s.requires.1 m))
+    ∙ sym (low a.graph.now a.count (steps_in c.before.before.before.before.before.before.before.before.before.before.before.before.before.before.before) ws a.at at end f.1 t.1 f.0 t.0 (all-below z))
 
 after-conflict :
     (c : tie.After-conflict)
-    → length c.conflict.new.1.1.1.1.1.1.1.1.0 ≡ length (entry (both c.before.before).before.before.before).args.marks.now
+    → length c.conflict.new.1.1.1.1.1.1.1.1.0 ≡ length c.args.marks.now
 after-conflict c =
-    let z = c.before.before in
-    c.conflict.auto.1.1.1.1.1.1.1.1.0 ∙ length-set (marks_now z) 0 (entry (both z).before.before.before).args.k ∙ same-marks z
+    let z = c in
+    c.conflict.auto.1.1.1.1.1.1.1.1.0 ∙ length-set (marks_now c.before.before) 0 z.args.k ∙ same-marks c.before.before
 
 skip-requires : tie.Need-skip-hints-requires
 skip-requires c κs = search rules

@@ -34,19 +34,19 @@ steps_in s = let a = s.args in clauses_to a.words.now a.starts.now a.l a.k
 
 ready :
     (c : tie.At-loop-i invariant-loop-i decreases-loop-i)
-    → let a = (entry c).args in Ready a.graph.now a.count a.l a.words.now a.starts.now a.k c.loop-i.marks
-ready c = ready-again (entry c).requires.0 c.loop-i.invariant.1
+    → let a = c.args in Ready a.graph.now a.count a.l a.words.now a.starts.now a.k c.loop-i.marks
+ready c = ready-again c.requires.0 c.loop-i.invariant.1
 
 -- what the hint at i leaves
 left_is :
     (c : tie.After-left_of_hint-left invariant-loop-i decreases-loop-i)
-    → let l = (turn c).before.loop-i in let s = entry (turn c).before in let a = s.args in
-    c.left_of_hint-left.result ≡ cited a.graph.now a.count (steps_in s) (marked l.marks a.k) (get_or a.words.now l.i 0)
+    → let l = c.loop-i in let s = c in let a = s.args in
+    c.left_of_hint-left.result ≡ cited a.graph.now a.count (steps_in c.before.before.before.before.before.before.before.before.before) (marked l.marks a.k) (get_or a.words.now l.i 0)
 left_is c =
-    let l = (turn c).before.loop-i in
-    let s = entry (turn c).before in
+    let l = c.loop-i in
+    let s = c in
     let a = s.args in
-    c.left_of_hint-left.ensures ∙ ap (cited a.graph.now a.count (steps_in s) (marked l.marks a.k)) c.before.wide.ensures.0
+    c.left_of_hint-left.ensures ∙ ap (cited a.graph.now a.count (steps_in c.before.before.before.before.before.before.before.before.before) (marked l.marks a.k)) c.wide.ensures.0
 
 -- it is nothing, too much, or a literal of the graph
 left-low : (c : tie.After-left_of_hint-left invariant-loop-i decreases-loop-i) → c.left_of_hint-left.result < literal_of c.args.count + 2
@@ -61,33 +61,33 @@ two c = omega (arith, c.if-left-eq0.false, c.if-left-eq1.false)
 
 -- the mark that is set
 place-low :
-    (c : tie.After-negate invariant-loop-i decreases-loop-i) → let t = (turn c.before.before.before).before in c.negate.result < length t.loop-i.marks
+    (c : tie.After-negate invariant-loop-i decreases-loop-i) → let t = c in c.negate.result < length t.loop-i.marks
 place-low c =
-    let h = c.before.before.before in
-    let t = (turn h).before in
-    let n = inputs + (entry t).args.count in
+    let h = c in
+    let t = c in
+    let n = inputs + t.args.count in
     let room = (ready t).room in
     rw c.negate.ensures
-    (negated-low (h.left_of_hint-left.result - 2) n (length t.loop-i.marks) (omega (arith, left-low h, two c.before)) (omega (arith, room)))
+    (negated-low (h.left_of_hint-left.result - 2) n (length t.loop-i.marks) (omega (arith, left-low c.before.before.before, two c.before)) (omega (arith, room)))
 
 -- the hints from i on
 from-here :
     (c : tie.After-left_of_hint-left invariant-loop-i decreases-loop-i)
-    → let t = turn c in let l = t.before.loop-i in let s = entry t.before in let a = s.args in let left = c.left_of_hint-left.result in
+    → let t = c in let l = t.loop-i in let s = c in let a = s.args in let left = c.left_of_hint-left.result in
     let m = marked l.marks a.k in
     cond (eqb left 0) true
     (cond (eqb left 1) false
-    (refutation.conflict a.graph.now a.count (steps_in s) (and_false m (negated (left - 2))) (slice (l.i + 1) a.to a.words.now)))
-    ≡ refutation.conflict a.graph.now a.count (steps_in s) (marked a.marks.now a.k) (slice a.from a.to a.words.now)
+    (refutation.conflict a.graph.now a.count (steps_in c.before.before.before.before.before.before.before.before.before) (and_false m (negated (left - 2))) (slice (l.i + 1) a.to a.words.now)))
+    ≡ refutation.conflict a.graph.now a.count (steps_in c.before.before.before.before.before.before.before.before.before) (marked a.marks.now a.k) (slice a.from a.to a.words.now)
 from-here c =
-    let t = turn c in
-    let l = t.before.loop-i in
-    let s = entry t.before in
+    let t = c in
+    let l = t.loop-i in
+    let s = c in
     let a = s.args in
     let m = marked l.marks a.k in
-    sym (conflict-one a.graph.now a.count (steps_in s) m a.words.now l.i a.to c.left_of_hint-left.result t.loop-test.taken s.requires.2
+    sym (conflict-one a.graph.now a.count (steps_in c.before.before.before.before.before.before.before.before.before) m a.words.now l.i a.to c.left_of_hint-left.result t.loop-i-test.true s.requires.2
     (left_is c))
-    ∙ l.inv.3
+    ∙ l.invariant.3
 
 loop-holds : tie.Need-loop-i-init invariant-loop-i decreases-loop-i
 loop-holds c = (c.requires.1, refl, c.requires.3, refl)
@@ -150,8 +150,8 @@ loop-again c =
     let a = t.args in
     let at = c.negate.result in (
       omega arith,
-      length-set l.marks at a.k ∙ l.inv.1,
-      at-most-set l.marks at a.k (place-low c) l.inv.2,
+      length-set l.marks at a.k ∙ l.invariant.1,
+      at-most-set l.marks at a.k (place-low c) l.invariant.2,
       rw (marked_more l.marks at a.k (place-low c), c.negate.ensures)
           (rw (ne_eqb _ _ z.if-left-eq0.false, ne_eqb _ _ z.if-left-eq1.false) at (from-here h)),
     )

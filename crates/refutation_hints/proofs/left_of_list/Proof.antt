@@ -29,13 +29,13 @@ fits s = whole-fits s.args.words.now s.args.at s.requires.0
 -- the word at i is a literal of the graph, and so are those after it
 literal :
     (c : tie.In-loop-i invariant-loop-i decreases-loop-i)
-    → let l = c.before.loop-i in let e = c.before.before in let a = (entry e).args in
+    → let l = c.loop-i in let e = c in let a = e.args in
     (get_or a.words.now l.i 0 < length a.marks.now)
     × (all_below (length a.marks.now) (slice (l.i + 1) (a.at + e.wide.result + 1) a.words.now) ≡ true)
 literal c =
-    let l = c.before.loop-i in
-    let e = c.before.before in
-    let a = (entry e).args in
+    let l = c.loop-i in
+    let e = c in
+    let a = e.args in
     let end = a.at + e.wide.result + 1 in
     let p = and_both (ltb (get_or a.words.now l.i 0) (length a.marks.now)) (all_below (length a.marks.now) (slice (l.i + 1) end a.words.now))
     (sym (below_one (length a.marks.now) a.words.now l.i end c.loop-i-test.true l.invariant.1) ∙ l.invariant.3) in (ltb-true _ _ p.0, p.1)

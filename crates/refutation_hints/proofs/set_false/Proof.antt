@@ -47,9 +47,9 @@ returns c =
     let ws = a.words.now in
     let far : ltb (get_or ws l.i 0) a.limit ≡ false = le-ltb (get_or ws l.i 0) a.limit (omega (arith, c.wide-l.ensures.0, c.if-limit-l.true)) in
     record {
-      answer = sym (sym l.inv.3 ∙ below_one a.limit ws l.i a.to t.loop-test.taken s.requires.1 ∙ rw far refl);
+      answer = sym (sym l.invariant.3 ∙ below_one a.limit ws l.i a.to t.loop-i-test.true s.requires.1 ∙ rw far refl);
       marks_are = λ e. absurd (false≢true e);
-      at_most = l.inv.2;
+      at_most = l.invariant.2;
     }
 
 mul-marks : tie.Need-offset_bounds-marks-l invariant-loop-i decreases-loop-i
@@ -77,17 +77,17 @@ loop-again c =
     let e = c.wide-l.ensures.0 in
     let later = among (slice (l.i + 1) a.to ws) in
     let near : ltb (get_or ws l.i 0) a.limit ≡ true = lt-ltb (get_or ws l.i 0) a.limit (omega (arith, e, c.if-limit-l.false)) in
-    let room : w < length l.marks = omega (arith, l.inv.1, s.requires.2, c.if-limit-l.false) in (
+    let room : w < length l.marks = omega (arith, l.invariant.1, s.requires.2, c.if-limit-l.false) in (
       omega arith,
-      length-set l.marks w a.k ∙ l.inv.1,
-      at-most-set l.marks w a.k room l.inv.2,
-      sym (below_one a.limit ws l.i a.to t.loop-test.taken s.requires.1 ∙ rw near refl) ∙ l.inv.3,
+      length-set l.marks w a.k ∙ l.invariant.1,
+      at-most-set l.marks w a.k room l.invariant.2,
+      sym (below_one a.limit ws l.i a.to t.loop-i-test.true s.requires.1 ∙ rw near refl) ∙ l.invariant.3,
       λ x.
           ap (λ (b : Bool). later x || b) (marked-set l.marks w a.k x room)
           ∙ ap (λ (n : ℕ). later x || (eqb x n || marked l.marks a.k x)) e
           ∙ or_swap (eqb x (get_or ws l.i 0)) (later x) (marked l.marks a.k x)
-          ∙ ap (λ (b : Bool). b || marked l.marks a.k x) (sym (among_one ws l.i a.to x t.loop-test.taken s.requires.1))
-          ∙ l.inv.4 x,
+          ∙ ap (λ (b : Bool). b || marked l.marks a.k x) (sym (among_one ws l.i a.to x t.loop-i-test.true s.requires.1))
+          ∙ l.invariant.4 x,
     )
 
 same-length-2 : tie.Need-shape_of-marks invariant-loop-i decreases-loop-i

@@ -24,7 +24,7 @@ limit-requires c κs = search rules
 returns : tie.Need-returns-then-s
 returns c =
     let second = c in
-    rw second.if1.taken (c.limit.ensures _ (fitting (omega arith)
+    rw second.if-s.true (c.limit.ensures _ (fitting (omega arith)
     (c.join.ensures 65 _ _ (omega arith) second.read.ensures second.read-then-s.ensures)))
 
 read-requires-3 : tie.Need-read-requires-2
@@ -42,7 +42,7 @@ limit-requires-2 c κs = search rules
 returns-2 : tie.Need-returns
 returns-2 c =
     let second = c in
-    rw second.if1.left (c.limit-2.ensures _ (fitting (omega arith)
+    rw second.if-s.false (c.limit-2.ensures _ (fitting (omega arith)
     (c.join-2.ensures 65 _ _ (omega arith) second.read-2.ensures second.read-3.ensures)))
 
 pub mixed_lane_spec : {M : Type 1} → statement M

@@ -6,8 +6,8 @@ use Rattle.run_lines.proofs.is_same.Tie as tie
 
 returns : tie.Need-returns
 returns c =
-    let a = c.before.before.before.before.args in
+    let a = c.args in
     same_words a.old.low a.old.high a.new.low a.new.high (omega arith) (omega arith)
 
-pub is-same-spec : {M : Type 1} → statement M
-is-same-spec = tie.close (tie.spec returns)
+pub is_same_spec : {M : Type 1} → statement M
+is_same_spec = tie.close (tie.spec returns)

@@ -6,22 +6,23 @@ use borrow.Author.Rules.{rules}
 use Rattle.run_lines.proofs.put_mark.Statement.{statement}
 use Rattle.run_lines.proofs.put_mark.Tie as tie
 
-returns : tie.Need-returns
-returns c = wrote_as (ap mark c.if1.true) (wrote_none _ _)
-
-slice-aggregate-put : tie.Need-slice-aggregate-put
-slice-aggregate-put c = search rules
+returns : tie.Need-returns-then-same
+returns c = wrote_as (ap mark c.if-same.true) (wrote_none _ _)
 
 put-requires : tie.Need-put-requires
 put-requires c κs = search rules
 
-same_length : tie.Need-same-length
+same_length : tie.Need-shape_of-buf
 same_length c = search rules
 
-returns-2 : tie.Need-returns-2
+returns-2 : tie.Need-returns
 returns-2 c =
-    let p = c.before.before in
-    wrote_as (ap mark p.before.before.before.if1.false) p.put.ensures
+    let p = c in
+    wrote_as (ap mark p.if-same.false) p.put.ensures
 
-pub put-mark-spec : {M : Type 1} → statement M
-put-mark-spec = tie.close (tie.spec returns slice-aggregate-put put-requires same_length returns-2)
+pub put_mark_spec : {M : Type 1} → statement M
+put_mark_spec = tie.close (tie.spec
+    returns
+    put-requires
+    same_length
+    returns-2)

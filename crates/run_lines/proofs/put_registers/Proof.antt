@@ -17,72 +17,66 @@ use Rattle.run_lines.proofs.put_registers.Tie as tie
 abbrev rows : (start after : List ℕ) → ℕ → List ℕ
 rows start after r = register_line r (registers_of start r) (registers_of after r)
 
-abbrev invariant-loop : tie.invariant-loop
-invariant-loop start after buf₀ r₀ end₀ buf r end =
+abbrev invariant-loop-r : tie.invariant-loop-r
+invariant-loop-r start after buf₀ r₀ end₀ buf r end =
     Wrote buf₀ 0 (up_to r (rows start.words after.words)) end buf × (end ≤ 39 * r) × (r ≤ 32) × (length buf ≡ length buf₀)
 
-abbrev decreases-loop : tie.decreases-loop
-decreases-loop start after buf₀ r₀ end₀ buf r end = 32 - r
+abbrev decreases-loop-r : tie.decreases-loop-r
+decreases-loop-r start after buf₀ r₀ end₀ buf r end = 32 - r
 
-abbrev entry : tie.At-loop invariant-loop decreases-loop → tie.Start invariant-loop decreases-loop
-entry c = c.before.before
-
-abbrev turn : tie.After-slice-known2 invariant-loop decreases-loop → tie.In-loop invariant-loop decreases-loop
-turn c = c.before.before.before.before.before.before
-
-loop-holds : tie.Need-loop-init invariant-loop decreases-loop
+loop-holds : tie.Need-loop-r-init invariant-loop-r decreases-loop-r
 loop-holds c =
-    let a = c.before.args in
+    let a = c.args in
     (wrote-first (rows a.start.words a.after.words) a.buf.now 0, omega arith, omega arith, refl)
 
-get-requires : tie.Need-get-requires invariant-loop decreases-loop
-get-requires c κs = c.loop-test.true
+get-requires : tie.Need-get-requires invariant-loop-r decreases-loop-r
+get-requires c κs = c.loop-r-test.true
 
-get-requires-2 : tie.Need-get-requires-2 invariant-loop decreases-loop
-get-requires-2 c κs = c.before.loop-test.true
+get-requires-2 : tie.Need-get-requires-in-loop-r invariant-loop-r decreases-loop-r
+get-requires-2 c κs = c.loop-r-test.true
 
-put-line-requires : tie.Need-put-line-requires invariant-loop decreases-loop
+put-line-requires : tie.Need-put_line-end-requires invariant-loop-r decreases-loop-r
 put-line-requires c κs =
-    let t = c.before.before.before in
-    (t.loop-test.true, omega (arith, t.before.loop.invariant, t.loop-test.true, (entry t.before).pre))
+    let t = c in
+    (t.loop-r-test.true, omega (arith, t.loop-r.invariant, t.loop-r-test.true, t.requires))
 
-add_r : tie.Need-overflow-add-r invariant-loop decreases-loop
-add_r c = omega (arith, (turn c).loop-test.true)
+add_r : tie.Need-overflow_add-r invariant-loop-r decreases-loop-r
+add_r c = omega (arith, c.loop-r-test.true)
 
-loop-less : tie.Need-loop-smaller invariant-loop decreases-loop
-loop-less c = omega (arith, (turn c).loop-test.true)
+loop-less : tie.Need-loop-r-smaller invariant-loop-r decreases-loop-r
+loop-less c = omega (arith, c.loop-r-test.true)
 
-loop-again : tie.Need-loop-preserved invariant-loop decreases-loop
+loop-again : tie.Need-loop-r-preserved invariant-loop-r decreases-loop-r
 loop-again c =
-    let p = c.before.before in
-    let new = p.before.before in
-    let old = new.before in
-    let l = old.before.before in
-    let a = (entry l).args in
-    let same = ap₂ (register_line l.loop.r) (sym old.get.ensures) (sym new.get2.ensures) in (
-      wrote-next (rows a.start.words a.after.words) l.loop.r l.loop.invariant.0 (wrote_as same p.put-line.ensures.0),
-      omega (arith, p.put-line.ensures.1, l.loop.invariant.1),
-      omega (arith, (turn c).loop-test.true),
-      wrote-length p.put-line.ensures.0 ∙ l.loop.invariant.3,
+    let p = c in
+    let new = c in
+    let old = c in
+    let l = c in
+    let a = l.args in
+    let same = ap₂ (register_line l.loop-r.r) (sym old.get.ensures) (sym new.get-in-loop-r.ensures) in (
+      wrote-next (rows a.start.words a.after.words) l.loop-r.r l.loop-r.invariant.0 (wrote_as same p.put_line-end.ensures.0),
+      omega (arith, p.put_line-end.ensures.1, l.loop-r.invariant.1),
+      omega (arith, c.loop-r-test.true),
+      wrote-length p.put_line-end.ensures.0 ∙ l.loop-r.invariant.3,
     )
 
-same_length : tie.Need-same-length invariant-loop decreases-loop
-same_length c = c.before.loop.invariant.3
+same_length : tie.Need-shape_of-buf invariant-loop-r decreases-loop-r
+same_length c = c.loop-r.invariant.3
 
-returns : tie.Need-returns invariant-loop decreases-loop
+returns : tie.Need-returns invariant-loop-r decreases-loop-r
 unfolding registers_text
 returns c =
-    let l = c.before.loop in
-    let a = (entry c.before).args in
-    let e : l.r ≡ 32 = omega (arith, l.invariant.2, c.loop-test.false) in
+    let l = c.loop-r in
+    let a = c.args in
+    let e : l.r ≡ 32 = omega (arith, l.invariant.2, c.loop-r-test.false) in
     (subst (λ (r : ℕ). Wrote a.buf.now 0 (up_to r (rows a.start.words a.after.words)) l.end l.buf) e l.invariant.0, omega (arith, l.invariant.1, l.invariant.2))
 
-pub put-registers-spec : {M : Type 1} → statement M
-put-registers-spec =
+pub put_registers_spec : {M : Type 1} → statement M
+put_registers_spec =
     tie.close
     (tie.spec
-    invariant-loop
-    decreases-loop
+    invariant-loop-r
+    decreases-loop-r
     loop-holds
     get-requires
     get-requires-2

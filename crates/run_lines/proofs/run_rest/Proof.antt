@@ -10,82 +10,70 @@ use Rattle.run_lines.proofs.run_rest.Tie as tie
 
 -- ---- places: the lines are read, the block is run
 
-abbrev entry : tie.After-read-lines → tie.Start
-entry c = c.before.before.before
-
-abbrev lines : tie.Else1 → tie.After-read-lines
-lines c = c.before.before.before
-
-abbrev accepted : tie.After-run → tie.Else1
-accepted c = c.before.before.before
-
-abbrev read : tie.After-run → tie.After-read-lines
-read c = lines (accepted c)
-
 -- the records of the lines fit into their array
-fit : (c : tie.Else1) → 6 * (lines c).read-lines.result.count ≤ 510
+fit : (c : tie.Else-read-gt0) → 6 * c.read_lines-read.result.count ≤ 510
 fit c =
-    let l = lines c in
-    lines_fit (entry l).args.rest.now l.read-lines.result refl l.read-lines.ensures c.if1.false
+    let l = c in
+    lines_fit l.args.rest.now l.read_lines-read.result refl l.read_lines-read.ensures c.if-read-gt0.false
 
 -- ---- needs
 
-slice-aggregate-read-lines : tie.Need-slice-aggregate-read-lines
+slice-aggregate-read-lines : tie.Need-slice_bounds-read_lines-end
 slice-aggregate-read-lines c = search rules
 
-read-lines-requires : tie.Need-read-lines-requires
+read-lines-requires : tie.Need-read_lines-read-requires
 read-lines-requires c κs = search rules
 
 refused-requires : tie.Need-refused-requires
 refused-requires c κs = search rules
 
-returns : tie.Need-returns
+returns : tie.Need-returns-then-read-gt0
 returns c =
-    let t = c.before in
-    let l = t.before.before.before in
-    let a = (entry l).args in
-    lines-refused a.rest.now l.read-lines.result refl l.read-lines.ensures a.start.words a.out.now t.if1.true c.refused.result c.refused.ensures
+    let t = c in
+    let l = c in
+    let a = l.args in
+    lines-refused a.rest.now l.read_lines-read.result refl l.read_lines-read.ensures a.start.words a.out.now t.if-read-gt0.true c.refused.result c.refused.ensures
 
-mul-end : tie.Need-overflow-mul-end
+mul-end : tie.Need-overflow_mul-end
 mul-end c = omega (arith, fit c.before)
 
-array-share-prefix-records : tie.Need-array-share-prefix-records
+array-share-prefix-records : tie.Need-slice_bounds-records-end
 array-share-prefix-records c = omega (arith, fit c.before)
 
-slice-aggregate-run : tie.Need-slice-aggregate-run
+slice-aggregate-run : tie.Need-slice_bounds-run-end
 slice-aggregate-run c =
-    let e = c.before.before in
-    omega (arith, fit e, length-take (6 * (lines e).read-lines.result.count) (lines e).read-lines.new.1.0)
+    let e = c in
+    omega (arith, fit c.before.before, length-take (6 * e.read_lines-read.result.count) e.read_lines-read.new.1.0)
 
-run-requires : tie.Need-run-requires
+run-requires : tie.Need-run-ran-requires
 run-requires c κs = search rules
 
-refused-requires-2 : tie.Need-refused-requires-2
+refused-requires-2 : tie.Need-refused-requires-then-ran-gt0
 refused-requires-2 c κs = search rules
 
-returns-2 : tie.Need-returns-2
+returns-2 : tie.Need-returns-then-ran-gt0
 returns-2 c =
-    let u = c.before in
-    let n = u.before.before in
-    let r = (read n).read-lines in
-    let s = (entry (read n)).args in
-    block_refused s.rest.now r.result refl r.ensures s.start.words s.out.now (accepted n).if1.false n.run.ensures.0 u.if2.true
-    c.refused2.result c.refused2.ensures
+    let u = c in
+    let n = c in
+    let r = n.read_lines-read in
+    let s = n.args in
+    block_refused s.rest.now r.result refl r.ensures s.start.words s.out.now n.if-read-gt0.false n.run-ran.ensures.0 u.if-ran-gt0.true
+    c.refused-then-ran-gt0.result c.refused-then-ran-gt0.ensures
 
-put-after-requires : tie.Need-put-after-requires
+put-after-requires : tie.Need-put_after-length-requires
 put-after-requires c κs = search rules
 
-returns-3 : tie.Need-returns-3
+returns-3 : tie.Need-returns
 returns-3 c =
-    let v = c.before.before.before in
-    let m = v.before.before in
-    let r = (read m).read-lines in
-    let s = (entry (read m)).args in
-    block-ran s.rest.now r.result refl r.ensures s.start.words s.out.now (accepted m).if1.false m.run.ensures.0 m.run.result.saturated v.if2.false
-    m.run.ensures.1 c.put-after.ensures.0 c.put-after.ensures.1
+    let v = c in
+    let m = c in
+    let r = m.read_lines-read in
+    let s = m.args in
+    block-ran s.rest.now r.result refl r.ensures s.start.words s.out.now m.if-read-gt0.false m.run-ran.ensures.0 m.run-ran.result.saturated v.if-ran-gt0.false
+    m.run-ran.ensures.1 c.put_after-length.ensures.0 c.put_after-length.ensures.1
 
-pub run-rest-spec : {M : Type 1} → statement M
-run-rest-spec =
+pub run_rest_spec : {M : Type 1} → statement M
+run_rest_spec =
     tie.close
     (tie.spec
     slice-aggregate-read-lines

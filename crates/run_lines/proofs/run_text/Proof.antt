@@ -7,58 +7,52 @@ use Rattle.run_lines.proofs.run_text.Tie as tie
 
 -- ---- places, from the start that is read: the input that fits, the entry
 
-abbrev fits : tie.After-read-start → tie.Else1
-fits c = c.before.before
-
-abbrev entry : tie.After-read-start → tie.Start
-entry c = (fits c).before.before
-
 -- ---- needs
 
 refused-requires : tie.Need-refused-requires
 refused-requires c κs = search rules
 
-returns : tie.Need-returns
+returns : tie.Need-returns-then-input-gt-MOST_BYTES
 returns c =
-    let long = c.before in
-    let a = long.before.before.args in
-    too_long a.input.now a.out.now long.if1.true c.refused.result c.refused.ensures
+    let long = c in
+    let a = long.args in
+    too_long a.input.now a.out.now long.if-input-gt-MOST_BYTES.true c.refused.result c.refused.ensures
 
-read-start-requires : tie.Need-read-start-requires
+read-start-requires : tie.Need-read_start-s-requires
 read-start-requires c κs = search rules
 
-refused-requires-2 : tie.Need-refused-requires-2
+refused-requires-2 : tie.Need-refused-requires-then-s-gt0
 refused-requires-2 c κs = search rules
 
-returns-2 : tie.Need-returns-2
+returns-2 : tie.Need-returns-then-s-gt0
 returns-2 c =
-    let broken = c.before in
-    let s = broken.before.before in
-    let a = (entry s).args in
-    start-refused a.input.now a.out.now (fits s).if1.false s.read-start.result s.read-start.ensures broken.if2.true c.refused2.result c.refused2.ensures
+    let broken = c in
+    let s = c in
+    let a = s.args in
+    start-refused a.input.now a.out.now s.if-input-gt-MOST_BYTES.false s.read_start-s.result s.read_start-s.ensures broken.if-s-gt0.true c.refused-then-s-gt0.result c.refused-then-s-gt0.ensures
 
-sub-run-rest : tie.Need-overflow-sub-run-rest
+sub-run-rest : tie.Need-slice_bounds-run_rest-count
 sub-run-rest c = search rules
 
-part-run-rest-start : tie.Need-slice-bounds-run-rest-start
+part-run-rest-start : tie.Need-slice_bounds-run_rest-start
 part-run-rest-start c = search rules
 
-part-run-rest-end : tie.Need-slice-bounds-run-rest-end
+part-run-rest-end : tie.Need-slice_bounds-run_rest-end
 part-run-rest-end c = search rules
 
-run-rest-requires : tie.Need-run-rest-requires
+run-rest-requires : tie.Need-run_rest-requires
 run-rest-requires c κs = search rules
 
-returns-3 : tie.Need-returns-3
+returns-3 : tie.Need-returns
 returns-3 c =
-    let good = c.before.before.before in
-    let s = good.before.before in
-    let a = (entry s).args in
-    start-read a.input.now a.out.now (fits s).if1.false s.read-start.result s.read-start.ensures refl good.if2.false
-    c.run-rest.ensures
+    let good = c in
+    let s = c in
+    let a = s.args in
+    start-read a.input.now a.out.now s.if-input-gt-MOST_BYTES.false s.read_start-s.result s.read_start-s.ensures refl good.if-s-gt0.false
+    c.run_rest.ensures
 
-pub run-text-spec : {M : Type 1} → statement M
-run-text-spec =
+pub run_text_spec : {M : Type 1} → statement M
+run_text_spec =
     tie.close
     (tie.spec
     refused-requires

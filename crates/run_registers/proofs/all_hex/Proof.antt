@@ -9,55 +9,49 @@ use Rattle.run_registers.proofs.Digits.{all-next, all_none}
 use Rattle.run_registers.proofs.all_hex.Statement.{statement}
 use Rattle.run_registers.proofs.all_hex.Tie as tie
 
-abbrev invariant-loop : tie.invariant-loop
-invariant-loop bytes at all₀ j₀ all j = (all ≡ all_hex bytes at j) × (j ≤ 32)
+abbrev invariant-loop-j : tie.invariant-loop-j
+invariant-loop-j bytes at all₀ j₀ all j = (all ≡ all_hex bytes at j) × (j ≤ 32)
 
-abbrev decreases-loop : tie.decreases-loop
-decreases-loop bytes at all₀ j₀ all j = 32 - j
+abbrev decreases-loop-j : tie.decreases-loop-j
+decreases-loop-j bytes at all₀ j₀ all j = 32 - j
 
-abbrev entry : tie.At-loop invariant-loop decreases-loop → tie.Start invariant-loop decreases-loop
-entry c = c.before.before
+loop-holds : tie.Need-loop-j-init invariant-loop-j decreases-loop-j
+loop-holds c = (sym (all_none c.args.bytes.now c.args.at), omega arith)
 
-abbrev turn : tie.After-is-hex invariant-loop decreases-loop → tie.In-loop invariant-loop decreases-loop
-turn c = c.before.before
-
-loop-holds : tie.Need-loop-init invariant-loop decreases-loop
-loop-holds c = (sym (all_none c.before.args.bytes.now c.before.args.at), omega arith)
-
-add-is-hex : tie.Need-overflow-add-is-hex invariant-loop decreases-loop
+add-is-hex : tie.Need-overflow_add-at invariant-loop-j decreases-loop-j
 add-is-hex c = omega arith
 
-shared-slice-read-is-hex : tie.Need-shared-slice-read-is-hex invariant-loop decreases-loop
+shared-slice-read-is-hex : tie.Need-bounds-bytes-at invariant-loop-j decreases-loop-j
 shared-slice-read-is-hex c = omega arith
 
-is-hex-requires : tie.Need-is-hex-requires invariant-loop decreases-loop
+is-hex-requires : tie.Need-is_hex-all-requires invariant-loop-j decreases-loop-j
 is-hex-requires c κs = search rules
 
-add-j : tie.Need-overflow-add-j invariant-loop decreases-loop
+add-j : tie.Need-overflow_add-j invariant-loop-j decreases-loop-j
 add-j c = omega arith
 
-loop-less : tie.Need-loop-smaller invariant-loop decreases-loop
-loop-less c = omega (arith, (turn c).loop-test.true)
+loop-less : tie.Need-loop-j-smaller invariant-loop-j decreases-loop-j
+loop-less c = omega (arith, c.loop-j-test.true)
 
-loop-again : tie.Need-loop-preserved invariant-loop decreases-loop
+loop-again : tie.Need-loop-j-preserved invariant-loop-j decreases-loop-j
 loop-again c =
-    let l = (turn c).before in
-    let a = (entry l).args in
-    (all-next a.bytes.now a.at l.loop.j l.loop.inv.0 c.is-hex.ensures, omega (arith, (turn c).loop-test.true))
+    let l = c in
+    let a = l.args in
+    (all-next a.bytes.now a.at l.loop-j.j l.loop-j.invariant.0 c.is_hex-all.ensures, omega (arith, c.loop-j-test.true))
 
-returns : tie.Need-returns invariant-loop decreases-loop
+returns : tie.Need-returns invariant-loop-j decreases-loop-j
 returns c =
-    let l = c.before in
-    let a = (entry l).args in
-    let e : l.loop.j ≡ 32 = omega (arith, l.loop.invariant.1, c.loop-test.false) in
-    subst (λ (j : ℕ). l.loop.all ≡ all_hex a.bytes.now a.at j) e l.loop.invariant.0
+    let l = c in
+    let a = l.args in
+    let e : l.loop-j.j ≡ 32 = omega (arith, l.loop-j.invariant.1, c.loop-j-test.false) in
+    subst (λ (j : ℕ). l.loop-j.all ≡ all_hex a.bytes.now a.at j) e l.loop-j.invariant.0
 
-pub all-hex-spec : {M : Type 1} → statement M
-all-hex-spec =
+pub all_hex_spec : {M : Type 1} → statement M
+all_hex_spec =
     tie.close
     (tie.spec
-    invariant-loop
-    decreases-loop
+    invariant-loop-j
+    decreases-loop-j
     loop-holds
     add-is-hex
     shared-slice-read-is-hex

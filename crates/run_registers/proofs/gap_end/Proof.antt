@@ -10,69 +10,60 @@ use Rattle.run_registers.specs.Start.{skip}
 use Rattle.run_registers.proofs.gap_end.Statement.{statement}
 use Rattle.run_registers.proofs.gap_end.Tie as tie
 
-abbrev invariant-loop : tie.invariant-loop
-invariant-loop bytes from newlines i₀ i = (skip newlines bytes i ≡ skip newlines bytes from) × (i ≤ length bytes)
+abbrev invariant-loop-i : tie.invariant-loop-i
+invariant-loop-i bytes from newlines i₀ i = (skip newlines bytes i ≡ skip newlines bytes from) × (i ≤ length bytes)
 
-abbrev decreases-loop : tie.decreases-loop
-decreases-loop bytes from newlines i₀ i = length bytes - i
+abbrev decreases-loop-i : tie.decreases-loop-i
+decreases-loop-i bytes from newlines i₀ i = length bytes - i
 
 -- ---- places: the entry, and the turn whose byte is tested
 
-abbrev entry : tie.At-loop invariant-loop decreases-loop → tie.Start invariant-loop decreases-loop
-entry c = c.before.before
-
-abbrev turn : tie.After-is-gap invariant-loop decreases-loop → tie.In-loop invariant-loop decreases-loop
-turn c = c.before.before
-
-abbrev top : tie.After-is-gap invariant-loop decreases-loop → tie.At-loop invariant-loop decreases-loop
-top c = (turn c).before
-
 -- ---- needs
 
-loop-holds : tie.Need-loop-init invariant-loop decreases-loop
+loop-holds : tie.Need-loop-i-init invariant-loop-i decreases-loop-i
 loop-holds c = (refl, omega arith)
 
-shared-slice-read-is-gap : tie.Need-shared-slice-read-is-gap invariant-loop decreases-loop
+shared-slice-read-is-gap : tie.Need-bounds-bytes-i invariant-loop-i decreases-loop-i
 shared-slice-read-is-gap c = omega arith
 
-is-gap-requires : tie.Need-is-gap-requires invariant-loop decreases-loop
+is-gap-requires : tie.Need-is_gap-requires invariant-loop-i decreases-loop-i
 is-gap-requires c κs = search rules
 
-returns : tie.Need-returns invariant-loop decreases-loop
+returns : tie.Need-returns-then-not-is_gap invariant-loop-i decreases-loop-i
 returns c =
-    let other = c.before in
-    let l = top other in
-    let a = (entry l).args in
-    let none = sym other.is-gap.ensures ∙ not-true other.is-gap.result c.if1.true in
-    (sym (gap-none a.newlines a.bytes.now l.loop.i (turn other).loop-test.true none) ∙ l.loop.inv.0, l.loop.inv.1)
+    let other = c in
+    let l = c in
+    let a = l.args in
+    let none = sym other.is_gap.ensures ∙ not-true other.is_gap.result c.if-not-is_gap.true-raw in
+    (sym (gap-none a.newlines a.bytes.now l.loop-i.i other.loop-i-test.true none) ∙ l.loop-i.invariant.0, l.loop-i.invariant.1)
 
-add-i : tie.Need-overflow-add-i invariant-loop decreases-loop
-add-i c = omega (arith, (turn c.before).loop-test.taken)
+add-i : tie.Need-overflow_add-i invariant-loop-i decreases-loop-i
+add-i c = omega (arith, c.loop-i-test.true)
 
-loop-less : tie.Need-loop-smaller invariant-loop decreases-loop
-loop-less c = omega (arith, (turn c.before).loop-test.taken)
+loop-less : tie.Need-loop-i-smaller invariant-loop-i decreases-loop-i
+loop-less c = omega (arith, c.loop-i-test.true)
 
-loop-again : tie.Need-loop-preserved invariant-loop decreases-loop
+loop-again : tie.Need-loop-i-preserved invariant-loop-i decreases-loop-i
 loop-again c =
-    let gap = c.before in
-    let l = top gap in
-    let a = (entry l).args in
-    let t = (turn gap).loop-test.true in
-    let one = sym gap.is-gap.ensures ∙ not-false gap.is-gap.result c.if1.false in
-    (gap_more a.newlines a.bytes.now l.loop.i t one ∙ l.loop.inv.0, omega (arith, t))
+    let gap = c in
+    let l = c in
+    let a = l.args in
+    let t = gap.loop-i-test.true in
+    let one = sym gap.is_gap.ensures ∙ not-false gap.is_gap.result c.if-not-is_gap.false-raw in
+    (gap_more a.newlines a.bytes.now l.loop-i.i t one ∙ l.loop-i.invariant.0, omega (arith, t))
 
-returns-2 : tie.Need-returns-2 invariant-loop decreases-loop
+returns-2 : tie.Need-returns invariant-loop-i decreases-loop-i
 returns-2 c =
-    let l = c.before in
-    let a = (entry l).args in
-    (sym (gap-over a.newlines a.bytes.now l.loop.i c.loop-test.false) ∙ l.loop.invariant.0, l.loop.invariant.1)
+    let l = c in
+    let a = l.args in
+    (sym (gap-over a.newlines a.bytes.now l.loop-i.i c.loop-i-test.false) ∙ l.loop-i.invariant.0, l.loop-i.invariant.1)
 
-pub gap-end-spec : {M : Type 1} → statement M
-gap-end-spec =
+pub gap_end_spec : {M : Type 1} → statement M
+gap_end_spec =
     tie.close
     (tie.spec
-    invariant-loop
-    decreases-loop
+    invariant-loop-i
+    decreases-loop-i
     loop-holds
     shared-slice-read-is-gap
     is-gap-requires

@@ -6,38 +6,38 @@ use borrow.Author.Rules.{rules}
 use Rattle.run_registers.proofs.hex_value.Statement.{statement}
 use Rattle.run_registers.proofs.hex_value.Tie as tie
 
-sub-result : tie.Need-overflow-sub-result
-sub-result c = (in-range 48 57 c.before.args.b c.if1.true).0
+sub-result : tie.Need-overflow_sub-result
+sub-result c = (in-range 48 57 c.args.b c.if-b.true).0
 
-cast-result : tie.Need-overflow-cast-result
+cast-result : tie.Need-overflow_cast-result
 cast-result c = search rules
 
-returns : tie.Need-returns
-returns c = (sym (rw c.if1.true), omega (arith, in-range 48 57 c.before.args.b c.if1.true))
+returns : tie.Need-returns-then-b
+returns c = (sym (rw c.if-b.true), omega (arith, in-range 48 57 c.args.b c.if-b.true))
 
-sub-result-2 : tie.Need-overflow-sub-result-2
-sub-result-2 c = omega (arith, in-range 97 102 c.before.before.args.b c.if2.true)
+sub-result-2 : tie.Need-overflow_sub-result-then-b-2
+sub-result-2 c = omega (arith, in-range 97 102 c.args.b c.if-b-2.true)
 
-cast-result-2 : tie.Need-overflow-cast-result-2
+cast-result-2 : tie.Need-overflow_cast-result-then-b-2
 cast-result-2 c = search rules
 
-returns-2 : tie.Need-returns-2
-returns-2 c = (sym (rw (c.before.if1.false, c.if2.true)), omega (arith, in-range 97 102 c.before.before.args.b c.if2.true))
+returns-2 : tie.Need-returns-then-b-2
+returns-2 c = (sym (rw (c.if-b.false, c.if-b-2.true)), omega (arith, in-range 97 102 c.args.b c.if-b-2.true))
 
-sub-result-3 : tie.Need-overflow-sub-result-3
-sub-result-3 c = omega (arith, in-range 65 70 c.before.before.before.args.b c.if3.true)
+sub-result-3 : tie.Need-overflow_sub-result-then-b-3
+sub-result-3 c = omega (arith, in-range 65 70 c.args.b c.if-b-3.true)
 
-cast-result-3 : tie.Need-overflow-cast-result-3
+cast-result-3 : tie.Need-overflow_cast-result-then-b-3
 cast-result-3 c = search rules
 
-returns-3 : tie.Need-returns-3
-returns-3 c = (sym (rw (c.before.before.if1.false, c.before.if2.false, c.if3.true)), omega (arith, in-range 65 70 c.before.before.before.args.b c.if3.true))
+returns-3 : tie.Need-returns-then-b-3
+returns-3 c = (sym (rw (c.if-b.false, c.if-b-2.false, c.if-b-3.true)), omega (arith, in-range 65 70 c.args.b c.if-b-3.true))
 
-returns-4 : tie.Need-returns-4
-returns-4 c = (sym (rw (c.before.before.if1.false, c.before.if2.false, c.if3.false)), omega arith)
+returns-4 : tie.Need-returns
+returns-4 c = (sym (rw (c.if-b.false, c.if-b-2.false, c.if-b-3.false)), omega arith)
 
-pub hex-value-spec : {M : Type 1} → statement M
-hex-value-spec =
+pub hex_value_spec : {M : Type 1} → statement M
+hex_value_spec =
     tie.close
     (tie.spec
     sub-result

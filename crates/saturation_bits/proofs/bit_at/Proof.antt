@@ -14,14 +14,14 @@ use Rattle.saturation_bits.proofs.bit_at.Statement.{statement}
 use Rattle.saturation_bits.proofs.bit_at.Tie as tie
 
 -- the sources that it reads and what it asks of its lanes, once the operation is known to be op
-asked : (s : tie.Start) {op : NeonOp} → s.args.shape.op-1 ≡ op → let a = s.args in
+asked : (s : tie.Start) {op : NeonOp} → s.args.shape.op ≡ op → let a = s.args in
     Ready a.count a.second a.d a.shape.lane_bits a.shape.lanes a.shape.source_index.0 op
 asked s e =
     let a = s.args in
     ready a.count a.second a.d a.shape.lane_bits a.shape.lanes a.shape.source_index.0 e
     (s.requires.1.0.1, s.requires.1.0.2, s.requires.1.1.4)
 
-can : (s : tie.Start) {op : NeonOp} → s.args.shape.op-1 ≡ op → saturable op ≡ true
+can : (s : tie.Start) {op : NeonOp} → s.args.shape.op ≡ op → saturable op ≡ true
 can s e = sym (ap saturable e) ∙ s.requires.1.1.5
 
 fits : (s : tie.Start) → let a = s.args in a.shape.lane_bits * a.index.0 + a.shape.lane_bits ≤ 128

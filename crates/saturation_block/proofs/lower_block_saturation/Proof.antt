@@ -60,7 +60,7 @@ returns-2 c =
     record {
       number = e.refusal-refused.ensures.0;
       position = e.refusal-refused.ensures.1;
-      refused = λ h. absurd (h (omega (arith, e.if1.left)));
+      refused = λ h. absurd (h (omega (arith, e.if-number-gt0.false)));
       accepted = λ z. all_done (accepted c.before.before.before.before.before.before.before.before.before.before).placed p.start_flagged-start.ensures r.run_flagged-end.ensures;
     }
 

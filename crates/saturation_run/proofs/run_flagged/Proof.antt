@@ -22,7 +22,7 @@ decreases-loop-j pool₀ records count at₀ j₀ pool at j = count - j
 in-records : (c : tie.In-loop-j invariant-loop-j decreases-loop-j) → c.loop-j.j < length c.args.records.now / 6
 in-records c = omega (arith, c.loop-j.invariant.0, c.loop-j-test.true)
 
-room : (c : tie.In-loop-j invariant-loop-j decreases-loop-j) → let l = c.loop-j in Room l.pool-1 l.at.map-1.count flag_reserve
+room : (c : tie.In-loop-j invariant-loop-j decreases-loop-j) → let l = c.loop-j in Room l.pool l.at.map.count flag_reserve
 room c =
     let l = c.loop-j in
     let s = c in
@@ -55,9 +55,9 @@ loop-again c =
     let r = c in
     let t = c in
     let l = t.loop-j in (
-      l.inv.0,
-      omega (arith, t.loop-test.taken),
-      runs-next t.args.records.now l.j l.inv.2 (rw r.record_at-c.ensures at n.flag_record-at.ensures),
+      l.invariant.0,
+      omega (arith, t.loop-j-test.true),
+      runs-next t.args.records.now l.j l.invariant.2 (rw r.record_at-c.ensures at n.flag_record-at.ensures),
     )
 
 same_length : tie.Need-shape_of-pool invariant-loop-j decreases-loop-j

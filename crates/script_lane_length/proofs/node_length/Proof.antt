@@ -47,7 +47,7 @@ term-length-requires c κs =
     let v = c in
     let s = c in
     let e = v.kind_of-k.ensures in
-    (s.requires, e, above _ 1 (kind-above s.args.p.now s.args.n.0 s.requires.ready _ e) v.if1.left)
+    (s.requires, e, above _ 1 (kind-above s.args.p.now s.args.n.0 s.requires.ready _ e) v.if-k-eq-VAR.false)
 
 add-result-3 : tie.Need-overflow_add-result-3
 add-result-3 c = search rules
@@ -59,7 +59,7 @@ returns-2 : tie.Need-returns
 returns-2 c =
     let v = c in
     let a = v.args in
-    let z = size-lines a.p.now a.n.0 _ _ v.kind_of-k.ensures v.if1.left c.width_of-w.ensures.0 in
+    let z = size-lines a.p.now a.n.0 _ _ v.kind_of-k.ensures v.if-k-eq-VAR.false c.width_of-w.ensures.0 in
     let t = c.term_length.ensures in
     let s = c.sort_length.ensures in
     let n = c.number_length-name.ensures in

@@ -34,8 +34,8 @@ loop-less c = omega (arith, c.loop-n-test.true)
 loop-again : tie.Need-loop-n-preserved invariant-loop-n decreases-loop-n
 loop-again c =
     let l = c.loop-n in (
-      omega (arith, l.inv.0, c.node_length-sum.ensures.0, next-lines c.args.p.now l.n),
-      omega (arith, l.inv.1, c.node_length-sum.ensures.1),
+      omega (arith, l.invariant.0, c.node_length-sum.ensures.0, next-lines c.args.p.now l.n),
+      omega (arith, l.invariant.1, c.node_length-sum.ensures.1),
       omega (arith, c.loop-n-test.true),
     )
 

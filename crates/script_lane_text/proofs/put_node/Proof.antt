@@ -47,7 +47,7 @@ put-equation-requires c κs =
     let s = c in
     let ready = s.requires.0 in
     let k = w.kind_of-k in (
-      (ready, k.ensures, above k.result 1 (kind-above s.args.p.now s.args.n.0 ready k.result k.ensures) w.if1.left),
+      (ready, k.ensures, above k.result 1 (kind-above s.args.p.now s.args.n.0 ready k.result k.ensures) w.if-k-eq-VAR.false),
       room-step d.put_declared-i.ensures (room_as (lines c.before.before.before.before.before) s.requires.1),
     )
 

@@ -28,10 +28,10 @@ put-declaration-requires c κs =
     room_next declaration_line 32 l.r t.loop-r-test.true t.requires l.invariant.0
 
 add_r : tie.Need-overflow_add-r invariant-loop-r decreases-loop-r
-add_r c = omega (arith, c.loop-test.taken)
+add_r c = omega (arith, c.loop-r-test.true)
 
 loop-less : tie.Need-loop-r-smaller invariant-loop-r decreases-loop-r
-loop-less c = omega (arith, c.loop-test.taken)
+loop-less c = omega (arith, c.loop-r-test.true)
 
 loop-again : tie.Need-loop-r-preserved invariant-loop-r decreases-loop-r
 loop-again c =
@@ -39,7 +39,7 @@ loop-again c =
     let t = c in
     let o = t.loop-r in
     let w = p.put_declaration-end.ensures in
-    (wrote-next declaration_line o.r o.inv.0 w, omega (arith, t.loop-test.taken), wrote-length w ∙ o.inv.2)
+    (wrote-next declaration_line o.r o.invariant.0 w, omega (arith, t.loop-r-test.true), wrote-length w ∙ o.invariant.2)
 
 same_length : tie.Need-shape_of-buf invariant-loop-r decreases-loop-r
 same_length c =
@@ -50,7 +50,7 @@ returns c =
     let a = c.args in
     let l = c.loop-r in
     let e : l.r ≡ 32 = omega (arith, l.invariant.1, c.loop-r-test.false) in
-    subst (λ (j : ℕ). Wrote a.buf.now a.at (up_to j declaration_line) l.end l.buf-1) e l.invariant.0
+    subst (λ (j : ℕ). Wrote a.buf.now a.at (up_to j declaration_line) l.end l.buf) e l.invariant.0
 
 pub put_declarations_spec : {M : Type 1} → statement M
 put_declarations_spec =

@@ -29,10 +29,10 @@ put-definition-requires c κs =
     (s.requires.0 l.n t.loop-n-test.true, room_next (line_at s.args.p.now) s.args.count l.n t.loop-n-test.true s.requires.1 l.invariant.0)
 
 add-n : tie.Need-overflow_add-n invariant-loop-n decreases-loop-n
-add-n c = omega (arith, c.loop-test.taken)
+add-n c = omega (arith, c.loop-n-test.true)
 
 loop-less : tie.Need-loop-n-smaller invariant-loop-n decreases-loop-n
-loop-less c = omega (arith, c.loop-test.taken)
+loop-less c = omega (arith, c.loop-n-test.true)
 
 loop-again : tie.Need-loop-n-preserved invariant-loop-n decreases-loop-n
 loop-again c =
@@ -40,7 +40,7 @@ loop-again c =
     let t = c in
     let o = t.loop-n in
     let w = p.put_definition-end.ensures in
-    (wrote-next (line_at t.args.p.now) o.n o.inv.0 w, omega (arith, t.loop-test.taken), wrote-length w ∙ o.inv.2)
+    (wrote-next (line_at t.args.p.now) o.n o.invariant.0 w, omega (arith, t.loop-n-test.true), wrote-length w ∙ o.invariant.2)
 
 same_length : tie.Need-shape_of-buf invariant-loop-n decreases-loop-n
 same_length c =
@@ -51,7 +51,7 @@ returns c =
     let a = c.args in
     let l = c.loop-n in
     let e : l.n ≡ a.count = omega (arith, l.invariant.1, c.loop-n-test.false) in
-    subst (λ (j : ℕ). Wrote a.buf.now a.at (up_to j (line_at a.p.now)) l.end l.buf-1) e l.invariant.0
+    subst (λ (j : ℕ). Wrote a.buf.now a.at (up_to j (line_at a.p.now)) l.end l.buf) e l.invariant.0
 
 pub put_definitions_spec : {M : Type 1} → statement M
 put_definitions_spec =

@@ -28,7 +28,7 @@ abbrev entry : tie.Else-k-lt-SHL → tie.Start
 entry c = c.before.before
 
 comma : (c : tie.In_default) → between_text (entry c.before).args.k ≡ bytes ", "
-comma c = a-comma (entry c.before).requires.0 c.before.if-k-lt-SHL.false c.match.rest
+comma c = a-comma (entry c.before).requires.0 c.before.if1.false c.match.rest
 
 -- each arm's key is the kind whose text is due
 pub put_between_spec : {M : Type 1} → statement M
@@ -56,16 +56,16 @@ put_between_spec =
     (λ c. search rules)
     (λ c κs. room_as (comma c.before.before) (entry c.before.before.before).requires.1)
     (λ c. search rules)
-    (λ c. wrote_as (ap between_text c.before.before.before.before.before.match.keys1) c.before.before.put-in-9.ensures)
+    (λ c. wrote_as (ap between_text c.before.before.before.before.before.match.keys1) c.before.before.put2.ensures)
     (λ c. search rules)
-    (λ c. wrote_as (ap between_text c.before.before.before.before.before.match.keys2) c.before.before.put-in-10.ensures)
+    (λ c. wrote_as (ap between_text c.before.before.before.before.before.match.keys2) c.before.before.put3.ensures)
     (λ c. search rules)
-    (λ c. wrote_as (ap between_text c.before.before.before.before.before.match.keys3) c.before.before.put-in-11.ensures)
+    (λ c. wrote_as (ap between_text c.before.before.before.before.before.match.keys3) c.before.before.put4.ensures)
     (λ c. search rules)
-    (λ c. wrote_as (ap between_text c.before.before.before.before.before.match.keys4) c.before.before.put-in-12.ensures)
+    (λ c. wrote_as (ap between_text c.before.before.before.before.before.match.keys4) c.before.before.put5.ensures)
     (λ c. search rules)
-    (λ c. wrote_as (ap between_text c.before.before.before.before.before.match.keys5) c.before.before.put-in-13.ensures)
+    (λ c. wrote_as (ap between_text c.before.before.before.before.before.match.keys5) c.before.before.put6.ensures)
     (λ c. search rules)
-    (λ c. wrote_as (ap between_text c.before.before.before.before.before.match.keys6) c.before.before.put-in-14.ensures)
+    (λ c. wrote_as (ap between_text c.before.before.before.before.before.match.keys6) c.before.before.put7.ensures)
     (λ c. search rules)
-    (λ c. wrote_as (comma c.before.before.before.before.before) c.before.before.put-in_default.ensures))
+    (λ c. wrote_as (comma c.before.before.before.before.before) c.before.before.put8.ensures))

@@ -8,23 +8,23 @@ use Rattle.text_operators.proofs.sign.Tie as tie
 
 returns : tie.Need-returns-in-3
 unfolding between_text kind_at kinds
-returns c = rw c.match.keys1
+returns c = rw c.in-3.is
 
 returns-2 : tie.Need-returns-in-4
 unfolding between_text kind_at kinds
-returns-2 c = rw c.match.keys2
+returns-2 c = rw c.in-4.is
 
 returns-3 : tie.Need-returns-in-5
 unfolding between_text kind_at kinds
-returns-3 c = rw c.match.keys3
+returns-3 c = rw c.in-5.is
 
 returns-4 : tie.Need-returns-in-6
 unfolding between_text kind_at kinds
-returns-4 c = rw c.match.keys4
+returns-4 c = rw c.in-6.is
 
 returns-5 : tie.Need-returns-in-7
 unfolding between_text kind_at kinds
-returns-5 c = rw c.match.keys5
+returns-5 c = rw c.in-7.is
 
 returns-6 : tie.Need-returns-in_default
 unfolding between_text kind_at kinds

@@ -24,13 +24,13 @@ abbrev operator-entry : tie.Then-k-lt-ITE → tie.Start
 operator-entry c = c.before.before
 
 opens : (c : tie.Then-k-lt-ITE) → open_text (operator-entry c).args.k ≡ bytes "("
-opens c = bracket (operator-entry c).requires.0 c.if-k-lt-ITE.true
+opens c = bracket (operator-entry c).requires.0 c.if1.true
 
 abbrev entry : tie.Else-k-eq-EXTRACT → tie.Start
 entry c = c.before.before.before
 
 last : (c : tie.In_default) → (entry c.before).args.k ≡ 19
-last c = signed (entry c.before).requires.1 c.before.before.if-k-lt-ITE.false c.before.if-k-eq-EXTRACT.false c.match.rest
+last c = signed (entry c.before).requires.1 c.before.before.if1.false c.before.if2.false c.match.rest
 
 -- each arm's key is the kind whose text is due
 pub put_open_spec : {M : Type 1} → statement M
@@ -42,7 +42,7 @@ put_open_spec =
     (λ c κs. room_as (opens c.before.before) (operator-entry c.before.before).requires.2)
     (λ c. search rules)
     (λ c. wrote_as (opens c.before.before.before.before.before) c.before.before.put.ensures)
-    (λ c. let st = c.before.before.before in rw c.if-k-eq-EXTRACT.true (wrote_none st.args.buf.now st.args.at))
+    (λ c. let st = c.before.before.before in rw c.if2.true (wrote_none st.args.buf.now st.args.at))
     (λ c. search rules)
     (λ c κs. room_as (ap open_text c.before.before.match.keys1) (entry c.before.before.before).requires.2)
     (λ c. search rules)
@@ -52,10 +52,10 @@ put_open_spec =
     (λ c. search rules)
     (λ c κs. room_as (ap open_text (last c.before.before)) (entry c.before.before.before).requires.2)
     (λ c. search rules)
-    (λ c. wrote_as (ap open_text c.before.before.before.before.before.match.keys1) c.before.before.put-in-15.ensures)
+    (λ c. wrote_as (ap open_text c.before.before.before.before.before.match.keys1) c.before.before.put2.ensures)
     (λ c. search rules)
-    (λ c. wrote_as (ap open_text c.before.before.before.before.before.match.keys2) c.before.before.put-in-17.ensures)
+    (λ c. wrote_as (ap open_text c.before.before.before.before.before.match.keys2) c.before.before.put3.ensures)
     (λ c. search rules)
-    (λ c. wrote_as (ap open_text c.before.before.before.before.before.match.keys3) c.before.before.put-in-18.ensures)
+    (λ c. wrote_as (ap open_text c.before.before.before.before.before.match.keys3) c.before.before.put4.ensures)
     (λ c. search rules)
-    (λ c. wrote_as (ap open_text (last c.before.before.before.before.before)) c.before.before.put-in_default.ensures))
+    (λ c. wrote_as (ap open_text (last c.before.before.before.before.before)) c.before.before.put5.ensures))

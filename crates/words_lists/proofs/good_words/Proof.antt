@@ -51,11 +51,11 @@ returns c =
 add-j : tie.Need-overflow_add-j invariant-loop-j decreases-loop-j
 add-j c =
     let t = c in
-    omega (arith, t.loop-test.taken, t.loop-j.invariant.0)
+    omega (arith, t.loop-j-test.true, t.loop-j.invariant.0)
 
 loop-less : tie.Need-loop-j-smaller invariant-loop-j decreases-loop-j
 loop-less c =
-    omega (arith, c.loop-test.taken)
+    omega (arith, c.loop-j-test.true)
 
 loop-again : tie.Need-loop-j-preserved invariant-loop-j decreases-loop-j
 loop-again c =
@@ -63,7 +63,7 @@ loop-again c =
     let bs = l.args.bytes.now in
     let good = tested c.before ∙ not-false c.is_record.result c.if-not-is_record.false-raw in (
       l.loop-j.invariant.0,
-      omega (arith, c.loop-test.taken),
+      omega (arith, c.loop-j-test.true),
       one_more (is_legal_word bs) l.loop-j.j l.loop-j.invariant.2 good,
     )
 

@@ -78,7 +78,7 @@ returns c =
     let l = c.loop-j in
     let a = c.args in
     let e : l.j ≡ length a.records.now / 6 = omega (arith, l.invariant.1, l.invariant.2, c.loop-j-test.false) in
-    subst (λ (j : ℕ). Wrote a.bytes.now 0 (up_to j (rows a.records.now)) l.end l.bytes-1) e l.invariant.0
+    subst (λ (j : ℕ). Wrote a.bytes.now 0 (up_to j (rows a.records.now)) l.end l.bytes) e l.invariant.0
 
 pub put_words_spec : {M : Type 1} → statement M
 put_words_spec =

@@ -64,7 +64,7 @@ returns-4 c =
     let a = e.args in
     let w = e.good_words-good in
     written a.bytes.now
-    (no-refusal a.bytes.now (length a.records.now) w.result w.ensures e.if1.left (omega (arith, t.if-bytes-gt0.false)) t.if-records-count.false)
+    (no-refusal a.bytes.now (length a.records.now) w.result w.ensures e.if-good-count.false (omega (arith, t.if-bytes-gt0.false)) t.if-records-count.false)
     (omega (arith, size c.before.before.before.before.before.before, t.if-records-count.false)) p.put_records.ensures
 
 pub read_words_spec : {M : Type 1} → statement M

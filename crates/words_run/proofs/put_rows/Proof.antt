@@ -16,24 +16,15 @@ use borrow.Author.Rules.{rules}
 use Rattle.words_run.proofs.put_rows.Statement.{statement}
 use Rattle.words_run.proofs.put_rows.Tie as tie
 
-abbrev invariant-loop : tie.invariant-loop
-invariant-loop refusals bytes from out₀ count next₀ output₀ out next output =
+abbrev invariant-loop-next : tie.invariant-loop-next
+invariant-loop-next refusals bytes from out₀ count next₀ output₀ out next output =
     (count ≡ word_count bytes) × (from ≤ next) × (from ≤ count → next ≤ count) × (length out ≡ length out₀)
     × Wrote out₀ 0 (up_to (next - from) (λ i. row refusals bytes (from + i))) output out × (output ≤ length out) × (next ≡ from → output ≡ 0)
 
-abbrev decreases-loop : tie.decreases-loop
-decreases-loop refusals bytes from out₀ count next₀ output₀ out next output = count - next
+abbrev decreases-loop-next : tie.decreases-loop-next
+decreases-loop-next refusals bytes from out₀ count next₀ output₀ out next output = count - next
 
 -- ---- places: the loop's test, a row that is written
-
-abbrev entry : tie.At-loop invariant-loop decreases-loop → tie.Start invariant-loop decreases-loop
-entry c = c.before.before.before.before
-
-abbrev room : tie.After-slice-known2 invariant-loop decreases-loop → tie.Else1 invariant-loop decreases-loop
-room c = c.before.before.before.before
-
-abbrev turn : tie.After-slice-known2 invariant-loop decreases-loop → tie.In-loop invariant-loop decreases-loop
-turn c = (room c).before
 
 -- if it stops for want of room, something was written, and so a word was passed
 some_written : {from next output : ℕ} → from ≤ next → (next ≡ from → output ≡ 0) → 0 < output → from < next
@@ -45,15 +36,15 @@ some_written {from} {next} l f h = go (leb next from) refl
 
 -- ---- needs
 
-word-count-requires : tie.Need-word-count-requires invariant-loop decreases-loop
+word-count-requires : tie.Need-word_count-count-requires invariant-loop-next decreases-loop-next
 word-count-requires c κs = tt
 
-loop-holds : tie.Need-loop-init invariant-loop decreases-loop
+loop-holds : tie.Need-loop-next-init invariant-loop-next decreases-loop-next
 loop-holds c =
-    let a = c.before.before.before.args in
+    let a = c.args in
     let g : ℕ → List ℕ = λ i. row a.refusals a.bytes.now (a.from + i) in
     let e : 0 ≡ a.from - a.from = omega arith in (
-      c.word_count.ensures,
+      c.word_count-count.ensures,
       omega arith,
       λ h. h,
       refl,
@@ -62,74 +53,74 @@ loop-holds c =
       λ h. refl,
     )
 
-sub-if1 : tie.Need-overflow-sub-if1 invariant-loop decreases-loop
-sub-if1 c = omega (arith, c.before.loop.invariant.5)
+sub-if1 : tie.Need-overflow_sub-out invariant-loop-next decreases-loop-next
+sub-if1 c = omega (arith, c.loop-next.invariant.5)
 
-same_length : tie.Need-same-length invariant-loop decreases-loop
-same_length c = c.before.before.loop.invariant.3
+same_length : tie.Need-shape_of-out-then-out-output-lt-ROW_ROOM invariant-loop-next decreases-loop-next
+same_length c = c.loop-next.invariant.3
 
-returns : tie.Need-returns invariant-loop decreases-loop
+returns : tie.Need-returns-then-out-output-lt-ROW_ROOM invariant-loop-next decreases-loop-next
 returns c =
-    let l = c.before.before in
-    let i = l.loop.invariant in
+    let l = c in
+    let i = l.loop-next.invariant in
     record {
       after = i.1;
       inside = λ h. omega (arith, i.0, i.2 (omega (arith, h, i.0)));
       wrote = i.4;
       output_in = i.5;
-      further = λ h k. some_written i.1 i.6 (omega (arith, k, i.3, c.if1.true));
-      stops = λ h. omega (arith, i.3, i.5, c.if1.true);
+      further = λ h k. some_written i.1 i.6 (omega (arith, k, i.3, c.if-out-output-lt-ROW_ROOM.true));
+      stops = λ h. omega (arith, i.3, i.5, c.if-out-output-lt-ROW_ROOM.true);
     }
 
-put-row-requires : tie.Need-put-row-requires invariant-loop decreases-loop
+put-row-requires : tie.Need-put_row-output-requires invariant-loop-next decreases-loop-next
 put-row-requires c κs =
-    let e = c.before in
-    let i = e.before.before.loop.invariant in
-    (omega (arith, i.0, e.before.loop-test.true), omega (arith, e.if1.false, i.5))
+    let e = c in
+    let i = e.loop-next.invariant in
+    (omega (arith, i.0, e.loop-next-test.true), omega (arith, e.if-out-output-lt-ROW_ROOM.false, i.5))
 
-add-next : tie.Need-overflow-add-next invariant-loop decreases-loop
-add-next c = omega (arith, (turn c).loop-test.true)
+add-next : tie.Need-overflow_add-next invariant-loop-next decreases-loop-next
+add-next c = omega (arith, c.loop-next-test.true)
 
-loop-less : tie.Need-loop-smaller invariant-loop decreases-loop
-loop-less c = omega (arith, (turn c).loop-test.true)
+loop-less : tie.Need-loop-next-smaller invariant-loop-next decreases-loop-next
+loop-less c = omega (arith, c.loop-next-test.true)
 
-loop-again : tie.Need-loop-preserved invariant-loop decreases-loop
+loop-again : tie.Need-loop-next-preserved invariant-loop-next decreases-loop-next
 loop-again c =
-    let p = c.before.before in
-    let l = (turn c).before in
-    let a = (entry l).args in
-    let i = l.loop.inv in
-    let w = p.put-row.ensures in (
+    let p = c in
+    let l = c in
+    let a = l.args in
+    let i = l.loop-next.invariant in
+    let w = p.put_row-output.ensures in (
       i.0,
       omega (arith, i.1),
-      λ h. omega (arith, (turn c).loop-test.true),
+      λ h. omega (arith, c.loop-next-test.true),
       wrote-length w.0 ∙ i.3,
-      wrote-row (row a.refusals a.bytes.now) a.from l.loop.next i.1 i.4 w.0,
-      omega (arith, w.1, wrote-length w.0, (room c).if1.false, i.5),
+      wrote-row (row a.refusals a.bytes.now) a.from l.loop-next.next i.1 i.4 w.0,
+      omega (arith, w.1, wrote-length w.0, c.if-out-output-lt-ROW_ROOM.false, i.5),
       λ e. absurd (omega (arith, i.1, e)),
     )
 
-same-length-2 : tie.Need-same-length-2 invariant-loop decreases-loop
-same-length-2 c = c.before.loop.invariant.3
+same-length-2 : tie.Need-shape_of-out invariant-loop-next decreases-loop-next
+same-length-2 c = c.loop-next.invariant.3
 
-returns-2 : tie.Need-returns-2 invariant-loop decreases-loop
+returns-2 : tie.Need-returns invariant-loop-next decreases-loop-next
 returns-2 c =
-    let i = c.before.loop.invariant in
+    let i = c.loop-next.invariant in
     record {
       after = i.1;
       inside = λ h. omega (arith, i.0, i.2 (omega (arith, h, i.0)));
       wrote = i.4;
       output_in = i.5;
-      further = λ h k. omega (arith, h, i.0, c.loop-test.false);
-      stops = λ h. absurd (omega (arith, h, i.0, c.loop-test.false));
+      further = λ h k. omega (arith, h, i.0, c.loop-next-test.false);
+      stops = λ h. absurd (omega (arith, h, i.0, c.loop-next-test.false));
     }
 
-pub put-rows-spec : {M : Type 1} → statement M
-put-rows-spec =
+pub put_rows_spec : {M : Type 1} → statement M
+put_rows_spec =
     tie.close
     (tie.spec
-    invariant-loop
-    decreases-loop
+    invariant-loop-next
+    decreases-loop-next
     word-count-requires
     loop-holds
     sub-if1

@@ -18,7 +18,7 @@ equal-requires c κs =
     let m = c in
     let s = c in
     let p = s.requires.0 in
-    (room_as s.args.w _ 12 m.match.keys1 p.0, p.2, p.3)
+    (room_as s.args.w _ 12 m.in-12.is p.0, p.2, p.3)
 
 less-requires : tie.Need-less-requires
 unfolding kind_at kinds
@@ -26,7 +26,7 @@ less-requires c κs =
     let m = c in
     let s = c in
     let p = s.requires.0 in
-    (room_as s.args.w _ 13 m.match.keys2 p.0, p.2, p.3)
+    (room_as s.args.w _ 13 m.in-13.is p.0, p.2, p.3)
 
 signed-less-requires : tie.Need-signed_less-requires
 unfolding kind_at kinds
@@ -48,7 +48,7 @@ returns c =
     let call = c in
     let m = c in
     let s = c in
-    built-as s.args.bits.now s.args.w _ 12 s.args.a s.args.b m.match.keys1 call.equal.ensures
+    built-as s.args.bits.now s.args.w _ 12 s.args.a s.args.b m.in-12.is call.equal.ensures
 
 same-length-3 : tie.Need-shape_of-graph-in-13
 same-length-3 c = c.less.ensures.grown.long
@@ -62,7 +62,7 @@ returns-2 c =
     let call = c in
     let m = c in
     let s = c in
-    built-as s.args.bits.now s.args.w _ 13 s.args.a s.args.b m.match.keys2 call.less.ensures
+    built-as s.args.bits.now s.args.w _ 13 s.args.a s.args.b m.in-13.is call.less.ensures
 
 same-length-5 : tie.Need-shape_of-graph-in_default
 same-length-5 c = c.signed_less.ensures.grown.long

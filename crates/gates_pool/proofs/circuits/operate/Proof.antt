@@ -24,7 +24,7 @@ sum-requires c κs =
     let m = c in
     let s = c in
     let p = s.requires.0 in
-    (room_as s.args.w _ 3 m.match.keys1 p.0, omega (arith, p.1), p.4)
+    (room_as s.args.w _ 3 m.in-3.is p.0, omega (arith, p.1), p.4)
 
 difference-requires : tie.Need-difference-requires
 unfolding kind_at kinds
@@ -32,7 +32,7 @@ difference-requires c κs =
     let m = c in
     let s = c in
     let p = s.requires.0 in
-    (room_as s.args.w _ 4 m.match.keys2 p.0, omega (arith, p.1), p.4)
+    (room_as s.args.w _ 4 m.in-4.is p.0, omega (arith, p.1), p.4)
 
 product-requires : tie.Need-product-requires
 unfolding kind_at kinds
@@ -40,7 +40,7 @@ product-requires c κs =
     let m = c in
     let s = c in
     let p = s.requires.0 in
-    (room_as s.args.w _ 5 m.match.keys3 p.0, p.1, p.4)
+    (room_as s.args.w _ 5 m.in-5.is p.0, p.1, p.4)
 
 by-bit-requires : tie.Need-by_bit-requires
 unfolding kind_at kinds
@@ -49,7 +49,7 @@ by-bit-requires c κs =
     let s = c in
     let p = s.requires.0 in
     let inside : s.args.out + s.args.w ≤ length s.args.bits.now = omega (arith, p.1) in
-    (room_as s.args.w _ 6 m.match.keys4 p.0, inside, first_of inside p.4, second-of inside p.4)
+    (room_as s.args.w _ 6 m.in-6.is p.0, inside, first_of inside p.4, second-of inside p.4)
 
 by-bit-requires-2 : tie.Need-by_bit-requires-in-7
 unfolding kind_at kinds
@@ -58,7 +58,7 @@ by-bit-requires-2 c κs =
     let s = c in
     let p = s.requires.0 in
     let inside : s.args.out + s.args.w ≤ length s.args.bits.now = omega (arith, p.1) in
-    (room_as s.args.w _ 7 m.match.keys5 p.0, inside, first_of inside p.4, second-of inside p.4)
+    (room_as s.args.w _ 7 m.in-7.is p.0, inside, first_of inside p.4, second-of inside p.4)
 
 by-bit-requires-3 : tie.Need-by_bit-requires-in-8
 unfolding kind_at kinds
@@ -67,7 +67,7 @@ by-bit-requires-3 c κs =
     let s = c in
     let p = s.requires.0 in
     let inside : s.args.out + s.args.w ≤ length s.args.bits.now = omega (arith, p.1) in
-    (room_as s.args.w _ 8 m.match.keys6 p.0, inside, first_of inside p.4, second-of inside p.4)
+    (room_as s.args.w _ 8 m.in-8.is p.0, inside, first_of inside p.4, second-of inside p.4)
 
 shift-left-requires : tie.Need-shift_left-requires
 unfolding kind_at kinds
@@ -75,7 +75,7 @@ shift-left-requires c κs =
     let m = c in
     let s = c in
     let p = s.requires.0 in
-    (room_as s.args.w _ 9 m.match.keys7 p.0, p.1, p.3, p.4)
+    (room_as s.args.w _ 9 m.in-9.is p.0, p.1, p.3, p.4)
 
 shift-right-requires : tie.Need-shift_right-requires
 unfolding kind_at kinds
@@ -83,7 +83,7 @@ shift-right-requires c κs =
     let m = c in
     let s = c in
     let p = s.requires.0 in
-    (room_as s.args.w _ 10 m.match.keys8 p.0, p.1, p.3, p.4)
+    (room_as s.args.w _ 10 m.in-10.is p.0, p.1, p.3, p.4)
 
 shift-right-signed-requires : tie.Need-shift_right_signed-requires
 unfolding kind_at kinds
@@ -108,7 +108,7 @@ returns c =
     let call = c in
     let m = c in
     let s = c in
-    made_as _ 3 s.args.a s.args.b m.match.keys1 call.sum.ensures
+    made_as _ 3 s.args.a s.args.b m.in-3.is call.sum.ensures
 
 same-length-4 : tie.Need-shape_of-graph-in-4
 same-length-4 c = c.difference.ensures.goes.grown.long
@@ -125,7 +125,7 @@ returns-2 c =
     let call = c in
     let m = c in
     let s = c in
-    made_as _ 4 s.args.a s.args.b m.match.keys2 call.difference.ensures
+    made_as _ 4 s.args.a s.args.b m.in-4.is call.difference.ensures
 
 same-length-7 : tie.Need-shape_of-graph-in-5
 same-length-7 c = c.product.ensures.goes.grown.long
@@ -142,7 +142,7 @@ returns-3 c =
     let call = c in
     let m = c in
     let s = c in
-    made_as _ 5 s.args.a s.args.b m.match.keys3 call.product.ensures
+    made_as _ 5 s.args.a s.args.b m.in-5.is call.product.ensures
 
 same-length-10 : tie.Need-shape_of-graph-in-6
 same-length-10 c = c.by_bit.ensures.run.grown.long
@@ -160,7 +160,7 @@ returns-4 c =
     let m = c in
     let s = c in
     let inside : s.args.out + s.args.w ≤ length s.args.bits.now = omega (arith, s.requires.0.1) in
-    made_as _ 6 s.args.a s.args.b m.match.keys4 (writes-makes inside call.by_bit.ensures)
+    made_as _ 6 s.args.a s.args.b m.in-6.is (writes-makes inside call.by_bit.ensures)
 
 same-length-13 : tie.Need-shape_of-graph-in-7
 same-length-13 c = c.by_bit-in-7.ensures.run.grown.long
@@ -178,7 +178,7 @@ returns-5 c =
     let m = c in
     let s = c in
     let inside : s.args.out + s.args.w ≤ length s.args.bits.now = omega (arith, s.requires.0.1) in
-    made_as _ 7 s.args.a s.args.b m.match.keys5 (writes-makes inside call.by_bit-in-7.ensures)
+    made_as _ 7 s.args.a s.args.b m.in-7.is (writes-makes inside call.by_bit-in-7.ensures)
 
 same-length-16 : tie.Need-shape_of-graph-in-8
 same-length-16 c = c.by_bit-in-8.ensures.run.grown.long
@@ -196,7 +196,7 @@ returns-6 c =
     let m = c in
     let s = c in
     let inside : s.args.out + s.args.w ≤ length s.args.bits.now = omega (arith, s.requires.0.1) in
-    made_as _ 8 s.args.a s.args.b m.match.keys6 (writes-makes inside call.by_bit-in-8.ensures)
+    made_as _ 8 s.args.a s.args.b m.in-8.is (writes-makes inside call.by_bit-in-8.ensures)
 
 same-length-19 : tie.Need-shape_of-graph-in-9
 same-length-19 c = c.shift_left.ensures.goes.grown.long
@@ -213,7 +213,7 @@ returns-7 c =
     let call = c in
     let m = c in
     let s = c in
-    made_as _ 9 s.args.a s.args.b m.match.keys7 call.shift_left.ensures
+    made_as _ 9 s.args.a s.args.b m.in-9.is call.shift_left.ensures
 
 same-length-22 : tie.Need-shape_of-graph-in-10
 same-length-22 c = c.shift_right.ensures.goes.grown.long
@@ -230,7 +230,7 @@ returns-8 c =
     let call = c in
     let m = c in
     let s = c in
-    made_as _ 10 s.args.a s.args.b m.match.keys8 call.shift_right.ensures
+    made_as _ 10 s.args.a s.args.b m.in-10.is call.shift_right.ensures
 
 same-length-25 : tie.Need-shape_of-graph-in_default
 same-length-25 c = c.shift_right_signed.ensures.goes.grown.long

@@ -46,7 +46,7 @@ module _ (c : tie.After-wire-literal invariant-loop-j decreases-loop-j) where
   loop = turn.before
 
   places : 129 * n loop.before + loop.loop-j.j < length loop.loop-j.bits
-  places = omega (arith, loop.loop-j.invariant.1.size, (entry loop.before).requires.0.places, turn.loop-test.taken, width_small loop.before)
+  places = omega (arith, loop.loop-j.invariant.1.size, (entry loop.before).requires.0.places, turn.loop-j-test.true, width_small loop.before)
 
 width-of-requires : tie.Need-width_of-w-requires invariant-loop-j decreases-loop-j
 width-of-requires c κs = search rules
@@ -89,10 +89,10 @@ loop-again c =
     let k = l.before in
     let s = entry k in
     let i = l.loop-j.invariant.1 in (
-      omega (arith, t.loop-test.taken),
+      omega (arith, t.loop-j-test.true),
       puts-more (wire_at (ws k) s.args.bits.now (n k)) _ (omega (arith, places c, i.size)) i
           (c.wire-literal.ensures ∙ wire-kept (ws k) (n k) s.requires.0.node s.args.bits.now l.loop-j.bits l.loop-j.j s.requires.1
-          (omega (arith, t.loop-test.taken, width_is k)) i.before),
+          (omega (arith, t.loop-j-test.true, width_is k)) i.before),
     )
 
 same_length : tie.Need-shape_of-bits invariant-loop-j decreases-loop-j

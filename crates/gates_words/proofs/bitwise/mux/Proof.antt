@@ -50,7 +50,7 @@ mux-at-requires c κs =
     let t = c.loop-i-test.true in
     let p = c.requires in
     let r = l.invariant.2.run in
-    let size : length l.bits-1 ≡ _ = r.size in
+    let size : length l.bits ≡ _ = r.size in
     (omega (arith, p, r, t, r.grown.long), (omega (arith, p.4, r.grown.more), place-low r p.2 t, place-low r p.3 t))
 
 add-i : tie.Need-overflow_add-i invariant-loop-i decreases-loop-i

@@ -42,7 +42,7 @@ loop-again c =
     let t = c in
     let s = t.loop-i in
     let n = t.args.bits in
-    (omega (arith, t.loop-test.taken), λ old d. bits-more 5 (zeros_to n) (zeros_at n) (zeros-more n s.i) (s.inv.1 old d) c.zeros_at-acc.ensures)
+    (omega (arith, t.loop-i-test.true), λ old d. bits-more 5 (zeros_to n) (zeros_at n) (zeros-more n s.i) (s.invariant.1 old d) c.zeros_at-acc.ensures)
 
 same_length : tie.Need-shape_of-pool invariant-loop-i decreases-loop-i
 same_length c = (so_far c.before).sized.long

@@ -41,7 +41,7 @@ loop-again c =
     let t = c in
     let s = t.loop-i in
     let n = t.args.lane_bits in
-    (omega (arith, t.loop-test.taken), λ old d. bits-more 3 (count_to n) (count_bit_at n) (count-more n s.i) (s.inv.1 old d) c.count_at-acc.ensures)
+    (omega (arith, t.loop-i-test.true), λ old d. bits-more 3 (count_to n) (count_bit_at n) (count-more n s.i) (s.invariant.1 old d) c.count_at-acc.ensures)
 
 same_length : tie.Need-shape_of-pool invariant-loop-i decreases-loop-i
 same_length c = (so_far c.before).sized.long

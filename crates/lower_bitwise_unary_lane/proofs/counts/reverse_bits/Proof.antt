@@ -80,10 +80,10 @@ loop-again c =
     let j = c in
     let l = c in (
       omega arith,
-      omega (arith, t.loop-test.taken),
+      omega (arith, t.loop-i-test.true),
       λ wa h old d.
-          lanes-more _ (omega arith) s.inv.0 t.loop-test.taken (omega (arith, e.requires.1.2)) (omega arith) (s.inv.2 wa h old d)
-          (reversed-bit wa e.args.base.0 e.args.lane_bits s.i t.loop-test.taken h (omega arith) l.extract-bit.ensures) j.concat_lanes-acc.ensures,
+          lanes-more _ (omega arith) s.invariant.0 t.loop-i-test.true (omega (arith, e.requires.1.2)) (omega arith) (s.invariant.2 wa h old d)
+          (reversed-bit wa e.args.base.0 e.args.lane_bits s.i t.loop-i-test.true h (omega arith) l.extract-bit.ensures) j.concat_lanes-acc.ensures,
     )
 
 same_length : tie.Need-shape_of-pool invariant-loop-i decreases-loop-i

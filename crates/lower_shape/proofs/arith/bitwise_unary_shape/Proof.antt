@@ -9,7 +9,7 @@ unfolding op_at operations
 bitwise_unary_shape_spec =
     tie.close
     (tie.spec
-    (λ c i upper. rw c.match.keys1)
-    (λ c i upper. rw c.match.keys2)
-    (λ c i upper. rw c.match.keys3)
+    (λ c i upper. rw c.in-60.is)
+    (λ c i upper. rw c.in-61.is)
+    (λ c i upper. rw c.in-62.is)
     (λ c i upper. rw (last 60 3 c.requires c.match.rest)))

@@ -9,5 +9,5 @@ unfolding op_at operations
 mixed_sign_add_shape_spec =
     tie.close
     (tie.spec
-    (λ c i upper. rw c.match.keys1)
+    (λ c i upper. rw c.in-54.is)
     (λ c i upper. rw (last 54 1 c.requires c.match.rest)))

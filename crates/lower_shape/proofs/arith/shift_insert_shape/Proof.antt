@@ -9,5 +9,5 @@ unfolding op_at operations
 shift_insert_shape_spec =
     tie.close
     (tie.spec
-    (λ c upper. rw c.match.keys1)
+    (λ c upper. rw c.in-17.is)
     (λ c upper. rw (last 17 1 c.requires c.match.rest)))

@@ -38,7 +38,7 @@ returns-2 c =
     let l-konst = c in
     let l-match = c in
     let st = c in
-    left-clamped st.args.to st.args.signed (λ q. not_third _ l-match.match.keys2 (rw q refl)) (omega (arith, st.requires)) st.requires.1.1 st.requires.1.2
+    left-clamped st.args.to st.args.signed (λ q. not_third _ l-match.in_default.is (rw q refl)) (omega (arith, st.requires)) st.requires.1.1 st.requires.1.2
     l-konst.konst-by.ensures l-saturating-shift-left.saturating_shift_left.ensures
 
 pub saturated_left_spec : {M : Type 1} → statement M

@@ -67,7 +67,7 @@ returns c =
     let l-konst = c in
     let l-power = c in
     let s = c in
-    bound-signed s.requires.1.1 s.requires.1.2 l-power.if1.taken l-power.power-magnitude.ensures l-konst.konst-zero.ensures l-compare.compare-negative.ensures
+    bound-signed s.requires.1.1 s.requires.1.2 l-power.if-signed.true l-power.power-magnitude.ensures l-konst.konst-zero.ensures l-compare.compare-negative.ensures
     l-konst2.konst-low.ensures l-konst3.konst-high.ensures l-ite.ite.ensures
 
 unsigned-max-requires : tie.Need-unsigned_max-requires

@@ -47,7 +47,7 @@ second : (c : tie.After-second_at invariant-loop-j decreases-loop-j) → let a =
 second c =
     let t = c in
     let a = (entry t).args in
-    subst (λ (k : ℕ). a.m * k + a.m ≤ 128) (sym c.second_at.ensures) ((entry t).requires.4.second_in (j t) t.loop-test.taken)
+    subst (λ (k : ℕ). a.m * k + a.m ≤ 128) (sym c.second_at.ensures) ((entry t).requires.4.second_in (j t) t.loop-j-test.true)
 
 -- the lanes that are read
 lane-is : (c : tie.After-lane_at-l invariant-loop-j decreases-loop-j) → let t = c in let a = (entry t).args in
@@ -131,7 +131,7 @@ loop-again c =
     let l = c in
     let t = c in
     let s = entry t in (
-      omega (arith, t.loop-test.taken),
+      omega (arith, t.loop-j-test.true),
       one_more s.args.n s.args.k _ _
           (lane-by-lt s.args.op s.args.n s.args.m s.args.skip s.args.element s.args.index.0 _ _ _ s.requires.0 (n-le t)
           s.requires.2 s.requires.3) (j t) _ _ _ _ _ _ t.loop-j.invariant.1 (place t) (lane-is c.before.before.before).bits_are (lane-is c.before.before.before).saturated_is

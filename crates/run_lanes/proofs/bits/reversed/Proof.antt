@@ -20,7 +20,7 @@ grown : (c : tie.After-power invariant-loop-j decreases-loop-j) → let l = c.lo
 grown c =
     let b = c.bit in
     let l = c.loop-j in
-    (omega (arith, l.inv.2, times-bit b.result c.power.result b.ensures.1, c.power.ensures, next_power l.j), pow_mono {i = l.j + 1} {j = 64} (omega arith))
+    (omega (arith, l.invariant.2, times-bit b.result c.power.result b.ensures.1, c.power.ensures, next_power l.j), pow_mono {i = l.j + 1} {j = 64} (omega arith))
 
 loop-holds : tie.Need-loop-j-init invariant-loop-j decreases-loop-j
 loop-holds c = (omega arith, unfold lanes in refl, omega arith)
@@ -53,7 +53,7 @@ loop-again : tie.Need-loop-j-preserved invariant-loop-j decreases-loop-j
 loop-again c =
     let l = c.loop-j in
     let a = c.args in
-    (omega arith, reversed-more (λ i. bit_at (a.n - 1 - i) a.a) l.j l.inv.1 c.bit.ensures.0 c.power.ensures, (grown c).0)
+    (omega arith, reversed-more (λ i. bit_at (a.n - 1 - i) a.a) l.j l.invariant.1 c.bit.ensures.0 c.power.ensures, (grown c).0)
 
 returns : tie.Need-returns invariant-loop-j decreases-loop-j
 returns c =

@@ -37,7 +37,7 @@ returns-2 c =
     let l-konst = c in
     let l-match = c in
     let st = c in
-    left-lost {to = st.args.to} st.args.shift st.args.lane_bits st.args.signed st.requires.1.1 st.requires.1.2 (λ q. not_third _ l-match.match.keys2 (rw q refl))
+    left-lost {to = st.args.to} st.args.shift st.args.lane_bits st.args.signed st.requires.1.1 st.requires.1.2 (λ q. not_third _ l-match.in_default.is (rw q refl))
     l-konst.konst-by.ensures l-lost.lost.ensures
 
 pub left_bit_spec : {M : Type 1} → statement M

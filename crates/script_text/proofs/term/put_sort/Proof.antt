@@ -44,7 +44,7 @@ returns-2 c =
     let w3 = c in
     let w2 = c in
     let w1 = c in
-    wrote_as (long-sort _ w1.if1.left) (wrote_then w1.put-i.ensures (wrote_then w2.put_number-j.ensures w3.put-2.ensures))
+    wrote_as (long-sort _ w1.if-width-eq0.false) (wrote_then w1.put-i.ensures (wrote_then w2.put_number-j.ensures w3.put-2.ensures))
 
 pub put_sort_spec : {M : Type 1} → statement M
 put_sort_spec =

@@ -137,13 +137,13 @@ module _ (c : tie.After-second-then-k-lt-ZERO_EXTEND) where
   two-entry = two-if.before.before.before.before.before.before
 
   two_from : 3 ≤ two-entry.args.k
-  two_from = from-three two-entry.args.k two-entry.requires.0.2 two-if.before.before.before.if1.left
+  two_from = from-three two-entry.args.k two-entry.requires.0.2 two-if.before.before.before.if-k-eq-CONST.false
 
   two_is : let s = two-entry in let ws = pool s in
       Two (node s) (op_a ws (node s)) (op_b ws (node s)) (term_of ws (node s)) (apply2 (function_of (kind_at s.args.k)) (name_of ws (op_a ws (node s))) (name_of ws (op_b ws (node s))))
   two_is =
       let s = two-entry in
-      two-of (pool s) (node s) s.requires.0.0 s.args.k s.requires.0.1 two_from two-if.if4.taken two-if.before.before.if2.left two-if.before.if3.left
+      two-of (pool s) (node s) s.requires.0.0 s.args.k s.requires.0.1 two_from two-if.if-k-lt-ZERO_EXTEND.true two-if.before.before.if-k-eq-ITE.false two-if.before.if-k-eq-EXTRACT.false
 
   two-text : let s = two-entry in
       due s ≡ show (apply2 (function_of (kind_at s.args.k)) (name_of (pool s) c.before.first-then-k-lt-ZERO_EXTEND.result.0) (name_of (pool s) c.second-then-k-lt-ZERO_EXTEND.result.0))
@@ -217,7 +217,7 @@ put-extension-requires c κs =
     let e = c in
     let s = c in
     let r = s.requires.0.0 in (
-      (omega (arith, e.if4.left), kind-below (pool c.before.before.before.before.before.before.before.before.before.before.before) (node c.before.before.before.before.before.before.before.before.before.before.before) r s.args.k s.requires.0.1, omega (arith, again.first-3.ensures, (extends c.before.before.before.before.before).less-a, r.inside)),
+      (omega (arith, e.if-k-lt-ZERO_EXTEND.false), kind-below (pool c.before.before.before.before.before.before.before.before.before.before.before) (node c.before.before.before.before.before.before.before.before.before.before.before) r s.args.k s.requires.0.1, omega (arith, again.first-3.ensures, (extends c.before.before.before.before.before).less-a, r.inside)),
       room_as (text-18 c.before) s.requires.1,
     )
 

@@ -92,7 +92,7 @@ returns-2 c =
     let o = c in
     let e = c in
     let s = c in
-    let z = pair_size (pool c.before.before.before.before.before.before.before.before) (node c.before.before.before.before.before.before.before.before) s.requires.0 _ e.kind_of-k.ensures (an-operator e.if1.left o.if-k-lt-ITE.true) in
+    let z = pair_size (pool c.before.before.before.before.before.before.before.before) (node c.before.before.before.before.before.before.before.before) s.requires.0 _ e.kind_of-k.ensures (an-operator e.if-k-lt-ADD.false o.if-k-lt-ITE.true) in
     omega
     (arith, c.least-then-k-lt-ITE.ensures, o.two_lengths.ensures, c.operator_characters.ensures.0, known e (one c.before.before.before.before), known e (two c.before.before.before.before (operator-is c.before.before.before)), z)
 
@@ -189,7 +189,7 @@ returns-5 c =
     let e = c in
     let s = c in
     let x = rw l.third.ensures at l.length_at-then-k-eq-ITE.ensures in
-    let z = ite-size (pool c.before.before.before.before.before.before.before.before.before.before.before.before) (node c.before.before.before.before.before.before.before.before.before.before.before.before) s.requires.0 _ e.kind_of-k.ensures i.if5.taken in
+    let z = ite-size (pool c.before.before.before.before.before.before.before.before.before.before.before.before) (node c.before.before.before.before.before.before.before.before.before.before.before.before) s.requires.0 _ e.kind_of-k.ensures i.if-k-eq-ITE.true in
     omega (arith, c.least-then-k-eq-ITE.ensures, t.two_lengths-two.ensures, x, known e (one c.before.before.before.before.before.before.before.before), known e (two c.before.before.before.before.before.before.before.before (joins-is c.before.before.before.before.before)), known e (three c.before.before.before), z)
 
 add-least-6 : tie.Need-overflow_add-two-2

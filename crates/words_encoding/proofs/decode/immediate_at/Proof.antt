@@ -23,19 +23,19 @@ element-at-requires c κs = search rules
 returns : tie.Need-returns-in-1
 returns c =
     let a = c.args in
-    λ o v h e. at_none (form o).immediate a.bits a.w (sym (parts a.code o v h e).row ∙ c.match.keys1)
+    λ o v h e. at_none (form o).immediate a.bits a.w (sym (parts a.code o v h e).row ∙ c.in-1.is)
 
 returns-2 : tie.Need-returns-in-2
 returns-2 c =
     let left = c in
     let a = left.args in
-    λ o v h e. at_left (form o).immediate a.bits a.w c.minus_or_zero.result c.minus_or_zero.ensures (sym (parts a.code o v h e).row ∙ left.match.keys2)
+    λ o v h e. at_left (form o).immediate a.bits a.w c.minus_or_zero.result c.minus_or_zero.ensures (sym (parts a.code o v h e).row ∙ left.in-2.is)
 
 returns-3 : tie.Need-returns-in-3
 returns-3 c =
     let right = c in
     let a = right.args in
-    λ o v h e. at_right (form o).immediate a.bits a.w c.minus_or_zero-in-3.result c.minus_or_zero-in-3.ensures (sym (parts a.code o v h e).row ∙ right.match.keys3)
+    λ o v h e. at_right (form o).immediate a.bits a.w c.minus_or_zero-in-3.result c.minus_or_zero-in-3.ensures (sym (parts a.code o v h e).row ∙ right.in-3.is)
 
 returns-4 : tie.Need-returns-in_default
 returns-4 c =

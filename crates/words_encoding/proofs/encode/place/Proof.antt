@@ -39,16 +39,16 @@ add-result-4 : tie.Need-overflow_add-result-in_default-2
 add-result-4 c = search rules
 
 returns : tie.Need-returns-in-1
-returns c = (λ o v h e. row-none (form o).immediate _ _ _ _ (sym (parts _ o v h e).row ∙ c.match.keys1), omega (arith, c.requires))
+returns c = (λ o v h e. row-none (form o).immediate _ _ _ _ (sym (parts _ o v h e).row ∙ c.in-1.is), omega (arith, c.requires))
 
 returns-2 : tie.Need-returns-in-2
-returns-2 c = (λ o v h e. row-left (form o).immediate _ _ _ _ (sym (parts _ o v h e).row ∙ c.match.keys2), omega (arith, c.requires))
+returns-2 c = (λ o v h e. row-left (form o).immediate _ _ _ _ (sym (parts _ o v h e).row ∙ c.in-2.is), omega (arith, c.requires))
 
 returns-3 : tie.Need-returns-in-3
 returns-3 c =
     let right = c in
     let t = c.to_right in (
-      λ o v h e. row-right (form o).immediate _ _ _ _ t.result t.ensures.0 (sym (parts _ o v h e).row ∙ right.match.keys3),
+      λ o v h e. row-right (form o).immediate _ _ _ _ t.result t.ensures.0 (sym (parts _ o v h e).row ∙ right.in-3.is),
       omega (arith, right.requires, t.ensures.1),
     )
 
