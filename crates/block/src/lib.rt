@@ -1,4 +1,6 @@
 // A block of records, lowered into a new pool (document 01, "Pool"). The Rust has no counterpart: it lowers one instruction at a time.
+#![tactic(auto)]
+
 ghost use Rattle.std.specs.Prelude.{◌≡◌, ◌*◌, ◌/◌, length};
 ghost use Rattle.neon.specs.Refusal.{reserve, AllLegal};
 ghost use Rattle.pool.specs.Growth.{Room};

@@ -1,5 +1,7 @@
 // The refusals of a block (document 01, "The numbers"), whose records come as flat numbers, six each; numbers after the last whole
 // record are not read.
+#![tactic(auto)]
+
 ghost use Rattle.std.specs.Prelude.{◌≡◌};
 ghost use Rattle.neon.specs.Refusal.{records_refusal, size_number, refusal_by, block_refusal};
 ghost use Rattle.pool.specs.Node.{places, places_in};

@@ -1,6 +1,8 @@
 // A block as a list of records, on a map of the registers that the caller lends (document 01, "The forms we expect"). These
 // functions only take records apart: block_check, block_record and block do the work, and serve callers that have flat numbers.
 // The Rust has no counterpart: it lowers one instruction at a time.
+#![tactic(auto)]
+
 ghost use Rattle.std.specs.Prelude.{◌*◌, length};
 ghost use Rattle.neon.specs.Refusal.{reserve, Legal, AllLegal};
 ghost use Rattle.pool.specs.Growth.{Room};

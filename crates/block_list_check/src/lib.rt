@@ -1,4 +1,6 @@
 // The refusals of a block that comes as a list of records. block_record_check has the test of one record.
+#![tactic(auto)]
+
 ghost use Rattle.neon.specs.Refusal.{block_refusal};
 ghost use Rattle.pool.specs.Node.{places_in};
 ghost use Rattle.block_check.specs.Records.{Refuses};

@@ -1,4 +1,6 @@
 // The map of a block (document 01, "Pool"): the node of each of the 32 registers, and the count of the pool's nodes.
+#![tactic(auto)]
+
 ghost use Rattle.std.specs.Prelude.{◌≡◌, ◌<◌};
 ghost use Rattle.block_map.specs.Map.{node_of, first_map, no_map, written};
 

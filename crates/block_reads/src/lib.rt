@@ -1,4 +1,6 @@
 // How a record of a block reads a register, and how its result becomes one (document 01, "Pool").
+#![tactic(auto)]
+
 ghost use Rattle.std.specs.Prelude.{[], ◌∷◌, ◌<◌};
 ghost use Rattle.neon.specs.Op.{bits_if};
 ghost use Rattle.trees.specs.Block.{widen_tree};

@@ -1,5 +1,7 @@
 // One record of a block: the reads of its registers, the lowering of its form, and the widening of its result.
 // The Rust's lift_neon does this by statements: a register is read as a variable, and the result is assigned to one.
+#![tactic(auto)]
+
 ghost use Rattle.neon.specs.Refusal.{reserve, Legal};
 ghost use Rattle.pool.specs.Growth.{Room};
 ghost use Rattle.block_record_check.specs.Record.{instruction};

@@ -1,5 +1,7 @@
 // A record of a block and its refusals (document 01, "The numbers"). A record is six numbers: operation, arrangement, i, d, n, m. The
 // Rust has no counterpart: it lowers one instruction at a time.
+#![tactic(auto)]
+
 ghost use Rattle.std.specs.Prelude.{◌≡◌, ◌+◌, ◌*◌, ◌≤◌, length};
 ghost use Rattle.neon.specs.Op.{bits_of_lane};
 ghost use Rattle.neon.specs.Refusal.{most_m, record_number};

@@ -1,4 +1,6 @@
 // The words in which a block's answer is given to C and Rust.
+#![tactic(auto)]
+
 ghost use Rattle.std.specs.Prelude.{◌≡◌};
 ghost use Rattle.block_results.specs.Words.{answer_words, flagged_words};
 

@@ -1,1 +1,2 @@
 // The order and the words of a canonical pool: specs/ has the definitions, proofs/ the theorems.
+#![tactic(auto)]

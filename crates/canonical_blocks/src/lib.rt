@@ -1,1 +1,2 @@
 // The canonical pools of a block with two neighbours exchanged: proofs/ has the theorem.
+#![tactic(auto)]

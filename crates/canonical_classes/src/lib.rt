@@ -1,4 +1,6 @@
 // Which nodes of a pool unfold to the same tree (document 02, S-13). The Rust has no counterpart.
+#![tactic(auto)]
+
 ghost use Rattle.std.specs.Prelude.{◌≡◌, ◌+◌, ◌*◌, ◌≤◌, ◌<◌, length, get_or};
 ghost use Rattle.pool.specs.Rules.{Valid};
 ghost use Rattle.pool_fields.specs.Fields.{op_c};

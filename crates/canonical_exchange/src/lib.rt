@@ -1,1 +1,2 @@
 // Exchanging two neighbouring instructions: specs/ has the definitions, proofs/ the theorem.
+#![tactic(auto)]

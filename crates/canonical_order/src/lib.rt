@@ -1,4 +1,6 @@
 // The nodes beneath a root in the order in which a left-first walk finishes them, each tree once (document 02, S-13).
+#![tactic(auto)]
+
 ghost use Rattle.std.specs.Prelude.{◌≡◌, ◌+◌, ◌*◌, ◌≤◌, ◌<◌, length};
 ghost use Rattle.pool.specs.Rules.{Valid};
 ghost use Rattle.pool_fields.specs.Fields.{op_c};

@@ -1,4 +1,6 @@
 // The canonical pool of a root (document 02, S-13): its distinct subtrees in the order in which a left-first walk finishes them.
+#![tactic(auto)]
+
 ghost use Rattle.std.specs.Prelude.{◌≡◌, ◌+◌, ◌*◌, ◌≤◌, ◌<◌, length};
 ghost use Rattle.pool.specs.Rules.{Valid};
 ghost use Rattle.pool_fields.specs.Fields.{op_c};

@@ -1,4 +1,6 @@
 // Whether a refutation shows that bits of a node of one pool and of a node of another are equal at every start.
+#![tactic(auto)]
+
 ghost use Rattle.std.specs.Prelude.{◌&&◌, ◌≡◌, eqb, length};
 ghost use Rattle.equal.specs.Equal.{Answered};
 

@@ -1,4 +1,6 @@
 // The value of a pool's node at a start, with a number of visits that may be made.
+#![tactic(auto)]
+
 ghost use Rattle.std.specs.Prelude.{◌≡◌, false, ◌≤◌, ◌<◌};
 ghost use Rattle.pool.specs.Node.{kind_number, kind_at};
 ghost use Rattle.terms.specs.Value.{bit as bit_of};

@@ -1,4 +1,6 @@
 // Every legal form, listed (document 02, S-14): a line of document 01's columns for each.
+#![tactic(auto)]
+
 ghost use Rattle.std.specs.Prelude.{◌≡◌, ◌≤◌, ◌<◌};
 ghost use Rattle.text_digits.specs.Writing.{Room, Wrote};
 ghost use Rattle.neon_form.specs.Code.{OfCode};

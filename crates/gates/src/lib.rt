@@ -1,4 +1,5 @@
 // And-inverter graphs: the gates that the bits of terms are made of. specs/ has what a literal means.
+#![tactic(auto)]
 
 // A literal of a graph: twice a variable's number, plus 1 if it is inverted.
 #[derive(Clone, Copy)]

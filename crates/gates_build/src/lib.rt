@@ -1,4 +1,6 @@
 // Gates made one by one. Constants and operands of operands are folded, operands are in order, and a gate that is there already is found again.
+#![tactic(auto)]
+
 ghost use Rattle.std.specs.Prelude.{◌≡◌, not, ◌&&◌, ◌||◌, ◌+◌, ◌*◌, ◌/◌, ◌%◌, ◌-◌, ◌≤◌, ◌<◌, length, get_or};
 ghost use Rattle.gates.specs.Graph.{truth, gate_word};
 ghost use Rattle.gates_build.specs.Find.{Finds};

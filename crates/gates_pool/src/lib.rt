@@ -1,4 +1,6 @@
 // The bits of a pool's nodes, as literals of a graph of gates.
+#![tactic(auto)]
+
 ghost use Rattle.std.specs.Prelude.{◌+◌, ◌*◌, ◌≤◌, length};
 ghost use Rattle.pool.specs.Rules.{Valid};
 ghost use Rattle.gates.specs.Grow.{Room};

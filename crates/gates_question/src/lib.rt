@@ -1,4 +1,6 @@
 // Two pools in one graph, and the literal that is true exactly when bits of a node of the one and of a node of the other differ.
+#![tactic(auto)]
+
 ghost use Rattle.std.specs.Prelude.{◌≡◌, ◌+◌, ◌*◌, ◌≤◌, length};
 ghost use Rattle.gates.specs.Grow as grow;
 ghost use Rattle.gates_words.specs.Words.{Reads};

@@ -1,4 +1,6 @@
 // One instruction: refused with a number of document 01's table, or lowered to its term.
+#![tactic(auto)]
+
 ghost use Rattle.std.specs.Prelude.{◌≡◌};
 ghost use Rattle.pool.specs.Node.{none};
 ghost use Rattle.instruction.specs.Lowering.{Answers};

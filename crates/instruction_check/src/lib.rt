@@ -1,4 +1,6 @@
 // The refusals of one instruction: the pool, the form, the sources, the room.
+#![tactic(auto)]
+
 ghost use Rattle.std.specs.Prelude.{◌≡◌, true};
 ghost use Rattle.neon.specs.Op.{bits_if, full as full_of};
 ghost use Rattle.pool.specs.Rules.{pool_ok};

@@ -1,4 +1,6 @@
 // Two pools as one, with an Eq of a term of each (document 02, S-11). The Rust has no counterpart.
+#![tactic(auto)]
+
 ghost use Rattle.std.specs.Prelude.{cond, ◌&&◌, ◌≡◌, ℕ, ◌+◌, ◌-◌, ◌*◌, ◌≤◌, ◌<◌, ltb, length};
 ghost use Rattle.pool.specs.Node.{places, word_at};
 ghost use Rattle.pool.specs.Rules.{pool_ok, Valid};

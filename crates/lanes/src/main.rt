@@ -1,6 +1,8 @@
 // The line program (document 01, "Text and program"): reads standard input to its end, and writes an answer for each line.
 // It only reads and writes: what is written for the bytes that are read is the library's, `line_run`. At the first read or write that
 // fails it says so on standard error and stops.
+#![tactic(auto)]
+
 ghost use Rattle.std.specs.Prelude.{◌≤◌, length};
 ghost use Rattle.line.specs.Output.{Rooms};
 

@@ -1,5 +1,7 @@
 // A line of the program `lanes`: what it means and what is written for it (document 01, "Text and program"). The Rust has no
 // counterpart.
+#![tactic(auto)]
+
 ghost use Rattle.std.specs.Prelude.{◌-◌, ◌≤◌, length};
 ghost use Rattle.pool.specs.Node.{places};
 ghost use Rattle.text_digits.specs.Writing.{Wrote};

@@ -1,4 +1,6 @@
 // Numbers in columns: right-justified decimals in fields of 4 characters, read and written. The Rust has no counterpart.
+#![tactic(auto)]
+
 ghost use Rattle.std.specs.Prelude.{◌≡◌, ◌&&◌, ◌+◌, ◌%◌, ◌≤◌, ◌<◌, leb, eqb, length};
 ghost use Rattle.text_digits.specs.Writing.{Room, Wrote};
 ghost use Rattle.line_columns.specs.Columns.{columns, character_of, shown, field_at, is_field};

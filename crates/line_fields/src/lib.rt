@@ -1,4 +1,6 @@
 // A line of six numbers in columns, as the line program reads it. The Rust has no counterpart.
+#![tactic(auto)]
+
 ghost use Rattle.std.specs.Prelude.{◌≡◌, ◌≤◌, length};
 ghost use Rattle.line_fields.specs.Fields.{in_columns, fields};
 

@@ -1,4 +1,6 @@
 // An input that is read whole, into one buffer.
+#![tactic(auto)]
+
 ghost use Rattle.std.specs.Prelude.{◌≤◌, length};
 
 // How many bytes the buffer has, and whether all reads were good.

@@ -1,4 +1,6 @@
 // What is written for a line (document 01, "Text and program"): a number, or 0 and a text. The Rust has no counterpart.
+#![tactic(auto)]
+
 ghost use Rattle.std.specs.Prelude.{true, [], ◌∷◌, ◌++◌, ◌≡◌, ◌+◌, ◌≤◌, ◌<◌, length};
 ghost use Rattle.pool.specs.Rules.{pool_ok};
 ghost use Rattle.line_columns.specs.Columns.{columns};

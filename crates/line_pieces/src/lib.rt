@@ -1,4 +1,6 @@
 // A line that comes in pieces. The Rust has no counterpart.
+#![tactic(auto)]
+
 ghost use Rattle.std.specs.Prelude.{drop};
 ghost use Rattle.line_pieces.specs.Pieces.{Gathers};
 

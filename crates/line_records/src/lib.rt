@@ -1,4 +1,6 @@
 // A record written as a line of document 01's columns.
+#![tactic(auto)]
+
 ghost use Rattle.std.specs.Prelude.{◌<◌};
 ghost use Rattle.block_record_check.specs.Record.{instruction};
 ghost use Rattle.text_digits.specs.Writing.{Room, Wrote};

@@ -1,4 +1,6 @@
 // A routine as lines of document 01's columns, read into records of flat numbers, six each.
+#![tactic(auto)]
+
 ghost use Rattle.std.specs.Prelude.{◌≡◌, ◌+◌, ◌*◌, ◌≤◌, ◌<◌, length};
 ghost use Rattle.text_digits.specs.Writing.{Room, Wrote};
 ghost use Rattle.line_fields.specs.Fields.{fields};

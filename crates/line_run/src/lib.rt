@@ -1,5 +1,7 @@
 // The lines of an input that comes in pieces, and the answers to them in a buffer: everything between the program's reads and writes.
 // The Rust has no counterpart.
+#![tactic(auto)]
+
 ghost use Rattle.std.specs.Prelude.{◌≤◌, length};
 ghost use Rattle.pool.specs.Node.{places};
 ghost use Rattle.line.specs.Output.{Rooms};

@@ -1,4 +1,6 @@
 // The Rust's neon/lower.rs: what several families use. arith has what the families of neon/lower/arith.rs share.
+#![tactic(auto)]
+
 ghost use Rattle.std.specs.Prelude.{◌≡◌, ◌-◌, ◌≤◌, ◌<◌, ◌^◌};
 ghost use Rattle.pool.specs.Node.{wide as wide_words};
 ghost use Rattle.pool.specs.Growth.{Room};

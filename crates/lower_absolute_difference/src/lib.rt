@@ -1,4 +1,6 @@
 // The Rust's neon/lower/arith.rs: absolute_difference_lane and absolute_difference_lanes, alone or added to the old destination.
+#![tactic(auto)]
+
 ghost use Rattle.std.specs.Prelude.{[], ◌∷◌, ◌*◌, ◌≤◌, ◌<◌};
 ghost use Rattle.pool.specs.Growth.{Room};
 ghost use Rattle.trees.specs.Arith.{absolute_difference_lane};

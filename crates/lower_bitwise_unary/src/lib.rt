@@ -1,4 +1,6 @@
 // The Rust's neon/lower/arith.rs: bitwise_unary_lanes, the functions of a lane's own bits lane by lane.
+#![tactic(auto)]
+
 ghost use Rattle.std.specs.Prelude.{[], ◌+◌, ◌*◌, ◌≤◌, ◌<◌};
 ghost use Rattle.pool.specs.Growth.{Room};
 ghost use Rattle.trees.specs.Trees.{bitwise_at, bitwise_unary_lanes};

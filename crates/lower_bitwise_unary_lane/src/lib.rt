@@ -1,4 +1,6 @@
 // The Rust's neon/lower/arith.rs: bitwise_unary_lane, the functions of a lane's own bits.
+#![tactic(auto)]
+
 ghost use Rattle.std.specs.Prelude.{[], ◌∷◌, ◌+◌, ◌*◌, ◌≤◌, ◌<◌};
 ghost use Rattle.pool.specs.Growth.{Room};
 ghost use Rattle.trees.specs.Trees.{bitwise_unary_lane};

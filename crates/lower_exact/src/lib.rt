@@ -1,5 +1,7 @@
 // The Rust's neon/lower/arith.rs: what saturating_lane clamps, the exact value of a lane of the saturating, halving and narrowing
 // operations, at a width where it cannot overflow.
+#![tactic(auto)]
+
 ghost use Rattle.std.specs.Prelude.{◌≡◌, [], ◌∷◌, ◌+◌, ◌*◌, ◌≤◌, ◌<◌, ◌^◌};
 ghost use Rattle.pool.specs.Growth.{Room};
 ghost use Rattle.trees.specs.Arith.{kind_bits, joined, shifted, scaled, exact_lane, exact_bits, kind_to};

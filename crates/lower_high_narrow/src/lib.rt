@@ -1,4 +1,6 @@
 // The Rust's neon/lower/width.rs: high_narrow_lane and high_narrow_lanes, the high halves of sums and differences.
+#![tactic(auto)]
+
 ghost use Rattle.std.specs.Prelude.{[], ◌∷◌, ◌+◌, ◌-◌, ◌*◌, ◌≤◌, ◌<◌};
 ghost use Rattle.pool.specs.Growth.{Room};
 ghost use Rattle.trees.specs.Simd.{concat_lanes};

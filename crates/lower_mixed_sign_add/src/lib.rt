@@ -1,4 +1,6 @@
 // The Rust's neon/lower/arith.rs: mixed_sign_add_lanes, the sums of a signed and an unsigned number.
+#![tactic(auto)]
+
 ghost use Rattle.std.specs.Prelude.{[], ◌*◌, ◌≤◌, ◌<◌};
 ghost use Rattle.pool.specs.Growth.{Room};
 ghost use Rattle.trees.specs.Trees.{mixed_at, mixed_sign_add_lanes};

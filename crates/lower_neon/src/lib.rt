@@ -1,4 +1,6 @@
 // The Rust's neon/lower.rs: neon_value, which hands an operation to the function of its family; and the lowering of a legal form.
+#![tactic(auto)]
+
 ghost use Rattle.std.specs.Prelude.{◌≡◌, [], ◌*◌, ◌≤◌, ◌<◌};
 ghost use Rattle.neon.specs.Op.{op_at, arrangement_at, view};
 ghost use Rattle.neon.specs.Form.{has_second, reads_d, first_bits, second_bits};

@@ -1,4 +1,6 @@
 // The Rust's neon/lower/arith.rs: saturating_lanes, the saturating, halving and narrowing operations lane by lane.
+#![tactic(auto)]
+
 ghost use Rattle.std.specs.Prelude.{◌≡◌, true, [], ◌+◌, ◌-◌, ◌*◌, ◌≤◌, ◌<◌};
 ghost use Rattle.pool.specs.Growth.{Room};
 ghost use Rattle.trees.specs.Simd.{concat_lanes};

@@ -1,5 +1,7 @@
 // The Rust's neon/lower/arith.rs: saturating_lane, one lane of the saturating, halving and narrowing operations. Each kind computes at
 // a width where its result cannot overflow (lower_exact), and brings it down.
+#![tactic(auto)]
+
 ghost use Rattle.std.specs.Prelude.{[], ◌∷◌, ◌≤◌, ◌<◌};
 ghost use Rattle.pool.specs.Growth.{Room};
 ghost use Rattle.trees.specs.Arith.{kind_bits};

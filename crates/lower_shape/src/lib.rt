@@ -1,4 +1,6 @@
 // The Rust's neon/arith.rs and neon/width.rs: the shape of an instruction, its family with its arguments, at its lanes.
+#![tactic(auto)]
+
 pub mod arith;
 pub mod width;
 

@@ -1,4 +1,6 @@
 // The Rust's neon/lower/arith.rs: shift_lanes, the shifts lane by lane.
+#![tactic(auto)]
+
 ghost use Rattle.std.specs.Prelude.{[], ◌+◌, ◌*◌, ◌≤◌, ◌<◌};
 ghost use Rattle.pool.specs.Growth.{Room};
 ghost use Rattle.trees.specs.Trees.{shift_at, shift_lanes};

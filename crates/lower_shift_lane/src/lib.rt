@@ -1,4 +1,6 @@
 // The Rust's neon/lower/arith.rs: shift_lane, one lane of the shifts that keep a lane's width.
+#![tactic(auto)]
+
 ghost use Rattle.std.specs.Prelude.{[], ◌∷◌, ◌≤◌, ◌<◌};
 ghost use Rattle.pool.specs.Growth.{Room};
 ghost use Rattle.trees.specs.Trees.{shifted_by};

@@ -1,4 +1,6 @@
 // The Rust's lift/simd.rs: cuts, and lanes put together. A cut of a cut is joined, as `extract_collapsing` of `trees` says.
+#![tactic(auto)]
+
 ghost use Rattle.std.specs.Prelude.{◌≡◌, ◌+◌, ◌*◌, ◌≤◌, ◌<◌, length};
 ghost use Rattle.pool.specs.Growth.{Room};
 ghost use Rattle.pool_nodes.specs.Builders.{MadeConcat};

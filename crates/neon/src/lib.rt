@@ -1,4 +1,6 @@
 // NEON instructions: records, lanes and the table of legal forms. What an instruction computes is in specs/.
+#![tactic(auto)]
+
 ghost use Rattle.std.specs.Prelude.{◌≡◌};
 ghost use Rattle.neon.specs.Form.{form_code_at};
 

@@ -1,4 +1,6 @@
 // The form of an operation at an arrangement: whether the manual has it, and what its code says.
+#![tactic(auto)]
+
 ghost use Rattle.std.specs.Prelude.{◌≡◌, ◌≤◌};
 ghost use Rattle.neon.specs.Op.{arrangement_at, bits_of_lane, full};
 ghost use Rattle.neon.specs.Form.{form, least, most, has_second, reads_d, first_full, second_full, by_element};

@@ -1,4 +1,6 @@
 // The pool of terms: four words per node.
+#![tactic(auto)]
+
 ghost use Rattle.std.specs.Prelude.{◌≡◌};
 ghost use Rattle.pool.specs.Node.{none, places};
 ghost use Rattle.pool.specs.Growth.{Room, Pushed};

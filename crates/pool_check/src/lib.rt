@@ -1,4 +1,6 @@
 // The pool check of document 01: whether every node below the count keeps the pool's rules; and the numbers 1 and 5 of what is asked of a node.
+#![tactic(auto)]
+
 ghost use Rattle.std.specs.Prelude.{◌&&◌, ◌≡◌, ◌+◌, ◌*◌, ◌≤◌, ◌<◌, eqb, length};
 ghost use Rattle.pool.specs.Node.{none};
 ghost use Rattle.pool.specs.Rules.{ok_node, ok_pool, pool_ok, node_number, of_width};

@@ -1,4 +1,6 @@
 // A node's operands and data (document 01, "Pool"), read one by one.
+#![tactic(auto)]
+
 ghost use Rattle.std.specs.Prelude.{◌≡◌, ◌+◌, ◌*◌, ◌/◌, ◌<◌, length};
 ghost use Rattle.pool.specs.Node.{word_at};
 ghost use Rattle.pool_fields.specs.Fields.{op_a, op_b, op_c, left_of, right_of};

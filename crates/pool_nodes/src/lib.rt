@@ -1,4 +1,6 @@
 // A constructor for each kind of node, which appends one to a pool.
+#![tactic(auto)]
+
 ghost use Rattle.std.specs.Prelude.{◌≡◌, ◌+◌, ◌*◌, ◌≤◌, ◌<◌, ◌%◌, ◌^◌, length};
 ghost use Rattle.pool.specs.Node.{width_at, bv_code, compare_code};
 ghost use Rattle.pool.specs.Growth.{Room};

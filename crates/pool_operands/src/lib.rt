@@ -1,4 +1,6 @@
 // Which operands a kind of node has.
+#![tactic(auto)]
+
 ghost use Rattle.std.specs.Prelude.{◌≡◌};
 ghost use Rattle.pool_operands.specs.Operands.{has_a, has_b, has_c};
 

@@ -1,4 +1,6 @@
 // Which registers a term reads (document 02, S-4): past the pool check one word of one node.
+#![tactic(auto)]
+
 ghost use Rattle.pool_registers.specs.Answer.{Named};
 
 use pool::Node;

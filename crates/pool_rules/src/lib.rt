@@ -1,6 +1,8 @@
 // The rules of a node by its kind (document 01, "Pool"), each with the rule of its set (document 02, S-4). A test of a valid node never
 // fails, so the processor foresees each; kinds of two operands have one function, in which nothing branches by kind.
 // The Rust has no counterpart: its terms are boxes, and cannot be damaged.
+#![tactic(auto)]
+
 ghost use Rattle.std.specs.Prelude.{◌≡◌, ◌+◌, ◌*◌, ◌≤◌, ◌<◌, ◌^◌, ltb, length};
 ghost use Rattle.pool.specs.Node.{Kind, kind_at, none};
 ghost use Rattle.pool_rules.specs.Rule.{ok_as, width_over};

@@ -1,1 +1,2 @@
 // Refutations of a literal: definitions and theorems only.
+#![tactic(auto)]

@@ -1,4 +1,6 @@
 // The check of a refutation of a literal of a graph. If it is accepted, the literal is false at every start (`AcceptedIsFalse`).
+#![tactic(auto)]
+
 ghost use Rattle.std.specs.Prelude.{true, cond, ◌≡◌, ◌+◌, ◌/◌, ◌<◌, length, drop};
 ghost use Rattle.gates.specs.Graph.{inputs, graph_ok};
 ghost use Rattle.gates.specs.Grow.{literal_of};

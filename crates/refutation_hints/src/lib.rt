@@ -1,4 +1,6 @@
 // The hints of a step: what is left of each cited clause, and whether the hints lead to a conflict. A literal is set false by a mark.
+#![tactic(auto)]
+
 ghost use Rattle.std.specs.Prelude.{true, cond, [], ◌∷◌, ◌≡◌, ◌+◌, ◌≤◌, ◌<◌, length, get_or, drop};
 ghost use Rattle.std.proofs.Math.Seq.{slice};
 ghost use Rattle.gates.specs.Graph.{inputs, variable, left_of, right_of};

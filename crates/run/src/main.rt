@@ -2,6 +2,8 @@
 // 01's columns, from standard input; `run` takes both from standard input, the registers first. Standard output gets the registers after
 // it. It only reads and writes: what is written for the bytes that are read is the library's, `run_lines`. A refusal is said on standard
 // error, and so is the first read or write that fails.
+#![tactic(auto)]
+
 ghost use Rattle.std.specs.Prelude.{◌≤◌, length};
 
 use line_input::{Filled, fill};

@@ -1,4 +1,6 @@
 // Blocks on the device's numbers: 32 registers go in and come out, lane by lane, with no pool (document 02, S-2).
+#![tactic(auto)]
+
 ghost use Rattle.std.specs.Prelude.{◌≡◌, ◌<◌};
 ghost use Rattle.neon.specs.Op.{op_at, arrangement_at};
 ghost use Rattle.neon.specs.Run.{read_bits};

@@ -1,5 +1,7 @@
 // Lanes on exact integers, in three words: the manual's pseudocode works on unbounded integers, and no lane's exact result
 // passes 191 bits.
+#![tactic(auto)]
+
 ghost use Rattle.std.specs.Prelude.{◌≡◌, ◌-◌, ◌<◌, ◌≤◌, ◌^◌, pos, ◌*ℤ◌};
 ghost use Rattle.trees.specs.declared.SaturateTo.TheVariants.{Signed, Unsigned};
 ghost use Rattle.neon.specs.Arm.{S};

@@ -1,4 +1,6 @@
 // One lane of a result, by family: the exact integer, then the clamp or the cut.
+#![tactic(auto)]
+
 ghost use Rattle.std.specs.Prelude.{true, false, ◌≡◌, ◌+◌, ◌-◌, ◌*◌, ◌/◌, ◌<◌, ◌≤◌, ◌^◌};
 ghost use Rattle.neon.specs.Arm.{wrap};
 ghost use Rattle.terms.specs.declared.BinOp.TheVariants.{Add, Sub};

@@ -1,4 +1,6 @@
 // A routine run on 32 registers, from text to text: everything between the reads and the writes of the program `run`.
+#![tactic(auto)]
+
 ghost use Rattle.std.specs.Prelude.{◌≡◌, ◌+◌, ◌≤◌, ◌<◌, eqb, length};
 ghost use Rattle.text_digits.specs.Writing.{Wrote};
 ghost use Rattle.wide.specs.Number.{words};

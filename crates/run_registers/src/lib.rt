@@ -1,4 +1,6 @@
 // Registers as 32 hexadecimal digits: 32 of them read from a text, one written.
+#![tactic(auto)]
+
 ghost use Rattle.std.specs.Prelude.{◌≡◌, ◌+◌, ◌≤◌, ◌<◌, length};
 ghost use Rattle.terms.specs.Display.{digit};
 ghost use Rattle.text_digits.specs.Writing.{Room, Wrote};

@@ -1,1 +1,2 @@
 // Whether a lane saturates: definitions in specs/, theorems in proofs/.
+#![tactic(auto)]

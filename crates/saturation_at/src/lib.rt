@@ -1,5 +1,7 @@
 // Whether lane `index` of an instruction saturates: one bit over the whole registers of its sources. The lanes are cut from the registers
 // themselves, so that a read of a low half needs no node.
+#![tactic(auto)]
+
 ghost use Rattle.std.specs.Prelude.{true, ◌≡◌, [], ◌+◌, ◌*◌, ◌≤◌, ◌<◌};
 ghost use Rattle.pool.specs.Growth.{Room};
 ghost use Rattle.trees.specs.declared.Saturate.{Saturate};

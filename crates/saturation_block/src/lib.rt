@@ -1,5 +1,7 @@
 // A block with its saturation bit (document 02, S-12): the terms of the registers as `block` makes them, and beside them a term of one bit,
 // 1 exactly where some lane of some instruction saturates. The Rust has no such term.
+#![tactic(auto)]
+
 ghost use Rattle.std.specs.Prelude.{◌≡◌};
 ghost use Rattle.pool.specs.Node.{places, places_in};
 ghost use Rattle.block_check.specs.Records.{records_of, Refuses};

@@ -1,4 +1,6 @@
 // The block's bit after a record: over the whole registers that it reads, and the bit before it.
+#![tactic(auto)]
+
 ghost use Rattle.std.specs.Prelude.{◌≡◌, ◌<◌};
 ghost use Rattle.pool.specs.Growth.{Room};
 ghost use Rattle.neon.specs.Refusal.{form_number};

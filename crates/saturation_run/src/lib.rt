@@ -1,4 +1,6 @@
 // The records of a block in order, each with its saturation bit.
+#![tactic(auto)]
+
 ghost use Rattle.std.specs.Prelude.{◌*◌, ◌/◌, ◌<◌, length};
 ghost use Rattle.neon.specs.Refusal.{AllLegal};
 ghost use Rattle.pool.specs.Growth.{Room};

@@ -1,4 +1,6 @@
 // One record of a block with its saturation bit: first the bit over the registers before it, then the record as in every block.
+#![tactic(auto)]
+
 ghost use Rattle.std.specs.Prelude.{◌<◌};
 ghost use Rattle.neon.specs.Refusal.{Legal};
 ghost use Rattle.pool.specs.Growth.{Room};

@@ -1,6 +1,8 @@
 // The script that asks whether two registers can differ after a routine (document 02, S-1): `script A B` takes the routine, in document
 // 01's columns, from standard input, and writes to standard output. It only reads and writes: what is written for the bytes that are read
 // is the library's, `script_lines`. A refusal is said on standard error, and so is the first read or write that fails.
+#![tactic(auto)]
+
 ghost use Rattle.std.specs.Prelude.{◌≤◌, length};
 
 use line_input::fill;

@@ -1,1 +1,2 @@
 // Two routines by scripts: specs/ has the statements, proofs/ the theorems.
+#![tactic(auto)]

@@ -1,4 +1,6 @@
 // The length of a pool's script by lanes, with no byte written: each line's length is a sum.
+#![tactic(auto)]
+
 ghost use Rattle.std.specs.Prelude.{◌≡◌, ◌*◌, ◌≤◌, ◌<◌, length};
 ghost use Rattle.text_series.specs.Series.{up_to};
 ghost use Rattle.script_length.specs.Answer.{Named, AllNamed};

@@ -1,4 +1,6 @@
 // The script of a pool by lanes as bytes: the lines that S-1's form does not have.
+#![tactic(auto)]
+
 ghost use Rattle.std.specs.Prelude.{◌≡◌, ◌+◌, ◌*◌, ◌≤◌, ◌<◌, length};
 ghost use Rattle.pool.specs.Node.{kind_number};
 ghost use Rattle.text_digits.specs.Writing.{Room, Wrote};

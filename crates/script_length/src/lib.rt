@@ -1,4 +1,6 @@
 // The length of a pool's script (document 02, S-1), with no byte written: each line's length is a sum.
+#![tactic(auto)]
+
 ghost use Rattle.std.specs.Prelude.{◌≡◌, ◌+◌, ◌*◌, ◌≤◌, ◌<◌, length};
 ghost use Rattle.terms.specs.Display.{bytes};
 ghost use Rattle.pool.specs.Node.{kind_at, kind_number};

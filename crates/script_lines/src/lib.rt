@@ -1,4 +1,6 @@
 // The script of two registers after a routine, from text to text: everything between the reads and the writes of the program `script`.
+#![tactic(auto)]
+
 ghost use Rattle.std.specs.Prelude.{◌≡◌};
 ghost use Rattle.script_lines.specs.Output.{ScriptGiven};
 

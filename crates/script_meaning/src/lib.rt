@@ -1,1 +1,2 @@
 // A pool as an SMT-LIB script.
+#![tactic(auto)]

@@ -1,5 +1,7 @@
 // The script of a pool: 1, 5 and 9, or the bytes. The length is known before the first byte is written, so that a refusal writes
 // nothing.
+#![tactic(auto)]
+
 ghost use Rattle.script_write.specs.Answer.{Answered};
 
 use pool::Node;

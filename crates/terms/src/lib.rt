@@ -1,4 +1,5 @@
 // The operators of bit-vector terms. `Expr` in specs/ is built over them, and so is a pool's node.
+#![tactic(auto)]
 
 // The nine operators that keep the width of their operands: kinds 3 to 11.
 #[derive(Clone, Copy)]

@@ -2,6 +2,8 @@
 // A case has eight columns of five digits: places, count, operation, arrangement, i, d, n, m. A blank or a
 // newline ends each. Last comes the greatest number of nodes that a case added. `tests/programs/all_forms` makes the list
 // and what is to be written.
+#![tactic(auto)]
+
 ghost use Rattle.std.specs.Prelude.{◌≡◌, ◌<◌, ◌≤◌, length};
 ghost use Rattle.io.specs.Counts.{IsPrefixLen};
 

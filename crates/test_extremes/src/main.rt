@@ -3,6 +3,8 @@
 // A chain is a line on standard input, of eight numbers in columns: how many nodes are left out at the end; 1 if
 // nodes 1 and 2 are a condition and a register; then kind, width and operands of the nodes of even number, and of
 // those of odd number. `tests/programs/extremes` makes the lines and what is to be written.
+#![tactic(auto)]
+
 ghost use Rattle.std.specs.Prelude.{◌<◌};
 
 use line_columns::field;

@@ -1,5 +1,7 @@
 // The refutation of a miter, (a xor b) xor (b xor a) for bit 0 of registers 0 and 1, and neighbours of it that are refused. A line each: the number
 // and the step.
+#![tactic(auto)]
+
 use gates::Literal;
 
 const MITER: Literal = Literal(8210);

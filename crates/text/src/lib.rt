@@ -1,5 +1,7 @@
 // The text of a node of a pool: 1, 5 and 9, or the bytes. The length is known before the first byte is written, so that a refusal
 // writes nothing.
+#![tactic(auto)]
+
 ghost use Rattle.text_digits.specs.Writing.{Room, Wrote};
 ghost use Rattle.text_parts.specs.Text.{text, Ready};
 ghost use Rattle.text.specs.Answer.{Answered};

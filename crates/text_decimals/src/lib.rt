@@ -1,5 +1,7 @@
 // Decimal digits from the first to the last, by comparing and subtracting: no division, no multiplication. For numbers of up to five
 // digits, as nodes have; `text_digits` writes longer ones.
+#![tactic(auto)]
+
 ghost use Rattle.std.specs.Prelude.{◌≡◌, ◌+◌, ◌*◌, ◌≤◌, ◌<◌, length};
 ghost use Rattle.terms.specs.Display.{digit, decimal};
 ghost use Rattle.text_digits.specs.Writing.{Room, Wrote};

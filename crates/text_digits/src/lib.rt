@@ -1,4 +1,6 @@
 // Bytes and numbers into a lent buffer. Each writer takes the place where it begins and returns the place after what it wrote.
+#![tactic(auto)]
+
 ghost use Rattle.std.specs.Prelude.{◌≡◌, [], ◌∷◌, ◌+◌, ◌*◌, ◌-◌, ◌/◌, ◌%◌, ◌≤◌, ◌<◌, ltb, length};
 ghost use Rattle.terms.specs.Display.{digit, decimal, hexadecimal};
 ghost use Rattle.pool.specs.Node.{wide};

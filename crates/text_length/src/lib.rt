@@ -1,4 +1,6 @@
 // The length of a node's text up to a ceiling: by a pass over the text that stops once the ceiling is passed, or node by node.
+#![tactic(auto)]
+
 ghost use Rattle.std.specs.Prelude.{◌≡◌, true, cond, ◌+◌, ◌-◌, ◌≤◌, ◌<◌, min, eqb, length};
 ghost use Rattle.pool.specs.Node.{kind_number};
 ghost use Rattle.text_operators.specs.Between.{Joined, between_text};

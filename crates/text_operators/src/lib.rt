@@ -1,4 +1,6 @@
 // What `Display` of the Rust's expr.rs writes between two operands.
+#![tactic(auto)]
+
 ghost use Rattle.std.specs.Prelude.{◌≡◌, [], ◌∷◌, ◌≤◌, ◌<◌, length};
 ghost use Rattle.text_digits.specs.Writing.{Room, Wrote};
 ghost use Rattle.text_operators.specs.Between.{Joined, between_text};

@@ -1,5 +1,7 @@
 // The parts of a node's text: what `Display` of the Rust's expr.rs writes before and after its operands, as bytes into a lent
 // buffer. k is the number of the node's kind.
+#![tactic(auto)]
+
 ghost use Rattle.std.specs.Prelude.{◌≡◌, true, ◌∷◌, ◌++◌, ◌≤◌, ◌<◌};
 ghost use Rattle.terms.specs.Display.{bytes, decimal, hexadecimal};
 ghost use Rattle.pool.specs.Node.{wide, kind_number};

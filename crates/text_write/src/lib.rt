@@ -1,5 +1,7 @@
 // The text of a node that keeps the pool's rules, if the buffer has room for it: `Display` of the Rust's expr.rs, of the
 // term that the node unfolds to.
+#![tactic(auto)]
+
 ghost use Rattle.std.specs.Prelude.{◌≡◌, ◌+◌, ◌≤◌, length};
 ghost use Rattle.std.proofs.lemmas.List.Edits.{sets};
 ghost use denote.Ref.{at_last};

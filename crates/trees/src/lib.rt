@@ -1,5 +1,7 @@
 // The kinds of the Rust's neon.rs and neon/arith.rs, as far as the 67 operations use them. The terms that the Rust builds from
 // them are in specs/.
+#![tactic(auto)]
+
 use neon::Lane;
 use terms::BinOp;
 

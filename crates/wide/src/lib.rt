@@ -1,5 +1,7 @@
 // Numbers of 192 bits in three words: the arithmetic that values of terms and exact lanes share. Terms have up to 129 bits, and exact
 // lanes fit as signed numbers; so all is done modulo 2^192, and `cut` then drops what lies above a width.
+#![tactic(auto)]
+
 ghost use Rattle.std.specs.Prelude.{◌≡◌, ◌-◌, ◌/◌, ◌%◌, ◌^◌, ◌<◌, ◌≤◌, ◌==◌, bit_and, bit_or, bit_xor, nat_lt};
 ghost use Rattle.terms.specs.Value.{bvadd, bvsub, bvmul, bvshl};
 ghost use Rattle.wide.specs.Number.{num};

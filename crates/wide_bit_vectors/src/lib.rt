@@ -1,4 +1,6 @@
 // Bit-vector operations of SMT-LIB on numbers in three words, at any width up to 192: those of crate `wide`, cut to the width.
+#![tactic(auto)]
+
 ghost use Rattle.std.specs.Prelude.{◌≡◌, ◌+◌, ◌-◌, ◌*◌, ◌/◌, ◌%◌, ◌^◌, ◌<◌, ◌≤◌, suc, ltb};
 ghost use Rattle.terms.specs.Value.{bvadd, bvsub, bvmul, bvshl, bvlshr, bvashr, bvnot, bvslt, bvsext, msb};
 ghost use Rattle.wide.specs.Number.{num};

@@ -1,6 +1,8 @@
 // Lists A64 words (document 02, S-7): standard input has them as raw bytes, little endian, as `objcopy -O binary` gives; standard output
 // gets the record of each in document 01's columns, a line each. A word that encodes none of our forms is named on standard error, with
 // its position and its eight digits, and so is a last word that is broken. What a word means is the library's, `words_lists`.
+#![tactic(auto)]
+
 ghost use Rattle.std.specs.Prelude.{◌+◌, ◌*◌, ◌/◌, ◌≤◌, length};
 ghost use Rattle.io.specs.Counts.{IsPrefixLen};
 

@@ -1,4 +1,6 @@
 // A64 words of the 67 operations: a record as a word, and a word as a record.
+#![tactic(auto)]
+
 use neon::Instruction;
 
 pub mod decode;

@@ -1,4 +1,6 @@
 // Lists of A64 words, read as records of flat numbers, six each, and written back (document 02, S-7).
+#![tactic(auto)]
+
 ghost use Rattle.std.specs.Prelude.{◌≡◌, ◌+◌, ◌*◌, ◌≤◌, ◌<◌, length};
 ghost use Rattle.words_encoding.specs.Decode.{decode};
 ghost use Rattle.text_digits.specs.Writing.{Room, Wrote};

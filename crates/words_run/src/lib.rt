@@ -1,5 +1,7 @@
 // The words of an input as lines of columns, or as the refusals of those that encode no legal form: everything between the reads and the
 // writes of the program `words`.
+#![tactic(auto)]
+
 ghost use Rattle.std.specs.Prelude.{◌≡◌, ◌+◌, ◌*◌, ◌≤◌, ◌<◌, length};
 ghost use Rattle.text_digits.specs.Writing.{Wrote};
 ghost use Rattle.words_run.specs.Rows.{word_count, name_text, foreign_text, broken_text, word_row, row, Goes};
