@@ -1,6 +1,6 @@
 -- pair_ok is the rule of each kind of two operands
 use mathlib.Core.Path.{◌≡◌}
-use Prim.Native.Nat.{◌/◌, ◌<◌}
+use Prim.Native.Nat.{ℕ, ◌/◌, ◌<◌, ◌≤◌}
 use native.Mathlib.Omega.{arith}
 use Rattle.pool.specs.Node.{word_at}
 use Rattle.pool_fields.specs.Fields.{op_b, op_c}
@@ -10,8 +10,8 @@ use borrow.Author.Rules.{rules}
 use Rattle.pool_rules.proofs.pair_ok.Statement.{statement}
 use Rattle.pool_rules.proofs.pair_ok.Tie as tie
 
-is-pair : (st : tie.Start) → IsPair st.args.kind
-is-pair st = let h = st.requires.1 in record { from = h.0; below = h.1; no-ite = h.2; no_extract = h.3 }
+is-pair : {k : ℕ} → (3 ≤ k) × (k < 18) × (k ≡ 15 → ⊥) × (k ≡ 16 → ⊥) → IsPair k
+is-pair h = record { from = h.0; below = h.1; no-ite = h.2; no_extract = h.3 }
 
 first-requires : tie.Need-first-a-requires
 first-requires c κs = search rules
@@ -23,13 +23,13 @@ returns : tie.Need-returns-then-n-a
 returns c =
     let l-first = c in
     let st = c in
-    late-a st.args.p.now st.args.n.0 st.args.kind (is-pair c.before.before.before.before.before.before) (omega (arith, l-first.first-a.ensures, c.if-n-a.true))
+    late-a st.args.p.now st.args.n.0 st.args.kind (is-pair c.requires.1) (omega (arith, l-first.first-a.ensures, c.if-n-a.true))
 
 returns-2 : tie.Need-returns-then-n-rest
 returns-2 c =
     let l-second-and-third = c in
     let st = c in
-    late-rest st.args.p.now st.args.n.0 st.args.kind (is-pair c.before.before.before.before.before.before.before) (omega (arith, l-second-and-third.second_and_third-rest.ensures, c.if-n-rest.true))
+    late-rest st.args.p.now st.args.n.0 st.args.kind (is-pair c.requires.1) (omega (arith, l-second-and-third.second_and_third-rest.ensures, c.if-n-rest.true))
 
 width-of-requires : tie.Need-width_of-wa-requires
 width-of-requires c κs = search rules
@@ -73,7 +73,7 @@ returns-3 c =
     let l-if1 = l-if2.before in
     let l-second-and-third = l-if1.before.before.before in
     let l-first = l-second-and-third.before in
-    let st = entry l-first in
+    let st = c in
     let ws = st.args.p.now in
     let n = st.args.n.0 in
     let own : Own ws n l-width-of3.width_of-width.result l-low.low.result l-high.high.result l-set-of.set_of.result =
@@ -84,7 +84,7 @@ returns-3 c =
     let no-c : op_c ws n ≡ 0 = omega (arith, rest, st.requires.0.1) in
     let at_b : l-second-and-third.second_and_third-rest.result ≡ op_b ws n = omega (arith, word, no-c) in
     let lb : l-second-and-third.second_and_third-rest.result < n = omega (arith, l-if2.if-n-rest.false) in
-    pair-at ws n (omega (arith, l-first.first-a.ensures, la)) (rw at_b at lb) no-c st.args.kind (is-pair st) own
+    pair-at ws n (omega (arith, l-first.first-a.ensures, la)) (rw at_b at lb) no-c st.args.kind (is-pair c.requires.1) own
     (width-before ws n l-first.first-a.ensures la l-width-of.width_of-wa.ensures.0) (width-before ws n at_b lb l-width-of2.width_of-wb.ensures.0)
     (set_before ws n l-first.first-a.ensures la l-set-of2.set_of-2.ensures.0) (set_before ws n at_b lb l-set-of3.set_of-3.ensures.0) l-width-over.width_over.ensures
 
