@@ -32,8 +32,7 @@ returns-6 c = rw c.in-5.is refl
 returns-7 : tie.Need-returns-in_default
 unfolding arrangement_at arrangements
 returns-7 c =
-    let st = c in
-    let e : st.args.arrangement ≡ 6 = omega (arith, st.requires, c.match.rest) in
+    let e : c.args.arrangement ≡ 6 = omega arith in
     rw e refl
 
 pub is_full_spec : {M : Type 1} → statement M

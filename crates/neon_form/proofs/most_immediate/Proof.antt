@@ -28,7 +28,7 @@ returns-3 c o v h e = most-right (form o).immediate c.args.bits (sym (parts c.ar
 returns-4 : tie.Need-returns-in_default
 returns-4 c o v h e =
     let r = (parts c.args.code o v h e).row in
-    most-element (form o).immediate c.args.bits (omega (arith, r, c.match.rest)) (omega (arith, r, c.match.rest)) (omega (arith, r, c.match.rest))
+    most-element (form o).immediate c.args.bits (omega (arith, r)) (omega (arith, r)) (omega (arith, r))
 
 pub most_immediate_spec : {M : Type 1} → statement M
 most_immediate_spec =
