@@ -1,16 +1,15 @@
 -- The conjunction of two literals if no gate is needed, or one that is there already. Assumes nothing.
-use mathlib.Core.Path.{◌≡◌, refl, sym, ap, ◌∙◌, subst}
-use mathlib.Core.Bool.{Bool, true, false, not, ◌&&◌, ◌||◌, and_comm, and_self, and-not_self, true≢false}
+use mathlib.Core.Path.{◌≡◌, refl, sym, ap, ◌∙◌}
+use mathlib.Core.Bool.{Bool, true, false, ◌&&◌, ◌||◌, and_self, and-not_self, true≢false}
 use mathlib.Core.List.{List}
-use Prim.Native.Nat.{ℕ, ◌+◌, ◌-◌, ◌*◌, ◌/◌, ◌%◌, ◌≤◌, ◌<◌}
+use Prim.Native.Nat.{ℕ, ◌/◌, ◌≤◌, ◌<◌}
 use native.Mathlib.Omega.{arith}
 use lib.Dec.{eqb}
-use lib.ListN.{length, get_or}
 use borrow.Author.Tests.{eqb-true, eqb-false}
 use Rattle.gates.specs.Graph.{truth, gate_word}
-use Rattle.gates.specs.Grow.{Room, Builds, Under, negated, literal_of}
+use Rattle.gates.specs.Grow.{Builds, Under, negated, literal_of}
 use Rattle.gates.proofs.Truth.{false-truth, true-truth}
-use Rattle.gates.proofs.Laws.{Is, is-itself, negated-truth, gate-is, stays}
+use Rattle.gates.proofs.Laws.{negated-truth, gate-is, stays}
 use Rattle.gates_build.specs.Find.{Finds}
 
 -- a and b at the count k

@@ -1,12 +1,12 @@
 -- Literals made by a few conjunctions one after the other: or, the adders, the choice. Assumes nothing.
-use mathlib.Core.Path.{◌≡◌, refl, sym, ap, ◌∙◌}
+use mathlib.Core.Path.{◌≡◌, refl, ◌∙◌}
 use mathlib.Core.Bool.{Bool, true, false, not, ◌&&◌, ◌||◌}
 use mathlib.Core.List.{List}
-use Prim.Native.Nat.{ℕ, ◌+◌, ◌-◌, ◌*◌, ◌/◌, ◌%◌, ◌≤◌, ◌<◌}
+use Prim.Native.Nat.{ℕ, ◌+◌, ◌≤◌}
 use native.Mathlib.Omega.{arith}
 use Rattle.gates.specs.Graph.{truth}
 use Rattle.gates.specs.Grow.{Grown, Builds, Under, negated}
-use Rattle.gates.proofs.Laws.{Is, is-itself, is-kept, is-not, grown-trans, by-another, stays}
+use Rattle.gates.proofs.Laws.{Is, is-itself, is-kept, is-not, grown-trans, stays}
 use Rattle.gates_build.specs.Adds.{differ, most, choose, HalfAdds, FullAdds}
 
 -- what `and` and `or` say

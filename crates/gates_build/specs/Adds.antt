@@ -1,7 +1,7 @@
 -- What the half adder and the full adder say.
-use Rattle.std.specs.Prelude.{Bool, true, false, not, ◌&&◌, ◌||◌, List, ◌≡◌, ℕ, ◌+◌, ◌≤◌}
+use Rattle.std.specs.Prelude.{Bool, true, false, not, ◌&&◌, ◌||◌, List, ℕ}
 use Rattle.gates.specs.Graph.{truth}
-use Rattle.gates.specs.Grow.{Grown, Under, Builds}
+use Rattle.gates.specs.Grow.{Builds}
 
 -- whether two differ, and whether two or more of three hold
 abbrev pub differ : Bool → Bool → Bool

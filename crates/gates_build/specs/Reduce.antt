@@ -1,5 +1,5 @@
 -- Two literals in place of two others with the same conjunction.
-use Rattle.std.specs.Prelude.{Bool, ◌&&◌, List, ◌⊎◌, ◌≡◌, ℕ, ◌≤◌}
+use Rattle.std.specs.Prelude.{◌&&◌, List, ◌⊎◌, ◌≡◌, ℕ, ◌≤◌}
 use Rattle.gates.specs.Graph.{truth, flip, inverted}
 use Rattle.gates.specs.Grow.{Under}
 

@@ -1,6 +1,4 @@
 -- `absorb` gives two literals with the same conjunction, by the laws of absorption.
-use mathlib.Core.Path.{◌≡◌}
-use native.Mathlib.Omega.{arith}
 use Rattle.gates_build.proofs.Reduce.{either, either-of, kept, has-it, has-negation, follows, leaves-right, leaves-left}
 use borrow.Author.Rules.{rules}
 use Rattle.gates_build.proofs.absorb.Statement.{statement}

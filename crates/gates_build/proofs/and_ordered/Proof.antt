@@ -1,5 +1,4 @@
 -- `and_ordered` gives the conjunction: a constant, an operand, or a gate.
-use native.Mathlib.Omega.{arith}
 use Rattle.gates_build.proofs.Fold.{with-false, with-either, with-other}
 use borrow.Author.Rules.{rules}
 use Rattle.gates_build.proofs.and_ordered.Statement.{statement}

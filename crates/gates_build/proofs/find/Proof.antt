@@ -1,6 +1,5 @@
 -- `find`: whatever the table has, the gate that is given has the word.
 use Prim.Native.Nat.{◌≤◌, ◌<◌, ◌-◌}
-use native.Mathlib.Omega.{arith}
 use borrow.Author.Rules.{rules}
 use Rattle.gates_build.proofs.find.Statement.{statement}
 use Rattle.gates_build.proofs.find.Tie as tie

@@ -2,7 +2,6 @@
 use Prim.Native.Nat.{◌≤◌, ◌<◌, ◌-◌}
 use mathlib.Core.Path.{◌≡◌}
 use lib.ListN.{length}
-use native.Mathlib.Omega.{arith}
 use borrow.Author.Rules.{rules}
 use Rattle.gates_build.proofs.keep.Statement.{statement}
 use Rattle.gates_build.proofs.keep.Tie as tie

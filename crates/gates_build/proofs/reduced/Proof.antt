@@ -1,6 +1,6 @@
 -- `reduced`: each turn keeps the conjunction.
-use Prim.Native.Nat.{ℕ, ◌≤◌, ◌<◌, ◌-◌}
-use mathlib.Core.Path.{◌≡◌, refl}
+use Prim.Native.Nat.{◌≤◌, ◌-◌}
+use mathlib.Core.Path.{refl}
 use native.Mathlib.Omega.{arith}
 use borrow.Author.Rules.{rules}
 use Rattle.gates_build.specs.Reduce.{Same}
@@ -21,7 +21,7 @@ loop-holds : tie.Need-loop-turn-init invariant-loop-turn decreases-loop-turn
 loop-holds c = let p = c.requires in (omega arith, same-ordered c.ordered-pair.ensures p.1 p.2 (λ start. refl))
 
 shorten-requires : tie.Need-shorten-next-requires invariant-loop-turn decreases-loop-turn
-shorten-requires c κs = let s = c in let i = c.loop-turn.invariant.1 in (s.requires.0, i.ordered-pair, i.under)
+shorten-requires c κs = let s = c in let i = c.loop-turn.invariant.1 in (s.requires.0, i.ordered, i.under)
 
 returns : tie.Need-returns-then-next-pair invariant-loop-turn decreases-loop-turn
 returns c = let k = c in same-trans k.loop-turn.invariant.1 k.shorten-next.ensures

@@ -1,6 +1,5 @@
 -- `shorten`: the literals as they are, or those that `absorb` gives.
 use native.Mathlib.Omega.{arith}
-use Prim.Native.Nat.{◌≤◌}
 use Rattle.gates_build.proofs.Reduce.{gate-of-word}
 use borrow.Author.Rules.{rules}
 use Rattle.gates_build.proofs.shorten.Statement.{statement}
