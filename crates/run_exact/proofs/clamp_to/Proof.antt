@@ -22,13 +22,13 @@ clamp-unsigned-requires-2 : tie.Need-clamp_unsigned-requires-in-SignedToUnsigned
 clamp-unsigned-requires-2 c κs = search rules
 
 returns : tie.Need-returns-in-Signed
-returns c = λ z p. rw c.enum_told-1.given.1 (c.clamp_signed.ensures z p)
+returns c = λ z p. rw c.in-Signed.is (c.clamp_signed.ensures z p)
 
 returns-2 : tie.Need-returns-in-Unsigned
-returns-2 c = λ z p. rw c.enum_told-in-Unsigned-1.given.1 (c.clamp_unsigned.ensures z p)
+returns-2 c = λ z p. rw c.in-Unsigned.is (c.clamp_unsigned.ensures z p)
 
 returns-3 : tie.Need-returns-in-SignedToUnsigned
-returns-3 c = λ z p. rw c.enum_told-in-SignedToUnsigned-1.given.1 (c.clamp_unsigned-in-SignedToUnsigned.ensures z p)
+returns-3 c = λ z p. rw c.in-SignedToUnsigned.is (c.clamp_unsigned-in-SignedToUnsigned.ensures z p)
 
 pub clamp_to_spec : {M : Type 1} → statement M
 clamp_to_spec =

@@ -17,10 +17,10 @@ clamp-to-requires : tie.Need-clamp_to-requires
 clamp-to-requires c κs = search rules
 
 returns : tie.Need-returns-in-Never
-returns c = λ z p. rw c.enum_told-1.given.1 (record { bits_are = c.keep.ensures 192 z p; saturated_is = refl })
+returns c = λ z p. rw c.in-Never.is (record { bits_are = c.keep.ensures 192 z p; saturated_is = refl })
 
 returns-2 : tie.Need-returns-in-Into
-returns-2 c = λ z p. rw c.saturate-1.given.1 (c.clamp_to.ensures z p)
+returns-2 c = λ z p. rw c.in-Into.is (c.clamp_to.ensures z p)
 
 pub limit_spec : {M : Type 1} → statement M
 limit_spec =
