@@ -34,45 +34,42 @@ claims t = (minus-or-zero-reads.Asked, minus-or-zero-reads.Learnt, one-digit-rea
 module _ (t : ℕ) where
   -- more than one digit
   abbrev More : Type 0
-  More = left-after-hex-lts.Else1 (claims t) (left-after-hex-at t) left-after-hex.Post
+  More = left-after-hex-lts.Else-one_digit (claims t) (left-after-hex-at t) left-after-hex.Post
 
-  abbrev start : More → left-after-hex-lts.Start (claims t) (left-after-hex-at t) left-after-hex.Post
-  start c = c.before.before.before
+  more : (c : More) → 16 ≤ wide c.args.low c.args.high
+  more c = ltb-false _ 16 (sym c.one_digit.ensures ∙ c.if-one_digit.false)
 
-  more : (c : More) → 16 ≤ wide (start c).args.low (start c).args.high
-  more c = ltb-false _ 16 (sym c.before.one-digit.ensures ∙ c.if1.false)
-
-  minus-or-zero-requires : left-after-hex-lts.Need-minus-or-zero-requires (claims t) (left-after-hex-at t) left-after-hex.Post
+  minus-or-zero-requires : left-after-hex-lts.Need-minus_or_zero-c-requires (claims t) (left-after-hex-at t) left-after-hex.Post
   minus-or-zero-requires c κs = search rules
 
-  one-digit-requires : left-after-hex-lts.Need-one-digit-requires (claims t) (left-after-hex-at t) left-after-hex.Post
+  one-digit-requires : left-after-hex-lts.Need-one_digit-requires (claims t) (left-after-hex-at t) left-after-hex.Post
   one-digit-requires c κs = search rules
 
-  returns : left-after-hex-lts.Need-returns (claims t) (left-after-hex-at t) left-after-hex.Post
+  returns : left-after-hex-lts.Need-returns-then-one_digit (claims t) (left-after-hex-at t) left-after-hex.Post
   unfolding hexadecimal
   returns c =
-      let l = c.before.before in
-      let a = l.before.args in
-      omega (arith, l.minus-or-zero.ensures, length-digit a.low a.high (ltb-true _ 16 (sym c.before.one-digit.ensures ∙ c.if1.true)))
+      let l = c in
+      let a = l.args in
+      omega (arith, l.minus_or_zero-c.ensures, length-digit a.low a.high (ltb-true _ 16 (sym c.one_digit.ensures ∙ c.if-one_digit.true)))
 
-  mul-left-after-hex : left-after-hex-lts.Need-overflow-mul-left-after-hex (claims t) (left-after-hex-at t) left-after-hex.Post
+  mul-left-after-hex : left-after-hex-lts.Need-overflow_mul-high (claims t) (left-after-hex-at t) left-after-hex.Post
   mul-left-after-hex c = omega arith
 
-  add-left-after-hex : left-after-hex-lts.Need-overflow-add-left-after-hex (claims t) (left-after-hex-at t) left-after-hex.Post
-  add-left-after-hex c = let s = start c in record { fits = words-fit s.args.low s.args.high s.fits.low.fits }
+  add-left-after-hex : left-after-hex-lts.Need-overflow_add-low (claims t) (left-after-hex-at t) left-after-hex.Post
+  add-left-after-hex c = let s = c in record { fits = words-fit s.args.low s.args.high s.ranges.low.fits }
 
-  left-after-hex-requires : left-after-hex-lts.Need-left-after-hex-requires (claims t) (left-after-hex-at t) left-after-hex.Post
-  left-after-hex-requires c κs = let s = start c in (omega (arith, s.pre.0, words-less s.args.low s.args.high (more c)), tt)
+  left-after-hex-requires : left-after-hex-lts.Need-left_after_hex-requires (claims t) (left-after-hex-at t) left-after-hex.Post
+  left-after-hex-requires c κs = let s = c in (omega (arith, s.requires.0, words-less s.args.low s.args.high (more c)), tt)
 
-  returns-2 : left-after-hex-lts.Need-returns-2 (claims t) (left-after-hex-at t) left-after-hex.Post
+  returns-2 : left-after-hex-lts.Need-returns (claims t) (left-after-hex-at t) left-after-hex.Post
   unfolding hexadecimal
   returns-2 c =
-      let e = c.before in
-      let s = start e in
-      omega (arith, e.before.before.minus-or-zero.ensures, c.left-after-hex.ensures, length-words s.args.low s.args.high (more e))
+      let e = c in
+      let s = c in
+      omega (arith, e.minus_or_zero-c.ensures, c.left_after_hex.ensures, length-words s.args.low s.args.high (more c.before))
 
-pub +left-after-hex-spec : {M : Type 1} → statement M
-+left-after-hex-spec =
+pub +left_after_hex_spec : {M : Type 1} → statement M
++left_after_hex_spec =
     close μ-left-after-hex λ t.
     left-after-hex-lts.spec (claims t) (left-after-hex-at t) left-after-hex.Post
     (minus-or-zero-requires t)

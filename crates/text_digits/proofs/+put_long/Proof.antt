@@ -41,106 +41,97 @@ claims t = (
 module _ (t : ℕ) where
   -- tens and ones are known
   abbrev Split : Type 0
-  Split = put-long-lts.After-tens-of (claims t) (put-long-at t) put-long.Post
+  Split = put-long-lts.After-tens_of-t (claims t) (put-long-at t) put-long.Post
 
-  abbrev start : Split → put-long-lts.Start (claims t) (put-long-at t) put-long.Post
-  start c = c.before.before
-
-  longer : (c : Split) → length (digits 10 (start c).args.x) ≡ length (digits 10 c.tens-of.result.tens) + 1
-  longer c = length-tens (start c).args.x _ _ c.tens-of.ensures.0 c.tens-of.ensures.1 (start c).requires.1.0
+  longer : (c : Split) → length (digits 10 c.args.x) ≡ length (digits 10 c.tens_of-t.result.tens) + 1
+  longer c = length-tens c.args.x _ _ c.tens_of-t.ensures.0 c.tens_of-t.ensures.1 c.requires.1.0
 
   -- two digits
   abbrev Two : Type 0
-  Two = put-long-lts.Then1 (claims t) (put-long-at t) put-long.Post
+  Two = put-long-lts.Then-t-lt10 (claims t) (put-long-at t) put-long.Post
 
-  abbrev split : Two → Split
-  split c = c.before.before
+  two : (c : Two) → length (digits 10 c.args.x) ≡ 2
+  two c = omega (arith, longer c.before.before, ap length (digits-one 10 _ c.if-t-lt10.true))
 
-  two : (c : Two) → length (digits 10 (start (split c)).args.x) ≡ 2
-  two c = omega (arith, longer (split c), ap length (digits-one 10 _ c.if1.true))
-
-  room : (c : Two) → (start (split c)).args.at + 2 ≤ length (start (split c)).args.buf.now
+  room : (c : Two) → c.args.at + 2 ≤ length c.args.buf.now
   unfolding decimal
-  room c = omega (arith, two c, (start (split c)).pre.1.1)
+  room c = omega (arith, two c, c.requires.1.1)
 
   -- the digits of the tens are written
   abbrev Tens : Type 0
-  Tens = put-long-lts.After-put-long (claims t) (put-long-at t) put-long.Post
+  Tens = put-long-lts.After-put_long-i (claims t) (put-long-at t) put-long.Post
 
-  abbrev to-split : Tens → Split
-  to-split c = c.before.before.before.before
-
-  after : (c : Tens) → c.put-long.result + 1 ≤ length c.put-long.new.1.0
+  after : (c : Tens) → c.put_long-i.result + 1 ≤ length c.put_long-i.new.buf
   unfolding decimal
-  after c = let w = c.put-long.ensures in omega (arith, longer (to-split c), (start (to-split c)).pre.1.1, w.next_is, wrote-length w)
+  after c = let w = c.put_long-i.ensures in omega (arith, longer c.before.before.before.before, c.requires.1.1, w.next_is, wrote-length w)
 
   -- ---- the needs
 
-  tens-of-requires : put-long-lts.Need-tens-of-requires (claims t) (put-long-at t) put-long.Post
+  tens-of-requires : put-long-lts.Need-tens_of-t-requires (claims t) (put-long-at t) put-long.Post
   tens-of-requires c κs = search rules
 
-  decimal-digit-requires : put-long-lts.Need-decimal-digit-requires (claims t) (put-long-at t) put-long.Post
-  decimal-digit-requires c κs = c.if1.true
+  decimal-digit-requires : put-long-lts.Need-decimal_digit-requires (claims t) (put-long-at t) put-long.Post
+  decimal-digit-requires c κs = c.if-t-lt10.true
 
-  slice-write-buf : put-long-lts.Need-slice-write-buf (claims t) (put-long-at t) put-long.Post
+  slice-write-buf : put-long-lts.Need-bounds-buf-at (claims t) (put-long-at t) put-long.Post
   slice-write-buf c = omega (arith, room c.before)
 
-  decimal-digit-requires-2 : put-long-lts.Need-decimal-digit-requires-2 (claims t) (put-long-at t) put-long.Post
-  decimal-digit-requires-2 c κs = c.before.before.before.tens-of.ensures.1
+  decimal-digit-requires-2 : put-long-lts.Need-decimal_digit-requires-then-t-lt10 (claims t) (put-long-at t) put-long.Post
+  decimal-digit-requires-2 c κs = c.tens_of-t.ensures.1
 
-  add-buf : put-long-lts.Need-overflow-add-buf (claims t) (put-long-at t) put-long.Post
+  add-buf : put-long-lts.Need-overflow_add-buf (claims t) (put-long-at t) put-long.Post
   add-buf c = omega (arith, room c.before.before)
 
-  slice-write-buf-2 : put-long-lts.Need-slice-write-buf-2 (claims t) (put-long-at t) put-long.Post
+  slice-write-buf-2 : put-long-lts.Need-bounds-buf-at-then-t-lt10 (claims t) (put-long-at t) put-long.Post
   slice-write-buf-2 c =
-      let w = c.before.before in
-      let a = (start (split w)).args in
-      omega (arith, room w, length-set a.buf.now a.at c.before.decimal_digit.result)
+      let w = c in
+      let a = w.args in
+      omega (arith, room c.before.before, length-set a.buf.now a.at c.decimal_digit.result)
 
-  add-result : put-long-lts.Need-overflow-add-result (claims t) (put-long-at t) put-long.Post
+  add-result : put-long-lts.Need-overflow_add-result (claims t) (put-long-at t) put-long.Post
   add-result c = omega (arith, room c.before.before)
 
-  same_length : put-long-lts.Need-same-length (claims t) (put-long-at t) put-long.Post
+  same_length : put-long-lts.Need-shape_of-buf-then-t-lt10 (claims t) (put-long-at t) put-long.Post
   same_length c = simp length-set
 
-  returns : put-long-lts.Need-returns (claims t) (put-long-at t) put-long.Post
+  returns : put-long-lts.Need-returns-then-t-lt10 (claims t) (put-long-at t) put-long.Post
   unfolding decimal
   returns c =
-      let d = c.before in
-      let w = d.before in
-      let p = split w in
-      let a = (start p).args in
-      wrote-two a.buf.now a.at a.x _ _ _ _ p.tens-of.ensures.0 p.tens-of.ensures.1 (start p).pre.1.0 w.if1.true d.decimal_digit.ensures c.decimal-digit2.ensures
+      let d = c in
+      let w = c in
+      let p = c in
+      let a = p.args in
+      wrote-two a.buf.now a.at a.x _ _ _ _ p.tens_of-t.ensures.0 p.tens_of-t.ensures.1 p.requires.1.0 w.if-t-lt10.true d.decimal_digit.ensures c.decimal_digit-then-t-lt10.ensures
 
-  put-long-requires : put-long-lts.Need-put-long-requires (claims t) (put-long-at t) put-long.Post
+  put-long-requires : put-long-lts.Need-put_long-i-requires (claims t) (put-long-at t) put-long.Post
   unfolding decimal
   put-long-requires c κs =
-      let e = c.before in
-      let p = e.before.before in
-      let h = (start p).requires in
-      (omega (arith, h.0, p.tens-of.ensures.0, h.1.0), (e.if1.false, omega (arith, longer p, h.1.1)))
+      let e = c in
+      let p = c in
+      let h = p.requires in
+      (omega (arith, h.0, p.tens_of-t.ensures.0, h.1.0), (e.if-t-lt10.false, omega (arith, longer c.before.before.before, h.1.1)))
 
-  decimal-digit-requires-3 : put-long-lts.Need-decimal-digit-requires-3 (claims t) (put-long-at t) put-long.Post
-  decimal-digit-requires-3 c κs = (to-split c.before.before).tens-of.ensures.1
+  decimal-digit-requires-3 : put-long-lts.Need-decimal_digit-requires-2 (claims t) (put-long-at t) put-long.Post
+  decimal-digit-requires-3 c κs = c.tens_of-t.ensures.1
 
-  slice-write-buf-3 : put-long-lts.Need-slice-write-buf-3 (claims t) (put-long-at t) put-long.Post
+  slice-write-buf-3 : put-long-lts.Need-bounds-buf-i (claims t) (put-long-at t) put-long.Post
   slice-write-buf-3 c = omega (arith, after c.before.before.before)
 
-  add-result-2 : put-long-lts.Need-overflow-add-result-2 (claims t) (put-long-at t) put-long.Post
+  add-result-2 : put-long-lts.Need-overflow_add-result-2 (claims t) (put-long-at t) put-long.Post
   add-result-2 c = omega (arith, after c.before.before.before)
 
-  same-length-2 : put-long-lts.Need-same-length-2 (claims t) (put-long-at t) put-long.Post
-  same-length-2 c = simp length-set (wrote-length c.before.before.before.put-long.ensures)
+  same-length-2 : put-long-lts.Need-shape_of-buf (claims t) (put-long-at t) put-long.Post
+  same-length-2 c = simp length-set (wrote-length c.put_long-i.ensures)
 
-  returns-2 : put-long-lts.Need-returns-2 (claims t) (put-long-at t) put-long.Post
+  returns-2 : put-long-lts.Need-returns (claims t) (put-long-at t) put-long.Post
   unfolding decimal
   returns-2 c =
-      let l = c.before.before.before in
-      let p = to-split l in
-      wrote-tens (start p).args.x _ _ _ p.tens-of.ensures.0 p.tens-of.ensures.1 (start p).pre.1.0 l.put-long.ensures c.decimal-digit3.ensures
+      let l = c in
+      let p = c in
+      wrote-tens p.args.x _ _ _ p.tens_of-t.ensures.0 p.tens_of-t.ensures.1 p.requires.1.0 l.put_long-i.ensures c.decimal_digit-2.ensures
 
-pub +put-long-spec : {M : Type 1} → statement M
-+put-long-spec =
+pub +put_long_spec : {M : Type 1} → statement M
++put_long_spec =
     close μ-put-long λ t.
     put-long-lts.spec (claims t) (put-long-at t) put-long.Post
     (tens-of-requires t)

@@ -49,126 +49,111 @@ module _ (t : ℕ) where
   abbrev Start : Type 0
   Start = put-sixteens-lts.Start (claims t) (put-sixteens-at t) put-sixteens.Post
 
-  abbrev low : Start → ℕ
-  low s = s.args.low
-
-  abbrev high : Start → ℕ
-  high s = s.args.high
-
-  longer : (s : Start) → length (digits 16 (wide (low s) (high s))) ≡ length (digits 16 (without-last (low s) (high s))) + 1
-  longer s = length-words (low s) (high s) s.requires.1.0
+  longer : (s : Start) → length (digits 16 (wide s.args.low s.args.high)) ≡ length (digits 16 (without-last s.args.low s.args.high)) + 1
+  longer s = length-words s.args.low s.args.high s.requires.1.0
 
   -- two digits
   abbrev Two : Type 0
-  Two = put-sixteens-lts.Then1 (claims t) (put-sixteens-at t) put-sixteens.Post
+  Two = put-sixteens-lts.Then-one_digit (claims t) (put-sixteens-at t) put-sixteens.Post
 
-  abbrev start-two : Two → Start
-  start-two c = c.before.before.before
+  front : (c : Two) → without-last c.args.low c.args.high < 16
+  front c = ltb-true _ 16 (sym c.one_digit.ensures ∙ c.if-one_digit.true)
 
-  front : (c : Two) → without-last (low (start-two c)) (high (start-two c)) < 16
-  front c = ltb-true _ 16 (sym c.before.one-digit.ensures ∙ c.if1.true)
+  two : (c : Two) → length (digits 16 (wide c.args.low c.args.high)) ≡ 2
+  two c = omega (arith, longer c.before.before.before, length-digit _ _ (front c))
 
-  two : (c : Two) → length (digits 16 (wide (low (start-two c)) (high (start-two c)))) ≡ 2
-  two c = omega (arith, longer (start-two c), length-digit _ _ (front c))
-
-  room : (c : Two) → (start-two c).args.at + 2 ≤ length (start-two c).args.buf.now
+  room : (c : Two) → c.args.at + 2 ≤ length c.args.buf.now
   unfolding hexadecimal
-  room c = omega (arith, two c, (start-two c).requires.1.1)
+  room c = omega (arith, two c, c.requires.1.1)
 
   -- more
   abbrev More : Type 0
-  More = put-sixteens-lts.Else1 (claims t) (put-sixteens-at t) put-sixteens.Post
+  More = put-sixteens-lts.Else-one_digit (claims t) (put-sixteens-at t) put-sixteens.Post
 
-  abbrev start-more : More → Start
-  start-more c = c.before.before.before
-
-  more : (c : More) → 16 ≤ without-last (low (start-more c)) (high (start-more c))
-  more c = ltb-false _ 16 (sym c.before.one-digit.ensures ∙ c.if1.false)
+  more : (c : More) → 16 ≤ without-last c.args.low c.args.high
+  more c = ltb-false _ 16 (sym c.one_digit.ensures ∙ c.if-one_digit.false)
 
   -- the digits but the last are written
   abbrev Front : Type 0
-  Front = put-sixteens-lts.After-put-sixteens (claims t) (put-sixteens-at t) put-sixteens.Post
+  Front = put-sixteens-lts.After-put_sixteens-i (claims t) (put-sixteens-at t) put-sixteens.Post
 
-  abbrev start-front : Front → Start
-  start-front c = start-more c.before.before
-
-  after : (c : Front) → c.put-sixteens.result + 1 ≤ length c.put-sixteens.new.1.1.0
+  after : (c : Front) → c.put_sixteens-i.result + 1 ≤ length c.put_sixteens-i.new.buf
   unfolding hexadecimal
-  after c = let w = c.put-sixteens.ensures in omega (arith, longer (start-front c), (start-front c).requires.1.1, w.next_is, wrote-length w)
+  after c = let w = c.put_sixteens-i.ensures in omega (arith, longer c.before.before.before.before.before, c.requires.1.1, w.next_is, wrote-length w)
 
   -- ---- the needs
 
-  mul-low-part : put-sixteens-lts.Need-overflow-mul-low-part (claims t) (put-sixteens-at t) put-sixteens.Post
+  mul-low-part : put-sixteens-lts.Need-overflow_mul-low_part (claims t) (put-sixteens-at t) put-sixteens.Post
   mul-low-part c = omega arith
 
-  add-low-part : put-sixteens-lts.Need-overflow-add-low-part (claims t) (put-sixteens-at t) put-sixteens.Post
-  add-low-part c = let s = c.before in record { fits = words-fit (low s) (high s) s.ranges.low.fits }
+  add-low-part : put-sixteens-lts.Need-overflow_add-low_part (claims t) (put-sixteens-at t) put-sixteens.Post
+  add-low-part c = let s = c in record { fits = words-fit s.args.low s.args.high s.ranges.low.fits }
 
-  one-digit-requires : put-sixteens-lts.Need-one-digit-requires (claims t) (put-sixteens-at t) put-sixteens.Post
+  one-digit-requires : put-sixteens-lts.Need-one_digit-requires (claims t) (put-sixteens-at t) put-sixteens.Post
   one-digit-requires c κs = search rules
 
-  hex-digit-requires : put-sixteens-lts.Need-hex-digit-requires (claims t) (put-sixteens-at t) put-sixteens.Post
+  hex-digit-requires : put-sixteens-lts.Need-hex_digit-requires (claims t) (put-sixteens-at t) put-sixteens.Post
   hex-digit-requires c κs = omega (arith, front c)
 
-  slice-write-buf : put-sixteens-lts.Need-slice-write-buf (claims t) (put-sixteens-at t) put-sixteens.Post
+  slice-write-buf : put-sixteens-lts.Need-bounds-buf-at (claims t) (put-sixteens-at t) put-sixteens.Post
   slice-write-buf c = omega (arith, room c.before)
 
-  hex-digit-requires-2 : put-sixteens-lts.Need-hex-digit-requires-2 (claims t) (put-sixteens-at t) put-sixteens.Post
+  hex-digit-requires-2 : put-sixteens-lts.Need-hex_digit-requires-then-one_digit (claims t) (put-sixteens-at t) put-sixteens.Post
   hex-digit-requires-2 c κs = omega arith
 
-  add-buf : put-sixteens-lts.Need-overflow-add-buf (claims t) (put-sixteens-at t) put-sixteens.Post
+  add-buf : put-sixteens-lts.Need-overflow_add-buf (claims t) (put-sixteens-at t) put-sixteens.Post
   add-buf c = omega (arith, room c.before.before)
 
-  slice-write-buf-2 : put-sixteens-lts.Need-slice-write-buf-2 (claims t) (put-sixteens-at t) put-sixteens.Post
+  slice-write-buf-2 : put-sixteens-lts.Need-bounds-buf-at-then-one_digit (claims t) (put-sixteens-at t) put-sixteens.Post
   slice-write-buf-2 c =
-      let w = c.before.before in
-      let b = (start-two w).args in
-      omega (arith, room w, length-set b.buf.now b.at c.before.hex-digit.result)
+      let w = c in
+      let b = w.args in
+      omega (arith, room c.before.before, length-set b.buf.now b.at c.hex_digit.result)
 
-  add-result : put-sixteens-lts.Need-overflow-add-result (claims t) (put-sixteens-at t) put-sixteens.Post
+  add-result : put-sixteens-lts.Need-overflow_add-result (claims t) (put-sixteens-at t) put-sixteens.Post
   add-result c = omega (arith, room c.before.before)
 
-  same_length : put-sixteens-lts.Need-same-length (claims t) (put-sixteens-at t) put-sixteens.Post
+  same_length : put-sixteens-lts.Need-shape_of-buf-then-one_digit (claims t) (put-sixteens-at t) put-sixteens.Post
   same_length c = simp length-set
 
-  returns : put-sixteens-lts.Need-returns (claims t) (put-sixteens-at t) put-sixteens.Post
+  returns : put-sixteens-lts.Need-returns-then-one_digit (claims t) (put-sixteens-at t) put-sixteens.Post
   unfolding hexadecimal
   returns c =
-      let d = c.before in
-      let w = d.before in
-      let s = start-two w in
+      let d = c in
+      let w = c in
+      let s = c in
       let a = s.args in
-      subst (λ (j : ℕ). Wrote a.buf.now a.at (digits 16 (wide (low s) (high s))) j (set (set a.buf.now a.at d.hex-digit.result) (a.at + 1) c.hex-digit2.result))
-      (omega arith) (wrote-words (low s) (high s) _ s.pre.1.0 (wrote-digit _ _ _ (front w) d.hex-digit.ensures) c.hex-digit2.ensures)
+      subst (λ (j : ℕ). Wrote a.buf.now a.at (digits 16 (wide s.args.low s.args.high)) j (set (set a.buf.now a.at d.hex_digit.result) (a.at + 1) c.hex_digit-then-one_digit.result))
+      (omega arith) (wrote-words s.args.low s.args.high _ s.requires.1.0 (wrote-digit _ _ _ (front c.before.before) d.hex_digit.ensures) c.hex_digit-then-one_digit.ensures)
 
-  put-sixteens-requires : put-sixteens-lts.Need-put-sixteens-requires (claims t) (put-sixteens-at t) put-sixteens.Post
+  put-sixteens-requires : put-sixteens-lts.Need-put_sixteens-i-requires (claims t) (put-sixteens-at t) put-sixteens.Post
   unfolding hexadecimal
   put-sixteens-requires c κs =
-      let e = c.before in
-      let s = start-more e in
-      (omega (arith, s.pre.0, words-less (low s) (high s) s.pre.1.0), (more e, omega (arith, longer s, s.pre.1.1)))
+      let e = c in
+      let s = c in
+      (omega (arith, s.requires.0, words-less s.args.low s.args.high s.requires.1.0), (more c.before, omega (arith, longer c.before.before.before.before, s.requires.1.1)))
 
-  hex-digit-requires-3 : put-sixteens-lts.Need-hex-digit-requires-3 (claims t) (put-sixteens-at t) put-sixteens.Post
+  hex-digit-requires-3 : put-sixteens-lts.Need-hex_digit-requires-2 (claims t) (put-sixteens-at t) put-sixteens.Post
   hex-digit-requires-3 c κs = omega arith
 
-  slice-write-buf-3 : put-sixteens-lts.Need-slice-write-buf-3 (claims t) (put-sixteens-at t) put-sixteens.Post
+  slice-write-buf-3 : put-sixteens-lts.Need-bounds-buf-i (claims t) (put-sixteens-at t) put-sixteens.Post
   slice-write-buf-3 c = omega (arith, after c.before.before.before)
 
-  add-result-2 : put-sixteens-lts.Need-overflow-add-result-2 (claims t) (put-sixteens-at t) put-sixteens.Post
+  add-result-2 : put-sixteens-lts.Need-overflow_add-result-2 (claims t) (put-sixteens-at t) put-sixteens.Post
   add-result-2 c = omega (arith, after c.before.before.before)
 
-  same-length-2 : put-sixteens-lts.Need-same-length-2 (claims t) (put-sixteens-at t) put-sixteens.Post
-  same-length-2 c = simp length-set (wrote-length c.before.before.before.put-sixteens.ensures)
+  same-length-2 : put-sixteens-lts.Need-shape_of-buf (claims t) (put-sixteens-at t) put-sixteens.Post
+  same-length-2 c = simp length-set (wrote-length c.put_sixteens-i.ensures)
 
-  returns-2 : put-sixteens-lts.Need-returns-2 (claims t) (put-sixteens-at t) put-sixteens.Post
+  returns-2 : put-sixteens-lts.Need-returns (claims t) (put-sixteens-at t) put-sixteens.Post
   unfolding hexadecimal
   returns-2 c =
-      let l = c.before.before.before in
-      let s = start-front l in
-      wrote-words (low s) (high s) _ s.pre.1.0 l.put-sixteens.ensures c.hex-digit3.ensures
+      let l = c in
+      let s = c in
+      wrote-words s.args.low s.args.high _ s.requires.1.0 l.put_sixteens-i.ensures c.hex_digit-2.ensures
 
-pub +put-sixteens-spec : {M : Type 1} → statement M
-+put-sixteens-spec =
+pub +put_sixteens_spec : {M : Type 1} → statement M
++put_sixteens_spec =
     close μ-put-sixteens λ t.
     put-sixteens-lts.spec (claims t) (put-sixteens-at t) put-sixteens.Post
     (mul-low-part t)

@@ -39,97 +39,88 @@ module _ (t : ℕ) where
   Start = put-word-lts.Start (claims t) (put-word-at t) put-word.Post
 
   abbrev One : Type 0
-  One = put-word-lts.Then1 (claims t) (put-word-at t) put-word.Post
-
-  abbrev one_entry : One → Start
-  one_entry c = c.before.before
+  One = put-word-lts.Then-x-lt16 (claims t) (put-word-at t) put-word.Post
 
   abbrev More : Type 0
-  More = put-word-lts.Else1 (claims t) (put-word-at t) put-word.Post
-
-  abbrev entry : More → Start
-  entry c = c.before.before
+  More = put-word-lts.Else-x-lt16 (claims t) (put-word-at t) put-word.Post
 
   abbrev Two : Type 0
-  Two = put-word-lts.Then2 (claims t) (put-word-at t) put-word.Post
+  Two = put-word-lts.Then-x-lt256 (claims t) (put-word-at t) put-word.Post
 
-  two : (c : Two) → let x = (entry c.before).args.x in hexadecimal x ≡ digit (x / 16) ∷ digit (x % 16) ∷ []
+  two : (c : Two) → let x = c.args.x in hexadecimal x ≡ digit (x / 16) ∷ digit (x % 16) ∷ []
   unfolding hexadecimal
-  two c = two-sixteens (entry c.before).args.x c.before.if1.false c.if2.true
+  two c = two-sixteens c.args.x c.if-x-lt16.false c.if-x-lt256.true
 
   abbrev Long : Type 0
-  Long = put-word-lts.Else2 (claims t) (put-word-at t) put-word.Post
+  Long = put-word-lts.Else-x-lt256 (claims t) (put-word-at t) put-word.Post
 
-  long : (c : Long) → let x = (entry c.before).args.x in
+  long : (c : Long) → let x = c.args.x in
       hexadecimal x ≡ hexadecimal (x / 256) ++ (digit (x % 256 / 16) ∷ digit (x % 256 % 16) ∷ [])
   unfolding hexadecimal
-  long c = byte_more (entry c.before).args.x c.if2.false
+  long c = byte_more c.args.x c.if-x-lt256.false
 
-  longer : (c : Long) → let x = (entry c.before).args.x in length (hexadecimal x) ≡ length (hexadecimal (x / 256)) + 2
+  longer : (c : Long) → let x = c.args.x in length (hexadecimal x) ≡ length (hexadecimal (x / 256)) + 2
   longer c = simp length-append at (ap length (long c))
 
   -- the byte after those of the number over 256
   abbrev Last : Type 0
-  Last = put-word-lts.After-put-byte2 (claims t) (put-word-at t) put-word.Post
-
-  abbrev front : Last → put-word-lts.After-put-word (claims t) (put-word-at t) put-word.Post
-  front c = c.before.before.before.before
+  Last = put-word-lts.After-put_byte-2 (claims t) (put-word-at t) put-word.Post
 
   -- ---- the needs
 
-  hex-digit-requires : put-word-lts.Need-hex-digit-requires (claims t) (put-word-at t) put-word.Post
-  hex-digit-requires c κs = c.if1.true
+  hex-digit-requires : put-word-lts.Need-hex_digit-requires (claims t) (put-word-at t) put-word.Post
+  hex-digit-requires c κs = c.if-x-lt16.true
 
-  slice-write-buf : put-word-lts.Need-slice-write-buf (claims t) (put-word-at t) put-word.Post
+  slice-write-buf : put-word-lts.Need-bounds-buf-at (claims t) (put-word-at t) put-word.Post
   unfolding hexadecimal
   slice-write-buf c =
-      let s = one_entry c.before in
-      omega (arith, ap length (digits-one 16 s.args.x c.before.if1.true), s.pre.1)
+      let s = c in
+      omega (arith, ap length (digits-one 16 s.args.x c.if-x-lt16.true), s.requires.1)
 
-  add-result : put-word-lts.Need-overflow-add-result (claims t) (put-word-at t) put-word.Post
+  add-result : put-word-lts.Need-overflow_add-result (claims t) (put-word-at t) put-word.Post
   add-result c = search rules
 
-  same_length : put-word-lts.Need-same-length (claims t) (put-word-at t) put-word.Post
+  same_length : put-word-lts.Need-shape_of-buf-then-x-lt16 (claims t) (put-word-at t) put-word.Post
   same_length c = search rules
 
-  returns : put-word-lts.Need-returns (claims t) (put-word-at t) put-word.Post
+  returns : put-word-lts.Need-returns-then-x-lt16 (claims t) (put-word-at t) put-word.Post
   unfolding hexadecimal
   returns c =
-      let a = (one_entry c.before).args in
-      wrote_one 16 a.buf.now a.at a.x _ c.before.if1.true c.hex-digit.ensures
+      let a = c.args in
+      wrote_one 16 a.buf.now a.at a.x _ c.if-x-lt16.true c.hex_digit.ensures
 
-  put-byte-requires : put-word-lts.Need-put-byte-requires (claims t) (put-word-at t) put-word.Post
-  put-byte-requires c κs = let i = c.before in (i.if2.true, omega (arith, ap length (two i), (entry i.before).pre.1))
+  put-byte-requires : put-word-lts.Need-put_byte-requires (claims t) (put-word-at t) put-word.Post
+  put-byte-requires c κs = let i = c in (i.if-x-lt256.true, omega (arith, ap length (two c.before), i.requires.1))
 
-  same-length-2 : put-word-lts.Need-same-length-2 (claims t) (put-word-at t) put-word.Post
-  same-length-2 c = wrote-length c.before.before.put_byte.ensures
+  same-length-2 : put-word-lts.Need-shape_of-buf-then-x-lt256 (claims t) (put-word-at t) put-word.Post
+  same-length-2 c = wrote-length c.put_byte.ensures
 
-  returns-2 : put-word-lts.Need-returns-2 (claims t) (put-word-at t) put-word.Post
-  returns-2 c = let w = c.before.before in wrote_as (two w.before.before) w.put_byte.ensures
+  returns-2 : put-word-lts.Need-returns-then-x-lt256 (claims t) (put-word-at t) put-word.Post
+  returns-2 c = let w = c in wrote_as (two c.before.before.before.before) w.put_byte.ensures
 
-  put-word-requires : put-word-lts.Need-put-word-requires (claims t) (put-word-at t) put-word.Post
+  put-word-requires : put-word-lts.Need-put_word-i-requires (claims t) (put-word-at t) put-word.Post
   put-word-requires c κs =
-      let e = c.before in
-      let s = entry e.before in
-      (omega (arith, s.pre.0, e.if2.false), record { room = omega (arith, longer e, s.pre.1) })
+      let e = c in
+      let s = c in
+      (omega (arith, s.requires.0, e.if-x-lt256.false), record { room = omega (arith, longer c.before, s.requires.1) })
 
-  put-byte-requires-2 : put-word-lts.Need-put-byte-requires-2 (claims t) (put-word-at t) put-word.Post
+  put-byte-requires-2 : put-word-lts.Need-put_byte-requires-2 (claims t) (put-word-at t) put-word.Post
   put-byte-requires-2 c κs =
-      let p = c.before.before.before in
-      let e = p.before.before in
-      let w = p.put-word.ensures in
-      (omega arith, omega (arith, longer e, (entry e.before).pre.1, w.next_is, wrote-length w))
+      let p = c in
+      let e = c in
+      let w = p.put_word-i.ensures in
+      (omega arith, omega (arith, longer c.before.before.before.before.before, e.requires.1, w.next_is, wrote-length w))
 
-  same-length-3 : put-word-lts.Need-same-length-3 (claims t) (put-word-at t) put-word.Post
-  same-length-3 c = let l = c.before.before in wrote-length (wrote_then (front l).put-word.ensures l.put-byte2.ensures)
+  same-length-3 : put-word-lts.Need-shape_of-buf (claims t) (put-word-at t) put-word.Post
+  same-length-3 c = let l = c in wrote-length (wrote_then l.put_word-i.ensures l.put_byte-2.ensures)
 
-  returns-3 : put-word-lts.Need-returns-3 (claims t) (put-word-at t) put-word.Post
+  returns-3 : put-word-lts.Need-returns (claims t) (put-word-at t) put-word.Post
   returns-3 c =
-      let l = c.before.before in
-      wrote_as (long (front l).before.before) (wrote_then (front l).put-word.ensures l.put-byte2.ensures)
+      let l = c in
+      wrote_as (long c.before.before.before.before.before.before.before.before) (wrote_then l.put_word-i.ensures l.put_byte-2.ensures)
 
-pub +put-word-spec : {M : Type 1} → statement M
-+put-word-spec =
+pub +put_word_spec : {M : Type 1} → statement M
++put_word_spec =
     close μ-put-word λ t.
     put-word-lts.spec (claims t) (put-word-at t) put-word.Post
     (hex-digit-requires t)

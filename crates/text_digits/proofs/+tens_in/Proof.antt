@@ -23,32 +23,32 @@ abbrev claims : ℕ → tens-in-lts.Claims
 claims t = (tens-in-below t, tens-in.Post)
 
 module _ (t : ℕ) where
-  returns : tens-in-lts.Need-returns (claims t) (tens-in-at t) tens-in.Post
+  returns : tens-in-lts.Need-returns-then-x-lt10 (claims t) (tens-in-at t) tens-in.Post
   returns c = omega arith
 
-  tens-in-requires : tens-in-lts.Need-tens-in-requires (claims t) (tens-in-at t) tens-in.Post
-  tens-in-requires c κs = (omega (arith, c.before.requires.0), tt)
+  tens-in-requires : tens-in-lts.Need-tens_in-twice-requires (claims t) (tens-in-at t) tens-in.Post
+  tens-in-requires c κs = (omega (arith, c.requires.0), tt)
 
-  mul-twice : tens-in-lts.Need-overflow-mul-twice (claims t) (tens-in-at t) tens-in.Post
+  mul-twice : tens-in-lts.Need-overflow_mul-twice (claims t) (tens-in-at t) tens-in.Post
   mul-twice c = omega arith
 
-  mul-if2 : tens-in-lts.Need-overflow-mul-if2 (claims t) (tens-in-at t) tens-in.Post
+  mul-if2 : tens-in-lts.Need-overflow_mul-twice-2 (claims t) (tens-in-at t) tens-in.Post
   mul-if2 c = omega arith
 
-  sub-if2 : tens-in-lts.Need-overflow-sub-if2 (claims t) (tens-in-at t) tens-in.Post
+  sub-if2 : tens-in-lts.Need-overflow_sub-x (claims t) (tens-in-at t) tens-in.Post
   sub-if2 c = omega arith
 
-  returns-2 : tens-in-lts.Need-returns-2 (claims t) (tens-in-at t) tens-in.Post
+  returns-2 : tens-in-lts.Need-returns-then-x-twice-lt10 (claims t) (tens-in-at t) tens-in.Post
   returns-2 c = omega arith
 
-  add-result : tens-in-lts.Need-overflow-add-result (claims t) (tens-in-at t) tens-in.Post
+  add-result : tens-in-lts.Need-overflow_add-result (claims t) (tens-in-at t) tens-in.Post
   add-result c = omega arith
 
-  returns-3 : tens-in-lts.Need-returns-3 (claims t) (tens-in-at t) tens-in.Post
+  returns-3 : tens-in-lts.Need-returns (claims t) (tens-in-at t) tens-in.Post
   returns-3 c = omega arith
 
-pub +tens-in-spec : {M : Type 1} → statement M
-+tens-in-spec =
+pub +tens_in_spec : {M : Type 1} → statement M
++tens_in_spec =
     close μ-tens-in λ t.
     tens-in-lts.spec (claims t) (tens-in-at t) tens-in.Post
     (returns t)

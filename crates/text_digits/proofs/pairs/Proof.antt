@@ -1,7 +1,5 @@
 -- `text_digits::pairs` meets its contract: each word of its table is the four pairs, which antt computes.
-use mathlib.Core.Path.{◌≡◌}
-use Prim.Native.Nat.{ℕ, zero, suc, ◌≤◌, ◌<◌}
-use native.Mathlib.Omega.{arith}
+use borrow.Author.Rules.{rules}
 use Rattle.text_digits.specs.Pairs.{four_pairs}
 use Rattle.text_digits.proofs.pairs.Statement.{statement}
 use Rattle.text_digits.proofs.pairs.Tie as tie
@@ -102,24 +100,12 @@ returns-24 : tie.Need-returns-in-23
 unfolding four_pairs
 returns-24 c = rw c.in-23.is
 
--- past the arms below i
-abbrev Past : ℕ → ℕ → Type 0
-Past zero k = Unit {0}
-Past (suc i) k = Past i k × (k ≡ i → ⊥)
-
-past : (i k : ℕ) → Past i k → i ≤ k
-past zero k p = omega arith
-past (suc i) k p = omega (arith, past i k p.0, p.1)
-
-none : {k : ℕ} → k < 25 → 25 ≤ k → ⊥
-none l h = omega arith
-
 returns-25 : tie.Need-returns-in-24
 unfolding four_pairs
 returns-25 c = rw c.in-24.is
 
 returns-26 : tie.Need-returns-in_default
-returns-26 c = absurd (none c.requires (past 25 c.args.k c.match.rest))
+returns-26 c = search rules
 
 pub pairs_spec : {M : Type 1} → statement M
 pairs_spec =

@@ -46,7 +46,7 @@ put-pair-requires-2 c κs =
 
 -- the byte of the first, then the other two
 written : (c : tie.After-put_pair-then-x-lt200) → let a = c.args in
-    Wrote a.buf.now a.at (49 ∷ digit ((a.x - 100) / 10) ∷ digit ((a.x - 100) % 10) ∷ []) c.put_pair-then-x-lt200.result c.put_pair-then-x-lt200.new.1.0
+    Wrote a.buf.now a.at (49 ∷ digit ((a.x - 100) / 10) ∷ digit ((a.x - 100) % 10) ∷ []) c.put_pair-then-x-lt200.result c.put_pair-then-x-lt200.new.buf
 written c =
     let a = c.args in
     wrote_then (wrote-byte a.buf.now a.at 49) c.put_pair-then-x-lt200.ensures
