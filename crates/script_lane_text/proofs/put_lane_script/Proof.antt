@@ -25,13 +25,13 @@ texts s =
 room : (s : tie.Start) → Room s.args.buf.now s.args.at (together (texts s))
 room s = room_as (script-lines s.args.p.now s.args.count s.args.x.0 s.args.y.0 s.args.hi.0 s.args.lo.0) s.requires.1
 
-room-1 : (c : tie.After-put-i) → Room c.put-i.new.1.0 c.put-i.result (left 1 (texts c.before.before.before.before.before.before))
+room-1 : (c : tie.After-put-i) → Room c.put-i.new.buf c.put-i.result (left 1 (texts c.before.before.before.before.before.before))
 room-1 c = room-step c.put-i.ensures (room c.before.before.before.before.before.before)
 
-room-2 : (c : tie.After-put_declarations-j) → Room c.put_declarations-j.new.0 c.put_declarations-j.result (left 2 (texts c.before.before.before.before.before.before.before.before.before.before))
+room-2 : (c : tie.After-put_declarations-j) → Room c.put_declarations-j.new.buf c.put_declarations-j.result (left 2 (texts c.before.before.before.before.before.before.before.before.before.before))
 room-2 c = room-step c.put_declarations-j.ensures (room-1 c.before.before.before.before)
 
-room-3 : (c : tie.After-put_nodes-l) → Room c.put_nodes-l.new.1.1.0 c.put_nodes-l.result (left 3 (texts c.before.before.before.before.before.before.before.before.before.before.before.before.before.before))
+room-3 : (c : tie.After-put_nodes-l) → Room c.put_nodes-l.new.buf c.put_nodes-l.result (left 3 (texts c.before.before.before.before.before.before.before.before.before.before.before.before.before.before))
 room-3 c = room-step c.put_nodes-l.ensures (room-2 c.before.before.before.before)
 
 -- ---- needs

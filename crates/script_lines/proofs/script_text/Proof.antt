@@ -73,7 +73,7 @@ array-share-prefix-records c = omega (arith, fit c.before.before)
 slice-aggregate-lower-block : tie.Need-slice_bounds-lower_block-end
 slice-aggregate-lower-block c =
     let t = c in
-    omega (arith, fit c.before.before.before, length-take (6 * t.read_lines-read.result.count) t.read_lines-read.new.1.0)
+    omega (arith, fit c.before.before.before, length-take (6 * t.read_lines-read.result.count) t.read_lines-read.new.records)
 
 lower-block-requires : tie.Need-lower_block-answer-requires
 lower-block-requires c κs = search rules

@@ -23,16 +23,16 @@ texts s =
 room : (s : tie.Start) → Room s.args.buf.now s.args.at (together (texts s))
 room s = room_as (claim-is s.args.p.now s.args.x.0 s.args.y.0) s.requires.1
 
-room-1 : (c : tie.After-put-i) → Room c.put-i.new.1.0 c.put-i.result (left 1 (texts c.before.before.before.before.before.before))
+room-1 : (c : tie.After-put-i) → Room c.put-i.new.buf c.put-i.result (left 1 (texts c.before.before.before.before.before.before))
 room-1 c = room-step c.put-i.ensures (room c.before.before.before.before.before.before)
 
-room-2 : (c : tie.After-put_name-j) → Room c.put_name-j.new.1.1.0 c.put_name-j.result (left 2 (texts c.before.before.before.before.before.before.before.before.before.before))
+room-2 : (c : tie.After-put_name-j) → Room c.put_name-j.new.buf c.put_name-j.result (left 2 (texts c.before.before.before.before.before.before.before.before.before.before))
 room-2 c = room-step c.put_name-j.ensures (room-1 c.before.before.before.before)
 
-room-3 : (c : tie.After-put-l) → Room c.put-l.new.1.0 c.put-l.result (left 3 (texts c.before.before.before.before.before.before.before.before.before.before.before.before.before.before.before.before))
+room-3 : (c : tie.After-put-l) → Room c.put-l.new.buf c.put-l.result (left 3 (texts c.before.before.before.before.before.before.before.before.before.before.before.before.before.before.before.before))
 room-3 c = room-step c.put-l.ensures (room-2 c.before.before.before.before.before.before)
 
-room-4 : (c : tie.After-put_name-m) → Room c.put_name-m.new.1.1.0 c.put_name-m.result (left 4 (texts c.before.before.before.before.before.before.before.before.before.before.before.before.before.before.before.before.before.before.before.before))
+room-4 : (c : tie.After-put_name-m) → Room c.put_name-m.new.buf c.put_name-m.result (left 4 (texts c.before.before.before.before.before.before.before.before.before.before.before.before.before.before.before.before.before.before.before.before))
 room-4 c = room-step c.put_name-m.ensures (room-3 c.before.before.before.before)
 
 -- ---- needs

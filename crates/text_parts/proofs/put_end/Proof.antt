@@ -23,7 +23,7 @@ range-room c = room_as (range-is c) c.requires.1
 
 -- the high bit is written
 high-room : (c : tie.After-put_numbered-i)
-    → Room c.put_numbered-i.new.1.1.0 c.put_numbered-i.result (bytes ":" ++ (decimal c.cut_lo-lo.result.0 ++ bytes "]"))
+    → Room c.put_numbered-i.new.buf c.put_numbered-i.result (bytes ":" ++ (decimal c.cut_lo-lo.result.0 ++ bytes "]"))
 high-room c = room-step c.put_numbered-i.ensures (range-room c.before.before)
 
 -- and the low one

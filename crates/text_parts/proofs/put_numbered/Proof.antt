@@ -7,7 +7,7 @@ use borrow.Author.Rules.{rules}
 use Rattle.text_parts.proofs.put_numbered.Statement.{statement}
 use Rattle.text_parts.proofs.put_numbered.Tie as tie
 
-written : (c : tie.After-put_decimal) → let a = c.args in Wrote a.buf.now a.at (a.c ∷ decimal a.x) c.put_decimal.result c.put_decimal.new.1.0
+written : (c : tie.After-put_decimal) → let a = c.args in Wrote a.buf.now a.at (a.c ∷ decimal a.x) c.put_decimal.result c.put_decimal.new.buf
 written c = let a = c.args in wrote_then (wrote-byte a.buf.now a.at a.c) c.put_decimal.ensures
 
 slice-write-buf : tie.Need-bounds-buf-at

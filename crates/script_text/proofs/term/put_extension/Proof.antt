@@ -24,22 +24,22 @@ texts s =
 room : (s : tie.Start) → Room s.args.buf.now s.args.at (together (texts s))
 room s = room_as (indexed-1 (function_of (kind_at s.args.k)) (name_of s.args.p.now s.args.a.0) s.args.by) s.requires.1
 
-room-1 : (c : tie.After-put-i) → Room c.put-i.new.1.0 c.put-i.result (left 1 (texts c.before.before.before.before.before.before))
+room-1 : (c : tie.After-put-i) → Room c.put-i.new.buf c.put-i.result (left 1 (texts c.before.before.before.before.before.before))
 room-1 c = room-step c.put-i.ensures (room c.before.before.before.before.before.before)
 
-room-2 : (c : tie.After-put_function-j) → Room c.put_function-j.new.1.0 c.put_function-j.result (left 2 (texts c.before.before.before.before.before.before.before.before.before.before))
+room-2 : (c : tie.After-put_function-j) → Room c.put_function-j.new.buf c.put_function-j.result (left 2 (texts c.before.before.before.before.before.before.before.before.before.before))
 room-2 c = room-step c.put_function-j.ensures (room-1 c.before.before.before.before)
 
-room-3 : (c : tie.After-put-l) → Room c.put-l.new.1.0 c.put-l.result (left 3 (texts c.before.before.before.before.before.before.before.before.before.before.before.before.before.before.before.before))
+room-3 : (c : tie.After-put-l) → Room c.put-l.new.buf c.put-l.result (left 3 (texts c.before.before.before.before.before.before.before.before.before.before.before.before.before.before.before.before))
 room-3 c = room-step c.put-l.ensures (room-2 c.before.before.before.before.before.before)
 
-room-4 : (c : tie.After-put_number-m) → Room c.put_number-m.new.1.0 c.put_number-m.result (left 4 (texts c.before.before.before.before.before.before.before.before.before.before.before.before.before.before.before.before.before.before.before.before))
+room-4 : (c : tie.After-put_number-m) → Room c.put_number-m.new.buf c.put_number-m.result (left 4 (texts c.before.before.before.before.before.before.before.before.before.before.before.before.before.before.before.before.before.before.before.before))
 room-4 c = room-step c.put_number-m.ensures (room-3 c.before.before.before.before)
 
-room-5 : (c : tie.After-put-o) → Room c.put-o.new.1.0 c.put-o.result (left 5 (texts c.before.before.before.before.before.before.before.before.before.before.before.before.before.before.before.before.before.before.before.before.before.before.before.before.before.before))
+room-5 : (c : tie.After-put-o) → Room c.put-o.new.buf c.put-o.result (left 5 (texts c.before.before.before.before.before.before.before.before.before.before.before.before.before.before.before.before.before.before.before.before.before.before.before.before.before.before))
 room-5 c = room-step c.put-o.ensures (room-4 c.before.before.before.before.before.before)
 
-room-6 : (c : tie.After-put_name-q) → Room c.put_name-q.new.1.1.0 c.put_name-q.result (left 6 (texts c.before.before.before.before.before.before.before.before.before.before.before.before.before.before.before.before.before.before.before.before.before.before.before.before.before.before.before.before.before.before))
+room-6 : (c : tie.After-put_name-q) → Room c.put_name-q.new.buf c.put_name-q.result (left 6 (texts c.before.before.before.before.before.before.before.before.before.before.before.before.before.before.before.before.before.before.before.before.before.before.before.before.before.before.before.before.before.before))
 room-6 c = room-step c.put_name-q.ensures (room-5 c.before.before.before.before)
 
 -- ---- needs

@@ -13,7 +13,7 @@ use Rattle.script_text.proofs.term.put_sort.Tie as tie
 room : (c : tie.Else-width-eq0) → let a = c.args in Room a.buf.now a.at (bytes "(_ BitVec " ++ (decimal a.width ++ bytes ")"))
 room c = room_as (long-sort _ c.if-width-eq0.false) c.requires
 
-room-1 : (c : tie.After-put-i) → Room c.put-i.new.1.0 c.put-i.result (decimal c.args.width ++ bytes ")")
+room-1 : (c : tie.After-put-i) → Room c.put-i.new.buf c.put-i.result (decimal c.args.width ++ bytes ")")
 room-1 c = room-step c.put-i.ensures (room c.before.before.before.before)
 
 -- ---- needs

@@ -50,7 +50,7 @@ module _ (t : ℕ) where
   whole s = whole-compare (pool s) (node s) s.requires.1.0.0 _ refl s.requires.1.0.1
 
   opened-room : (c : Opened) → let s = start c in
-      Room c.put.new.1.0 c.put.result (text (pool s) (op_a (pool s) (node s)) ++ after-left (pool s) (node s))
+      Room c.put.new.buf c.put.result (text (pool s) (op_a (pool s) (node s)) ++ after-left (pool s) (node s))
   opened-room c = room-step c.put.ensures (room_as (whole (start c)) (start c).requires.1.1)
 
   -- the left operand is written
