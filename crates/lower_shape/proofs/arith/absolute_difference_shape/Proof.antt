@@ -1,6 +1,6 @@
 -- absolute_difference_shape: each arm gives the row of its number.
 use Rattle.neon.specs.Op.{op_at, operations}
-use Rattle.lower_shape.proofs.Numbered.{last}
+use Rattle.std.proofs.Common.{◌≡◌, arith}
 use Rattle.lower_shape.proofs.arith.absolute_difference_shape.Statement.{statement}
 use Rattle.lower_shape.proofs.arith.absolute_difference_shape.Tie as tie
 
@@ -16,4 +16,4 @@ absolute_difference_shape_spec =
     (λ c i upper. rw c.in-56.is c.integer.ensures)
     (λ c i upper. rw c.in-57.is c.integer-in-57.ensures)
     (λ c i upper. rw c.in-58.is c.integer-in-58.ensures)
-    (λ c i upper. rw (last 56 3 c.requires c.match.rest) c.integer-in_default.ensures))
+    (λ c i upper. let e : c.args.operation ≡ 59 = omega arith in rw e c.integer-in_default.ensures))

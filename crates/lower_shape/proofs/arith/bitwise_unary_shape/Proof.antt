@@ -1,6 +1,6 @@
 -- bitwise_unary_shape: each arm gives the row of its number.
 use Rattle.neon.specs.Op.{op_at, operations}
-use Rattle.lower_shape.proofs.Numbered.{last}
+use Rattle.std.proofs.Common.{◌≡◌, arith}
 use Rattle.lower_shape.proofs.arith.bitwise_unary_shape.Statement.{statement}
 use Rattle.lower_shape.proofs.arith.bitwise_unary_shape.Tie as tie
 
@@ -12,4 +12,4 @@ bitwise_unary_shape_spec =
     (λ c i upper. rw c.in-60.is)
     (λ c i upper. rw c.in-61.is)
     (λ c i upper. rw c.in-62.is)
-    (λ c i upper. rw (last 60 3 c.requires c.match.rest)))
+    (λ c i upper. let e : c.args.operation ≡ 63 = omega arith in rw e))

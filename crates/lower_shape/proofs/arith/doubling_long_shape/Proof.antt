@@ -1,6 +1,6 @@
 -- doubling_long_shape: each arm gives the row of its number.
 use Rattle.neon.specs.Op.{op_at, operations}
-use Rattle.lower_shape.proofs.Numbered.{last}
+use Rattle.std.proofs.Common.{◌≡◌, arith}
 use Rattle.lower_shape.proofs.arith.doubling_long_shape.Statement.{statement}
 use Rattle.lower_shape.proofs.arith.doubling_long_shape.Tie as tie
 
@@ -32,4 +32,4 @@ doubling_long_shape_spec =
     (λ c i upper. rw c.in-50.is c.long-in-50.ensures)
     (λ c i upper. rw c.in-51.is c.long-in-51.ensures)
     (λ c i upper. rw c.in-52.is c.long-in-52.ensures)
-    (λ c i upper. rw (last 42 11 c.requires c.match.rest) c.long-in_default.ensures))
+    (λ c i upper. let e : c.args.operation ≡ 53 = omega arith in rw e c.long-in_default.ensures))

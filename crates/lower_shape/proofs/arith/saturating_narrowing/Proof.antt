@@ -1,6 +1,6 @@
 -- saturating_narrowing: each arm gives the row of its number.
 use Rattle.neon.specs.Op.{op_at, operations}
-use Rattle.lower_shape.proofs.Numbered.{last}
+use Rattle.std.proofs.Common.{◌≡◌, arith}
 use Rattle.lower_shape.proofs.arith.saturating_narrowing.Statement.{statement}
 use Rattle.lower_shape.proofs.arith.saturating_narrowing.Tie as tie
 
@@ -30,4 +30,4 @@ saturating_narrowing_spec =
     (λ c. rw c.in-34.is c.clamped-in-34.ensures)
     (λ c. rw c.in-35.is c.clamped-in-35.ensures)
     (λ c. rw c.in-36.is c.clamped-in-36.ensures)
-    (λ c. rw (last 27 10 c.requires c.match.rest) c.clamped-in_default.ensures))
+    (λ c. let e : c.args.operation ≡ 37 = omega arith in rw e c.clamped-in_default.ensures))

@@ -1,16 +1,8 @@
 -- saturating_same_width: each arm gives the row of its number.
-use mathlib.Core.Path.{◌≡◌}
-use mathlib.Core.Logic.{◌⊎◌, ⊎_elim}
-use Prim.Native.Nat.{ℕ, ◌≤◌}
-use native.Mathlib.Omega.{arith}
+use Rattle.std.proofs.Common.{◌≡◌, arith}
 use Rattle.neon.specs.Op.{op_at, operations}
-use Rattle.lower_shape.proofs.Numbered.{NoneOf, above}
 use Rattle.lower_shape.proofs.arith.saturating_same_width.Statement.{statement}
 use Rattle.lower_shape.proofs.arith.saturating_same_width.Tie as tie
-
--- past 19 to 26 and 38 to 40
-the_last : {n : ℕ} → (19 ≤ n) × (n ≤ 41) × ((n ≤ 26) ⊎ (38 ≤ n)) → ((NoneOf n 19 8 × (n ≡ 38 → ⊥)) × (n ≡ 39 → ⊥)) × (n ≡ 40 → ⊥) → n ≡ 41
-the_last {n} p r = ⊎_elim (λ l. absurd (omega (arith, l, above n 19 8 p.0 r.0.0.0))) (λ l. omega (arith, l, p.1, r.0.0.1, r.0.1, r.1)) p.2
 
 pub saturating_same_width_spec : {M : Type 1} → statement M
 unfolding op_at operations
@@ -40,4 +32,4 @@ saturating_same_width_spec =
     (λ c i upper. rw c.in-38.is c.unary.ensures)
     (λ c i upper. rw c.in-39.is c.unary-in-39.ensures)
     (λ c i upper. rw c.in-40.is c.multiply_high.ensures)
-    (λ c i upper. rw (the_last c.requires c.match.rest) c.multiply_high-in_default.ensures))
+    (λ c i upper. let e : c.args.operation ≡ 41 = omega arith in rw e c.multiply_high-in_default.ensures))

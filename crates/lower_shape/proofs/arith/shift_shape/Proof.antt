@@ -1,6 +1,6 @@
 -- shift_shape: each arm gives the row of its number.
 use Rattle.neon.specs.Op.{op_at, operations}
-use Rattle.lower_shape.proofs.Numbered.{last}
+use Rattle.std.proofs.Common.{◌≡◌, arith}
 use Rattle.lower_shape.proofs.arith.shift_shape.Statement.{statement}
 use Rattle.lower_shape.proofs.arith.shift_shape.Tie as tie
 
@@ -40,4 +40,4 @@ shift_shape_spec =
     (λ c upper. rw c.in-13.is c.register-in-13.ensures)
     (λ c upper. rw c.in-14.is c.register-in-14.ensures)
     (λ c upper. rw c.in-15.is c.register-in-15.ensures)
-    (λ c upper. rw (last 1 15 c.requires c.match.rest) c.register-in_default.ensures))
+    (λ c upper. let e : c.args.operation ≡ 16 = omega arith in rw e c.register-in_default.ensures))
