@@ -39,7 +39,7 @@ limit-requires-2 : tie.Need-limit-q-requires
 limit-requires-2 c κs = search rules
 
 returns : tie.Need-returns-in-Nothing
-returns c = rw c.enum_told-1.given.1 (c.limit-p.ensures _ (fitting (omega arith) c.doubled_product.ensures))
+returns c = rw c.in-Nothing.is (c.limit-p.ensures _ (fitting (omega arith) c.doubled_product.ensures))
 
 returns-2 : tie.Need-returns-in-With
 returns-2 c =
@@ -52,7 +52,7 @@ returns-2 c =
     let at-doubled-product = c in
     let s = c in
     let p = at-limit2.limit-p.ensures _ (fitting (omega arith) at-doubled-product.doubled_product.ensures) in
-    rw at-combine.combine-1.given.1 (both p (at-limit.limit-q.ensures _
+    rw at-combine.in-With.is (both p (at-limit.limit-q.ensures _
     (fitting (omega arith) (at_join.join.ensures 65 _ _ (omega arith) at-read2.read.ensures
     (again s.args.n _ (omega arith) p at_read.read-in-With.ensures)))))
 

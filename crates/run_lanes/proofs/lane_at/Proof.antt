@@ -22,7 +22,7 @@ enum-known-op c = search rules
 
 shift-lane-requires : tie.Need-shift_lane-requires
 shift-lane-requires c κs =
-    let p = asked c.before.before.before c.op-1.given.1 in
+    let p = asked c.before c.in-Shift.is in
     (p.0, p.1, p.3, p.5)
 
 enum-known-op-2 : tie.Need-enum_known-op-in-ShiftInsert-1
@@ -30,7 +30,7 @@ enum-known-op-2 c = search rules
 
 insert-lane-requires : tie.Need-insert_lane-requires
 insert-lane-requires c κs =
-    let p = asked c.before.before.before c.op-in-ShiftInsert-1.given.1 in
+    let p = asked c.before c.in-ShiftInsert.is in
     (p.0, p.1, p.3, p.2, p.5)
 
 enum-known-op-3 : tie.Need-enum_known-op-in-MixedSignAdd-1
@@ -38,7 +38,7 @@ enum-known-op-3 c = search rules
 
 mixed-lane-requires : tie.Need-mixed_lane-requires
 mixed-lane-requires c κs =
-    let p = asked c.before.before.before c.op-in-MixedSignAdd-1.given.1 in
+    let p = asked c.before c.in-MixedSignAdd.is in
     (p.0, p.1, p.3, p.2)
 
 enum-known-op-4 : tie.Need-enum_known-op-in-DoublingLong-1
@@ -46,7 +46,7 @@ enum-known-op-4 c = search rules
 
 doubling-lane-requires : tie.Need-doubling_lane-requires
 doubling-lane-requires c κs =
-    let p = asked c.before.before.before c.op-in-DoublingLong-1.given.1 in
+    let p = asked c.before c.in-DoublingLong.is in
     (p.5, p.1, p.3, p.4, p.2)
 
 enum-known-op-5 : tie.Need-enum_known-op-in-Saturating-1
@@ -54,7 +54,7 @@ enum-known-op-5 c = search rules
 
 saturating-lane-requires : tie.Need-saturating_lane-requires
 saturating-lane-requires c κs =
-    let p = asked c.before.before.before c.op-in-Saturating-1.given.1 in
+    let p = asked c.before c.in-Saturating.is in
     (p.0, p.3, p.4, p.5)
 
 enum-known-op-6 : tie.Need-enum_known-op-in-BitwiseUnary-1
@@ -68,7 +68,7 @@ enum-known-op-7 c = search rules
 
 difference-lane-requires : tie.Need-difference_lane-requires
 difference-lane-requires c κs =
-    let p = asked c.before.before.before c.op-in-AbsoluteDifference-1.given.1 in
+    let p = asked c.before c.in-AbsoluteDifference.is in
     (p.0, p.1, p.3, p.4)
 
 enum-known-op-8 : tie.Need-enum_known-op-in-HighNarrow-1
@@ -76,40 +76,40 @@ enum-known-op-8 c = search rules
 
 high-lane-requires : tie.Need-high_lane-requires
 high-lane-requires c κs =
-    let p = asked c.before.before.before c.op-in-HighNarrow-1.given.1 in
+    let p = asked c.before c.in-HighNarrow.is in
     (p.0, p.5)
 
 returns : tie.Need-returns-in-Shift
 unfolding family_lane family_beyond
-returns c = rw c.op-1.given.1 c.shift_lane.ensures
+returns c = rw c.in-Shift.is c.shift_lane.ensures
 
 returns-2 : tie.Need-returns-in-ShiftInsert
 unfolding family_lane family_beyond
-returns-2 c = rw c.op-in-ShiftInsert-1.given.1 (record { bits_are = c.insert_lane.ensures; saturated_is = refl })
+returns-2 c = rw c.in-ShiftInsert.is (record { bits_are = c.insert_lane.ensures; saturated_is = refl })
 
 returns-3 : tie.Need-returns-in-MixedSignAdd
 unfolding family_lane family_beyond
-returns-3 c = rw c.op-in-MixedSignAdd-1.given.1 c.mixed_lane.ensures
+returns-3 c = rw c.in-MixedSignAdd.is c.mixed_lane.ensures
 
 returns-4 : tie.Need-returns-in-DoublingLong
 unfolding family_lane family_beyond
-returns-4 c = rw c.op-in-DoublingLong-1.given.1 c.doubling_lane.ensures
+returns-4 c = rw c.in-DoublingLong.is c.doubling_lane.ensures
 
 returns-5 : tie.Need-returns-in-Saturating
 unfolding family_lane family_beyond
-returns-5 c = rw c.op-in-Saturating-1.given.1 c.saturating_lane.ensures
+returns-5 c = rw c.in-Saturating.is c.saturating_lane.ensures
 
 returns-6 : tie.Need-returns-in-BitwiseUnary
 unfolding family_lane family_beyond
-returns-6 c = rw c.op-in-BitwiseUnary-1.given.1 (record { bits_are = c.bits_lane.ensures; saturated_is = refl })
+returns-6 c = rw c.in-BitwiseUnary.is (record { bits_are = c.bits_lane.ensures; saturated_is = refl })
 
 returns-7 : tie.Need-returns-in-AbsoluteDifference
 unfolding family_lane family_beyond
-returns-7 c = rw c.op-in-AbsoluteDifference-1.given.1 c.difference_lane.ensures
+returns-7 c = rw c.in-AbsoluteDifference.is c.difference_lane.ensures
 
 returns-8 : tie.Need-returns-in-HighNarrow
 unfolding family_lane family_beyond
-returns-8 c = rw c.op-in-HighNarrow-1.given.1 (record { bits_are = c.high_lane.ensures; saturated_is = refl })
+returns-8 c = rw c.in-HighNarrow.is (record { bits_are = c.high_lane.ensures; saturated_is = refl })
 
 pub lane_at_spec : {M : Type 1} → statement M
 lane_at_spec =

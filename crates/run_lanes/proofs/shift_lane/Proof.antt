@@ -12,10 +12,6 @@ use Rattle.run_lanes.proofs.shift_lane.Tie as tie
 amount-in : (s : tie.Start) {k : ShiftKind} → s.args.kind ≡ k → AmountIn k s.args.n
 amount-in s e = subst (λ (k : ShiftKind). AmountIn k s.args.n) e s.requires.3
 
--- ---- from each kind back to the value that is shifted
-
--- ---- needs
-
 read-requires : tie.Need-read-v-requires
 read-requires c κs = search rules
 
@@ -24,8 +20,7 @@ enum-known-kind c = search rules
 
 scaled-requires : tie.Need-scaled-requires
 scaled-requires c κs =
-    let s = c in
-    omega (arith, s.requires, amount-in s c.kind-1.given.1)
+    omega (arith, c.requires, amount-in c.before.before c.in-LeftImmediate.is)
 
 limit-requires : tie.Need-limit-requires
 limit-requires c κs = search rules
@@ -35,8 +30,7 @@ enum-known-kind-2 c = search rules
 
 right-requires : tie.Need-right-requires
 right-requires c κs =
-    let s = c in
-    omega (arith, s.requires, amount-in s c.kind-in-RightImmediate-1.given.1)
+    omega (arith, c.requires, amount-in c.before.before c.in-RightImmediate.is)
 
 limit-requires-2 : tie.Need-limit-requires-in-RightImmediate
 limit-requires-2 c κs = search rules
@@ -57,21 +51,21 @@ returns : tie.Need-returns-in-LeftImmediate
 returns c =
     let at-kind = c in
     let s = c in
-    let amount = amount-in s at-kind.kind-1.given.1 in
-    rw at-kind.kind-1.given.1 (c.limit.ensures _ (fitting (omega (arith, s.requires, amount))
+    let amount = amount-in c.before.before.before.before at-kind.in-LeftImmediate.is in
+    rw at-kind.in-LeftImmediate.is (c.limit.ensures _ (fitting (omega (arith, s.requires, amount))
     (c.scaled.ensures 65 _ (omega arith) at-kind.read-v.ensures)))
 
 returns-2 : tie.Need-returns-in-RightImmediate
 returns-2 c =
     let at-kind2 = c in
-    rw at-kind2.kind-in-RightImmediate-1.given.1 (c.limit-in-RightImmediate.ensures _ (fitting (omega arith)
+    rw at-kind2.in-RightImmediate.is (c.limit-in-RightImmediate.ensures _ (fitting (omega arith)
     (c.right.ensures 65 _ (omega arith) at-kind2.read-v.ensures)))
 
 returns-3 : tie.Need-returns-in-Register
 returns-3 c =
     let at-own-range = c in
     let at-kind3 = c in
-    rw at-kind3.kind-in-Register-1.given.1 (rw at-own-range.own_range.ensures
+    rw at-kind3.in-Register.is (rw at-own-range.own_range.ensures
     at (c.limit-in-Register.ensures _ (c.turn.ensures _ at-kind3.read-v.ensures)))
 
 pub shift_lane_spec : {M : Type 1} → statement M

@@ -40,20 +40,20 @@ reversed-requires : tie.Need-reversed-requires
 reversed-requires c κs = search rules
 
 returns : tie.Need-returns-in-PopulationCount
-returns c = rw c.enum_told-1.given.1 c.count_ones.ensures
+returns c = rw c.in-PopulationCount.is c.count_ones.ensures
 
 returns-2 : tie.Need-returns-in-LeadingZeros
-returns-2 c = rw c.enum_told-in-LeadingZeros-1.given.1 c.run_of.ensures
+returns-2 c = rw c.in-LeadingZeros.is c.run_of.ensures
 
 returns-3 : tie.Need-returns-in-LeadingSignBits
 returns-3 c =
     let at-enum-told = c in
     let s = c in
-    rw at-enum-told.enum_told-in-LeadingSignBits-1.given.1 (c.run_of-in-LeadingSignBits.ensures ∙ ap (λ (t : ℕ). equal_run t (s.args.n - 1) s.args.a)
+    rw at-enum-told.in-LeadingSignBits.is (c.run_of-in-LeadingSignBits.ensures ∙ ap (λ (t : ℕ). equal_run t (s.args.n - 1) s.args.a)
     c.bit.ensures.0)
 
 returns-4 : tie.Need-returns-in-ReverseBits
-returns-4 c = rw c.enum_told-in-ReverseBits-1.given.1 c.reversed.ensures
+returns-4 c = rw c.in-ReverseBits.is c.reversed.ensures
 
 pub bits_lane_spec : {M : Type 1} → statement M
 bits_lane_spec =
