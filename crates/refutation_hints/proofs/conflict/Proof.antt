@@ -54,7 +54,7 @@ left-low c =
     let l = c.loop-i in
     let a = c.args in
     subst (λ (n : ℕ). n < literal_of a.count + 2) (sym (left_is c))
-    (cited-low (ready c.before) (marked l.marks a.k) (get_or a.words.now l.i 0))
+    (cited-low (ready c.before.before.before.before) (marked l.marks a.k) (get_or a.words.now l.i 0))
 
 two : (c : tie.Else-left-eq1 invariant-loop-i decreases-loop-i) → 2 ≤ c.left_of_hint-left.result
 two c = omega (arith, c.if-left-eq0.false, c.if-left-eq1.false)
@@ -66,7 +66,7 @@ place-low c =
     let h = c in
     let t = c in
     let n = inputs + t.args.count in
-    let room = (ready t).room in
+    let room = (ready t.before.before.before.before.before.before.before).room in
     rw c.negate.ensures
     (negated-low (h.left_of_hint-left.result - 2) n (length t.loop-i.marks) (omega (arith, left-low c.before.before.before, two c.before)) (omega (arith, room)))
 
@@ -102,7 +102,7 @@ wide-requires : tie.Need-wide-requires invariant-loop-i decreases-loop-i
 wide-requires c κs = search rules
 
 left-of-hint-requires : tie.Need-left_of_hint-left-requires invariant-loop-i decreases-loop-i
-left-of-hint-requires c κs = ready c.before.before.before.before
+left-of-hint-requires c κs = ready c.before.before.before
 
 same_length : tie.Need-shape_of-marks-then-left-eq0 invariant-loop-i decreases-loop-i
 same_length c = c.loop-i.invariant.1
@@ -116,7 +116,7 @@ same-length-2 c = c.loop-i.invariant.1
 returns-2 : tie.Need-returns-then-left-eq1 invariant-loop-i decreases-loop-i
 returns-2 c =
     let h = c in
-    (rw (ne_eqb _ _ c.if-left-eq0.false, eq-eqb _ _ c.if-left-eq1.true) at (from-here h), h.loop-i.invariant.2)
+    (rw (ne_eqb _ _ c.if-left-eq0.false, eq-eqb _ _ c.if-left-eq1.true) at (from-here h.before.before), h.loop-i.invariant.2)
 
 sub-negate : tie.Need-overflow_sub-left invariant-loop-i decreases-loop-i
 sub-negate c = two c
@@ -125,12 +125,12 @@ negate-requires : tie.Need-negate-requires invariant-loop-i decreases-loop-i
 negate-requires c κs =
     let h = c in
     let t = c in
-    omega (arith, left-low c.before.before, (ready t).room, t.loop-i.invariant.1, t.good)
+    omega (arith, left-low c.before.before, (ready t.before.before.before.before.before.before).room, t.loop-i.invariant.1, t.well_formed)
 
 mul-marks : tie.Need-offset_bounds-marks-negate invariant-loop-i decreases-loop-i
 mul-marks c =
     let t = c in
-    omega (arith, place-low c, t.loop-i.invariant.1, t.good)
+    omega (arith, place-low c, t.loop-i.invariant.1, t.well_formed)
 
 slice-write-marks : tie.Need-bounds-marks-negate invariant-loop-i decreases-loop-i
 slice-write-marks c = place-low c
@@ -153,7 +153,7 @@ loop-again c =
       length-set l.marks at a.k ∙ l.invariant.1,
       at-most-set l.marks at a.k (place-low c) l.invariant.2,
       rw (marked_more l.marks at a.k (place-low c), c.negate.ensures)
-          (rw (ne_eqb _ _ z.if-left-eq0.false, ne_eqb _ _ z.if-left-eq1.false) at (from-here h)),
+          (rw (ne_eqb _ _ z.if-left-eq0.false, ne_eqb _ _ z.if-left-eq1.false) at (from-here h.before.before.before)),
     )
 
 same-length-3 : tie.Need-shape_of-marks invariant-loop-i decreases-loop-i

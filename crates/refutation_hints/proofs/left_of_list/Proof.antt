@@ -101,7 +101,7 @@ loop-again c =
       ap (λ (r : ℕ). remains m r (slice (l.i + 1) end ws))
           (c.look-left.ensures ∙ ap (λ (x : ℕ). cond (m x) l.left (kept l.left x)) c.wide-in-loop-i.ensures.0)
           ∙ sym (remains-one m l.left ws l.i end t.loop-i-test.true l.invariant.1) ∙ l.invariant.2,
-      (literal t).1,
+      (literal t.before.before.before).1,
     )
 
 returns : tie.Need-returns invariant-loop-i decreases-loop-i

@@ -53,7 +53,7 @@ returns c =
     }
 
 mul-marks : tie.Need-offset_bounds-marks-l invariant-loop-i decreases-loop-i
-mul-marks c = let s = c in omega (arith, s.requires.2, s.good, c.if-limit-l.false)
+mul-marks c = let s = c in omega (arith, s.requires.2, s.well_formed, c.if-limit-l.false)
 
 slice-write-marks : tie.Need-bounds-marks-l invariant-loop-i decreases-loop-i
 slice-write-marks c =
