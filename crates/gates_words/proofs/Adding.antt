@@ -1,8 +1,8 @@
 -- The adder of words, a full adder a turn: the low bits of the sum and the carry out of them. Assumes nothing.
-use mathlib.Core.Path.{◌≡◌, refl, sym, ap, ◌∙◌}
-use mathlib.Core.Bool.{Bool, true, false, not, ◌&&◌, ◌||◌}
+use mathlib.Core.Path.{◌≡◌}
+use mathlib.Core.Bool.{Bool, true, false}
 use mathlib.Core.List.{List}
-use Prim.Native.Nat.{ℕ, ◌+◌, ◌*◌, ◌^◌, ◌≤◌, ◌<◌}
+use Prim.Native.Nat.{ℕ, ◌+◌, ◌*◌, ◌^◌, ◌<◌}
 use native.Mathlib.Nat.{pow-suc}
 use native.Mathlib.Numerals.{add-one}
 use native.Mathlib.Omega.{arith}
@@ -10,11 +10,10 @@ use lib.ListN.{length, get_or}
 use Rattle.terms.specs.Value.{bit}
 use Rattle.gates.specs.Graph.{truth}
 use Rattle.gates.specs.Grow.{Under}
-use Rattle.gates.proofs.Truth.{same_truth}
 use Rattle.gates_build.specs.declared.Made.{Made}
 use Rattle.gates_build.specs.Adds.{differ, most}
 use Rattle.gates_words.specs.Number.{sum, bit_at, number}
-use Rattle.gates_words.specs.Words.{Operand, Put, Run}
+use Rattle.gates_words.specs.Words.{Operand}
 use Rattle.gates_words.specs.Adds.{PutsSum, Adds}
 use Rattle.gates_words.proofs.Sums.{sum-next}
 use Rattle.gates_words.proofs.Loops.{run_none, run_more, number_more, place-truth}

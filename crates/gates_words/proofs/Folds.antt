@@ -5,9 +5,9 @@ use mathlib.Core.List.{List}
 use Prim.Native.Nat.{ℕ, ◌+◌, ◌-◌, ◌*◌, ◌^◌, ◌≤◌, ◌<◌}
 use native.Mathlib.Omega.{arith}
 use lib.Dec.{ltb, eqb}
-use lib.ListN.{length, get_or}
+use lib.ListN.{get_or}
 use borrow.Author.Tests.{eq-eqb, ne_eqb, eqb-true, eqb-false, lt-ltb, le-ltb, ltb-true, ltb-false}
-use Rattle.terms.specs.Value.{bit, bvslt, msb}
+use Rattle.terms.specs.Value.{bit, bvslt}
 use Rattle.gates.specs.Graph.{truth}
 use Rattle.gates.specs.Grow.{Builds, Under, negated}
 use Rattle.gates.proofs.Truth.{same_truth, true-truth}

@@ -1,14 +1,14 @@
 -- The gates of the bits of two numbers make the bits of their And, Or and Xor, and of the choice between them. Assumes nothing.
-use mathlib.Core.Path.{◌≡◌, refl, sym, ap, ◌∙◌}
-use mathlib.Core.Bool.{Bool, true, false, not, ◌&&◌, ◌||◌}
+use mathlib.Core.Path.{◌≡◌, refl}
+use mathlib.Core.Bool.{Bool, true, false}
 use mathlib.Core.List.{List}
 use Prim.Native.Nat.{ℕ, ◌+◌, ◌*◌, ◌^◌, ◌≤◌, ◌<◌}
 use native.Mathlib.Omega.{arith}
-use lib.Bits.{bit_and, bit_or, bit_xor, and_block, or_block, xor_block}
+use lib.Bits.{and_block, or_block, xor_block}
 use Rattle.terms.specs.Value.{bit}
 use Rattle.gates.specs.Grow.{Builds}
 use Rattle.gates.specs.Graph.{truth}
-use Rattle.gates_build.specs.Adds.{differ, choose}
+use Rattle.gates_build.specs.Adds.{choose}
 use Rattle.gates_words.specs.declared.bitwise.Gate.{Gate}
 use Rattle.gates_words.specs.declared.bitwise.Gate.TheVariants.{And, Or, Xor}
 use Rattle.gates_words.specs.Bitwise.{gate_of, bits_of, ite_of}

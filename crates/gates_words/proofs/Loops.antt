@@ -1,9 +1,9 @@
 -- Loops that write a literal a turn: what the first i turns leave, and one turn more. Assumes nothing.
 use mathlib.Core.Path.{◌≡◌, refl, sym, ap, ◌∙◌, subst}
-use mathlib.Core.Bool.{Bool, true, false}
+use mathlib.Core.Bool.{Bool}
 use mathlib.Core.List.{List}
 use mathlib.Core.Logic.{◌⊎◌, inl, inr, ⊎_elim}
-use Prim.Native.Nat.{ℕ, zero, suc, ◌+◌, ◌-◌, ◌*◌, ◌^◌, ◌≤◌, ◌<◌}
+use Prim.Native.Nat.{ℕ, ◌+◌, ◌*◌, ◌^◌, ◌≤◌, ◌<◌}
 use native.Mathlib.Nat.{not-suc-le-zero}
 use native.Mathlib.Omega.{arith}
 use lib.ListN.{length, get_or, set, length-set}
@@ -11,7 +11,7 @@ use lib.Seq.{get_or-set_same, get_or-set_other}
 use Rattle.facts.proofs.Numbers.{before-or-from}
 use Rattle.terms.specs.Value.{bit}
 use Rattle.gates.specs.Graph.{truth}
-use Rattle.gates.specs.Grow.{Grown, Builds, Under}
+use Rattle.gates.specs.Grow.{Grown, Under}
 use Rattle.gates.proofs.Truth.{same_truth}
 use Rattle.gates.proofs.Laws.{grown-same, grown-trans}
 use Rattle.gates_words.specs.Number.{sum, bit_at, number}

@@ -1,13 +1,12 @@
 -- Numbers by their bits: bounds, parts, inversion, the bits of a number. Assumes nothing.
-use mathlib.Core.Path.{◌≡◌, refl, sym, ap, ◌∙◌}
-use mathlib.Core.Bool.{Bool, true, false, not, ◌&&◌, ◌||◌}
+use mathlib.Core.Path.{◌≡◌, refl, sym, ap}
+use mathlib.Core.Bool.{Bool, true, false, not}
 use Prim.Native.Nat.{ℕ, zero, suc, ◌+◌, ◌-◌, ◌*◌, ◌/◌, ◌%◌, ◌^◌, ◌≤◌, ◌<◌}
-use native.Mathlib.Nat.{pow-suc, pow-zero, add-zero, zero-add, add-suc, suc-add, add-mul, mul_assoc, mul_comm, one-mul, zero-mul, mod-one, mod-eq_of_lt}
-use native.Mathlib.Nat.{mod-lt, add_assoc}
+use native.Mathlib.Nat.{pow-suc, add-zero, add-suc, add-mul, mul_assoc, mul_comm, mod-one}
 use native.Mathlib.Omega.{arith}
 use lib.Dec.{eqb}
-use lib.Pow.{pow-add, pow_pos, high, low, mod-pow-add}
-use borrow.Author.Tests.{eq-eqb, ne_eqb, eqb-true, eqb-false}
+use lib.Pow.{pow-add, high, low, mod-pow-add}
+use borrow.Author.Tests.{eqb-true, eqb-false}
 use Rattle.terms.specs.Value.{bit, msb}
 use Rattle.gates_words.specs.Number.{sum}
 

@@ -1,5 +1,5 @@
 -- What the adder of words says.
-use Rattle.std.specs.Prelude.{Bool, List, ◌≡◌, ℕ, ◌+◌, ◌*◌, ◌^◌}
+use Rattle.std.specs.Prelude.{List, ◌≡◌, ℕ, ◌+◌, ◌*◌, ◌^◌}
 use Rattle.terms.specs.Value.{bit}
 use Rattle.gates.specs.Graph.{truth}
 use Rattle.gates.specs.Grow.{Under, Builds}

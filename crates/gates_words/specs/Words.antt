@@ -1,5 +1,5 @@
 -- What circuits of words read and write.
-use Rattle.std.specs.Prelude.{Bool, List, ◌⊎◌, ◌≡◌, ℕ, ◌+◌, ◌*◌, ◌≤◌, ◌<◌, length, get_or, set}
+use Rattle.std.specs.Prelude.{Bool, List, ◌⊎◌, ◌≡◌, ℕ, ◌+◌, ◌≤◌, ◌<◌, length, get_or, set}
 use Rattle.gates.specs.Grow.{Grown, Builds, Under}
 use Rattle.gates_words.specs.Number.{number}
 

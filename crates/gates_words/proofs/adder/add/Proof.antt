@@ -1,9 +1,7 @@
 -- `add` keeps the low bits of the sum and the carry out of them.
-use Rattle.gates_words.specs.Words.{Operand, Put, Run, Writes}
-use Rattle.gates_words.specs.Number.{number, bit_at}
-use mathlib.Core.Path.{◌≡◌, refl, sym, ap, ◌∙◌}
-use lib.ListN.{length, get_or}
-use Prim.Native.Nat.{ℕ, ◌+◌, ◌-◌, ◌*◌, ◌≤◌, ◌<◌}
+use mathlib.Core.Path.{◌≡◌, refl}
+use lib.ListN.{length}
+use Prim.Native.Nat.{◌-◌, ◌≤◌}
 use native.Mathlib.Omega.{arith}
 use Rattle.gates_words.specs.Adds.{Adds}
 use Rattle.gates_words.proofs.Loops.{place-low}

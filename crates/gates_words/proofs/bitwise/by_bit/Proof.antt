@@ -1,9 +1,9 @@
 -- `by_bit` makes the gate of each two bits: its loop keeps the bits so far.
-use Rattle.gates_words.specs.Words.{Operand, Put, Run, Writes}
-use Rattle.gates_words.specs.Number.{number, bit_at}
-use mathlib.Core.Path.{◌≡◌, refl, sym, ap, ◌∙◌}
-use lib.ListN.{length, get_or}
-use Prim.Native.Nat.{ℕ, ◌+◌, ◌-◌, ◌*◌, ◌≤◌, ◌<◌}
+use Rattle.gates_words.specs.Words.{Writes}
+use Rattle.gates_words.specs.Number.{number}
+use mathlib.Core.Path.{◌≡◌, refl}
+use lib.ListN.{length}
+use Prim.Native.Nat.{◌-◌, ◌*◌, ◌≤◌}
 use native.Mathlib.Omega.{arith}
 use Rattle.gates_words.specs.Bitwise.{gate_of, bits_of}
 use Rattle.gates_words.proofs.Loops.{writes-none, writes_more, place-low, place-truth}

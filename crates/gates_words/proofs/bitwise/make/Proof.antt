@@ -35,7 +35,7 @@ returns c =
     let call = c in
     let told = c in
     let s = c in
-    made_as s.args.kind And s.args.a s.args.b told.enum_told-1.given.1 (omega arith) call.and.ensures
+    made_as s.args.kind And s.args.a s.args.b c.in-And.is (omega arith) call.and.ensures
 
 same-length-3 : tie.Need-shape_of-graph-in-Or
 same-length-3 c = search rules
@@ -48,7 +48,7 @@ returns-2 c =
     let call = c in
     let told = c in
     let s = c in
-    made_as s.args.kind Or s.args.a s.args.b told.enum_told-in-Or-1.given.1 (omega arith) call.or.ensures
+    made_as s.args.kind Or s.args.a s.args.b c.in-Or.is (omega arith) call.or.ensures
 
 same-length-5 : tie.Need-shape_of-graph-in-Xor
 same-length-5 c = search rules
@@ -61,7 +61,7 @@ returns-3 c =
     let call = c in
     let told = c in
     let s = c in
-    made_as s.args.kind Xor s.args.a s.args.b told.enum_told-in-Xor-1.given.1 (omega arith) call.xor.ensures
+    made_as s.args.kind Xor s.args.a s.args.b c.in-Xor.is (omega arith) call.xor.ensures
 
 pub make_spec : {M : Type 1} → statement M
 make_spec =

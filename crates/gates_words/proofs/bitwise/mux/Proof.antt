@@ -1,9 +1,9 @@
 -- `mux` chooses each bit: its loop keeps the bits so far.
-use Rattle.gates_words.specs.Words.{Operand, Put, Run, Writes}
-use Rattle.gates_words.specs.Number.{number, bit_at}
-use mathlib.Core.Path.{◌≡◌, refl, sym, ap, ◌∙◌}
-use lib.ListN.{length, get_or}
-use Prim.Native.Nat.{ℕ, ◌+◌, ◌-◌, ◌*◌, ◌≤◌, ◌<◌}
+use Rattle.gates_words.specs.Words.{Writes}
+use Rattle.gates_words.specs.Number.{number}
+use mathlib.Core.Path.{◌≡◌, refl}
+use lib.ListN.{length}
+use Prim.Native.Nat.{ℕ, ◌-◌, ◌*◌, ◌≤◌}
 use native.Mathlib.Omega.{arith}
 use Rattle.gates.specs.Graph.{truth}
 use Rattle.gates.proofs.Truth.{same_truth}
@@ -74,7 +74,7 @@ loop-again c =
       writes_more (λ start. choose (cond start)) (λ start. ite_of (cond start)) (choose-step cond) a.a a.b l.invariant.2 (omega (arith, s.requires, t))
           call.mux_at-all.ensures
           (λ start i.
-          choose (same_truth start a.graph.now l.graph-1 a.count a.c r.grown.kept s.requires.4 i) (place-truth r start s.requires.2 t i)
+          choose (same_truth start a.graph.now l.graph a.count a.c r.grown.kept s.requires.4 i) (place-truth r start s.requires.2 t i)
           (place-truth r start s.requires.3 t i))
           (omega arith),
     )

@@ -1,12 +1,12 @@
 -- `at_least` keeps whether the number of the bits of a so far is at least that of the bits of b.
 use Rattle.gates_words.specs.Number.{number}
-use mathlib.Core.Bool.{not, ◌&&◌}
+use mathlib.Core.Bool.{not}
 use mathlib.Core.Path.{◌≡◌, refl}
-use lib.Dec.{ltb, eqb}
+use lib.Dec.{ltb}
 use lib.ListN.{length}
-use Prim.Native.Nat.{ℕ, ◌+◌, ◌-◌, ◌*◌, ◌≤◌, ◌<◌}
+use Prim.Native.Nat.{◌-◌, ◌*◌, ◌≤◌}
 use Rattle.gates.specs.Grow.{Builds}
-use Rattle.gates_build.specs.Adds.{differ, most}
+use Rattle.gates_build.specs.Adds.{most}
 use native.Mathlib.Omega.{arith}
 use Rattle.gates_words.proofs.Folds.{fold-none, fold_more, less-step}
 use borrow.Author.Rules.{rules}

@@ -2,11 +2,11 @@
 use Rattle.gates_words.specs.Number.{number}
 use mathlib.Core.Bool.{not, ◌&&◌}
 use mathlib.Core.Path.{◌≡◌, refl}
-use lib.Dec.{ltb, eqb}
+use lib.Dec.{eqb}
 use lib.ListN.{length}
-use Prim.Native.Nat.{ℕ, ◌+◌, ◌-◌, ◌*◌, ◌≤◌, ◌<◌}
+use Prim.Native.Nat.{◌-◌, ◌*◌, ◌≤◌}
 use Rattle.gates.specs.Grow.{Builds}
-use Rattle.gates_build.specs.Adds.{differ, most}
+use Rattle.gates_build.specs.Adds.{differ}
 use native.Mathlib.Omega.{arith}
 use Rattle.gates_words.proofs.Folds.{fold-none, fold_more, equal-step}
 use borrow.Author.Rules.{rules}

@@ -1,7 +1,7 @@
 -- `copy` puts a literal a turn.
-use Prim.Native.Nat.{ℕ, ◌+◌, ◌-◌, ◌*◌, ◌/◌, ◌%◌, ◌^◌, ◌≤◌, ◌<◌}
-use mathlib.Core.Path.{◌≡◌, refl, sym, ap, ◌∙◌}
-use lib.ListN.{length, get_or, length-set}
+use Prim.Native.Nat.{◌+◌, ◌-◌, ◌≤◌}
+use mathlib.Core.Path.{◌≡◌}
+use lib.ListN.{get_or}
 use Rattle.gates_words.specs.Words.{Puts}
 use native.Mathlib.Omega.{arith}
 use Rattle.gates_words.proofs.Loops.{puts_none, puts-more}
