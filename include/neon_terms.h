@@ -1,4 +1,4 @@
-/* NEON instructions as SMT-LIB bit-vector terms: the functions of target/staticlib/libneon_terms.a, which `rt staticlib neon_terms`
+/* NEON instructions as SMT-LIB bit-vector terms: the functions of target/staticlib/libneon_terms.a, which tests/tools/build_library
  * builds for x86-64.
  *
  * Memory. Nothing is allocated or kept: a function reads and writes only what the caller passes, during the call. A slice is a pointer and a
@@ -8,7 +8,7 @@
  *
  * Stack. The two text functions recurse, at most 64 bytes per level of a term: 4.2 MB for the deepest pool. A level prints at least 5
  * characters, so a buffer or a ceiling of at most 140,000 bytes needs at most 1.8 MB. neon_text_length takes 0.5 MB, and 32 bytes per level
- * if the ceiling is at most 2,097,150. neon_value takes 80 bytes per level: 5.3 MB for the deepest pool. neon_canonical takes 0.8 MB. The
+ * if the ceiling is at most 2,097,150, else none per level. neon_value takes 80 bytes per level: 5.3 MB for the deepest pool. neon_canonical takes 0.8 MB. The
  * other functions take a few kilobytes.
  *
  * Pool. Four words per node; places = words / 4, at most 65,535; nodes 0 to count - 1 are in use.
@@ -31,17 +31,18 @@
 extern "C" {
 #endif
 
-/* The numbers. The first in order wins: one instruction 1 to 6; text and script 1, 5, 9; script by lanes 1, 5, 13, 9; block, with its
- * saturation bit or without, 8, 6, then record by record 2, 3, 4, 7; value 1, 5, 11; words 12, 9; lines 10, 8; records as words 2, 3, 4, 7
- * record by record, then 9; join 1, 5, 6; canonical 1, 5, 6; run 8, then record by record 2, 3, 4, 7; question 1, 5, 13, 6; equal 1, 5, 13, 6,
- * 14. 1 to 12 are those of the documents that this library follows; 13 and 14 are its own. */
+/* The numbers. The first in order wins: one instruction 1 to 6; text and script, by lanes too, 1, 5, 9; block, with its saturation
+ * bit or without, 8, 6, then record by record 2, 3, 4, 7; value 1, 5, 11; words 12, 9; lines 10, 8; records as words 2, 3, 4, 7 record by
+ * record, then 9; join 1, 5, 6; canonical 1, 5, 6; run 8, then record by record 2, 3, 4, 7; question 1, 5, 13, 6; equal 1, 5, 13, 6, 14.
+ * 1 to 12 are those of the documents that this library follows; 13 and 14 are its own. */
 enum neon_number {
     NEON_DONE = 0,
     NEON_BAD_POOL = 1,          /* count above places, or a node breaks a rule */
     NEON_NO_SUCH_OPERATION = 2, /* not 1 to 67 */
     NEON_NO_SUCH_FORM = 3,      /* no such arrangement, or the operation has none such */
     NEON_IMMEDIATE = 4,         /* i is not one of the form's */
-    NEON_SOURCE = 5,            /* a wanted node is not below the count or has another width; an unwanted one is not NEON_NO_NODE */
+    NEON_SOURCE = 5,            /* a wanted node is not below the count or has another width; an unwanted one is not NEON_NO_NODE; script by
+                                   lanes: hi and lo are no cut of 128 bits */
     NEON_NO_ROOM = 6,           /* fewer than 768 free places; block of k: fewer than 32 + 768 * k places, with its bit 33 + 2,048 * k; join,
                                    canonical, question, equal: lent memory is too short; question, equal: more than 2,147,479,551 gates */
     NEON_REGISTER = 7,          /* above 31, m above 15 for an element of 16 bits, or m not 0 with no second source */
@@ -50,7 +51,7 @@ enum neon_number {
     NEON_LINE = 10,             /* a line is not in columns */
     NEON_VISITS = 11,           /* the term's value takes more visits than are allowed */
     NEON_WORD = 12,             /* a word that encodes no legal form, a broken last word among them */
-    NEON_BITS = 13,             /* hi and lo are no cut of 128 bits: not lo <= hi < 128 */
+    NEON_BITS = 13,             /* question, equal: hi and lo are no cut of 128 bits: not lo <= hi < 128 */
     NEON_REFUTATION = 14        /* a refutation is not accepted */
 };
 
@@ -146,8 +147,8 @@ uint64_t neon_write_text(const uint64_t *pool, size_t words, size_t count, size_
                          size_t *length);
 
 /* *length is the length of the text of a node, or ceiling + 1 if the text is longer; 0 on error. If it is at most the ceiling, neon_write_text
- * fills a buffer of *length bytes exactly. After the check of the pool the time is linear in the text, and at most linear in the ceiling; from a
- * ceiling of 2^21 - 1 on it is linear in the nodes. */
+ * fills a buffer of *length bytes exactly. The time grows with the nodes for a node below 1,024, and for any node from a ceiling of 2^21 - 1 on; else
+ * with the ceiling. */
 uint64_t neon_text_length(const uint64_t *pool, size_t words, size_t count, size_t node, uint32_t ceiling, uint64_t *length);
 
 /* Words. A64 instruction words have four bytes each, the lowest first; records have six words each, as in a block. Reading and writing are
@@ -236,13 +237,13 @@ uint64_t neon_script_length(const uint64_t *pool, size_t words, size_t count, si
  *   (assert (distinct ((_ extract 7 0) n90) ((_ extract 7 0) n91)))
  * The assertions are satisfiable exactly if the two lanes differ. If all 16 scripts of 8-bit lanes are `unsat`, the nodes are equal. A lane is often
  * decided if 128 bits are not. At most 192 bytes per node and 1,218 more. Errors, the first in order: 1; 5 if a or b is not below the count or
- * not 128 bits wide; 13 if not lo <= hi < 128; 9. On error *length is 0. */
+ * not 128 bits wide, and if not lo <= hi < 128; 9. On error *length is 0. */
 
 /* Writes the script to the front of `buffer`, with no zero byte after it; later bytes stay. */
 uint64_t neon_write_lane_script(const uint64_t *pool, size_t words, size_t count, size_t a, size_t b, uint64_t hi, uint64_t lo, uint8_t *buffer,
                                 size_t bytes, size_t *length);
 
-/* The length of the script alone: 1, 5 and 13. */
+/* The length of the script alone: 1 and 5. */
 uint64_t neon_lane_script_length(const uint64_t *pool, size_t words, size_t count, size_t a, size_t b, uint64_t hi, uint64_t lo, size_t *length);
 
 /* ---- Gates

@@ -1,4 +1,4 @@
-//! Finds libneon_terms.a, which `rt staticlib neon_terms` writes: in the folder that NEON_TERMS_LIB names, else in target/staticlib of this
+//! Finds libneon_terms.a, which tests/tools/build_library writes: in the folder that NEON_TERMS_LIB names, else in target/staticlib of this
 //! repository. Without the archive nothing can be linked; `cargo check` and `cargo doc` need none, so its absence is a warning here.
 use std::path::PathBuf;
 
@@ -8,7 +8,7 @@ fn main() {
     let folder = std::env::var("NEON_TERMS_LIB").map_or_else(|_| here.join("../../../target/staticlib"), PathBuf::from);
     let archive = folder.join("libneon_terms.a");
     if !archive.exists() {
-        println!("cargo::warning=there is no {}: `rt staticlib neon_terms` writes it, and NEON_TERMS_LIB names another folder", archive.display());
+        println!("cargo::warning=there is no {}: tests/tools/build_library writes it, and NEON_TERMS_LIB names another folder", archive.display());
     }
     println!("cargo::rerun-if-changed={}", archive.display());
     println!("cargo::rustc-link-search=native={}", folder.display());

@@ -1,4 +1,4 @@
-//! The calls of the archive that `rt staticlib neon_terms` writes, by the crate neon_terms-sys. A lent slice stands between guards.
+//! The calls of the archive that tests/tools/build_library writes, by the crate neon_terms-sys. A lent slice stands between guards.
 
 use neon_terms_sys as sys;
 

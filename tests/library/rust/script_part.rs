@@ -75,15 +75,14 @@ fn script(pool: &[u64], count: usize, nodes: [usize; 2], lane: Lane) -> String {
     text
 }
 
-/// 1, 5 or 13, or 0 if there is a script.
+/// 1 or 5, or 0 if there is a script.
 fn number(pool: &[u64], count: usize, nodes: [usize; 2], lane: Lane) -> u64 {
     let chosen = |n: usize| n < count && Node::at(pool, n).width == 128;
     let cut = lane.is_none_or(|[hi, lo]| lo <= hi && hi <= 127);
-    match (valid(pool, count), nodes.into_iter().all(chosen), cut) {
-        (false, _, _) => 1,
-        (true, false, _) => 5,
-        (true, true, false) => 13,
-        (true, true, true) => 0,
+    match (valid(pool, count), nodes.into_iter().all(chosen) && cut) {
+        (false, _) => 1,
+        (true, false) => 5,
+        (true, true) => 0,
     }
 }
 
@@ -294,10 +293,8 @@ pub fn main(count: u64) {
     for _ in 0..count {
         try_random(&mut r, &mut seen);
     }
-    for (form, given, numbers) in [("scripts", seen.numbers, &[0, 1, 5, 9][..]), ("scripts by lanes", seen.lanes, &[0, 1, 5, 9, 13])] {
-        for (number, times) in given.into_iter().enumerate() {
-            assert_eq!(times > 0, numbers.contains(&number), "{form}: {number} was given {times} times");
-        }
+    for (number, &times) in seen.numbers.iter().enumerate().chain(seen.lanes.iter().enumerate()) {
+        assert_eq!(times > 0, [0, 1, 5, 9].contains(&number), "scripts: {number} was given {times} times");
     }
     assert!(seen.kinds[1..].iter().all(|&n| n > 0) && seen.widest == 129 && seen.late_vars > 0, "scripts: not every kind of node came up");
     println!("scripts: {count} random pools, answers by number {:?}, by lanes {:?}, all as the judge's; of each kind so many nodes {:?}", seen.numbers, seen.lanes, &seen.kinds[1..]);
@@ -321,15 +318,15 @@ fn hash(text: &[u8]) -> u64 {
 
 /// The sample for tests/library/stored/scripts: pools, chosen nodes and rooms; the number, the length and the script's hash.
 pub fn stored(count: u64) -> Sample {
-    sample(Rng(0x1f83_d9ab_fb41_bd6b), count, &[0, 1, 5, 9], |_| None)
+    sample(Rng(0x1f83_d9ab_fb41_bd6b), count, |_| None)
 }
 
 /// The sample for tests/library/stored/lane_scripts, with the bits after the nodes.
 pub fn stored_lanes(count: u64) -> Sample {
-    sample(Rng(0x5be0_cd19_137e_2179), count, &[0, 1, 5, 9, 13], |r| Some(lane(r)))
+    sample(Rng(0x5be0_cd19_137e_2179), count, |r| Some(lane(r)))
 }
 
-fn sample(mut r: Rng, count: u64, numbers: &[usize], lane: fn(&mut Rng) -> Lane) -> Sample {
+fn sample(mut r: Rng, count: u64, lane: fn(&mut Rng) -> Lane) -> Sample {
     let (mut input, mut answers, mut seen) = (String::new(), String::new(), [0; 14]);
     for _ in 0..count {
         let many = 1 + r.below(60) as usize;
@@ -352,6 +349,6 @@ fn sample(mut r: Rng, count: u64, numbers: &[usize], lane: fn(&mut Rng) -> Lane)
         answers += &format!("{number} {length} {} {hash:x}\n", text.len());
         seen[number as usize] += 1;
     }
-    assert!(numbers.iter().all(|&k| seen[k] > 0), "the stored scripts: numbers {seen:?}");
+    assert!([0, 1, 5, 9].iter().all(|&k| seen[k] > 0), "the stored scripts: numbers {seen:?}");
     Sample { input, answers }
 }

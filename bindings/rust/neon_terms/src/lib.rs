@@ -57,7 +57,7 @@ pub enum Number {
     NoSuchForm,
     /// i is not one of the form's.
     Immediate,
-    /// A wanted node is not there or has another width; an unwanted one is given.
+    /// A wanted node is not there or has another width; an unwanted one is given. Of a script by lanes: not lo <= hi < 128.
     Source,
     /// Too few places are free.
     NoRoom,
@@ -73,7 +73,7 @@ pub enum Number {
     Visits,
     /// A word that encodes no legal form, a broken last word among them.
     Word,
-    /// The bits of a lane are no cut of 128 bits: not lo <= hi < 128.
+    /// The bits of a question are no cut of 128 bits: not lo <= hi < 128.
     Bits,
     /// A refutation is not accepted.
     Refutation,

@@ -56,7 +56,7 @@ impl Pool {
     ///     assert!(script.ends_with(&format!("(assert (distinct ({cut} n{}) ({cut} n{})))\n(check-sat)\n", a.0, b.0)));
     /// }
     /// // no cut of 128 bits
-    /// assert_eq!(pool.lane_script(a, b, 128, 121).unwrap_err().number, Number::Bits);
+    /// assert_eq!(pool.lane_script(a, b, 128, 121).unwrap_err().number, Number::Source);
     /// # Ok::<(), neon_terms::Refusal>(())
     /// ```
     pub fn lane_script(&self, a: Node, b: Node, hi: u64, lo: u64) -> Result<String, Refusal> {
