@@ -26,7 +26,6 @@ high-room : (c : tie.After-put_numbered-i)
     → Room c.put_numbered-i.new.buf c.put_numbered-i.result (bytes ":" ++ (decimal c.cut_lo-lo.result.0 ++ bytes "]"))
 high-room c = room-step c.put_numbered-i.ensures (range-room c.before.before)
 
--- and the low one
 -- an extension, whose width is read
 width_is : (c : tie.After-width_of) → let a = c.args in end_text a.p.now a.n.0 ≡ width_text c.width_of.result
 width_is c =
@@ -50,7 +49,7 @@ put-numbered-requires-2 c κs = room-front _ (high-room c.before.before.before)
 put-requires : tie.Need-put-requires
 put-requires c κs =
     let q = c in
-    room-step q.put_numbered-j.ensures (high-room q)
+    room-step q.put_numbered-j.ensures (high-room q.before.before.before.before.before.before.before.before.before)
 
 same_length : tie.Need-shape_of-buf-then-k-eq-EXTRACT
 same_length c = search rules

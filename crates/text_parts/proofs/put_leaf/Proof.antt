@@ -28,7 +28,6 @@ const-is c e =
     let const = is-const a.p.now a.n.0 s.requires.0.0 a.k s.requires.0.1 s.requires.0.2 l.if-k-eq-VAR.false in
     whole-const a.p.now a.n.0 s.requires.0.0 a.k s.requires.0.1 const l.low-2.ensures c.high.ensures e
 
--- the width is read, with the value written
 low-requires : tie.Need-low-requires
 low-requires c κs = search rules
 
@@ -51,7 +50,7 @@ high-requires c κs = search rules
 
 put-value-requires : tie.Need-put_value-i-requires
 unfolding display
-put-value-requires c κs = let h = c in room-front _ (room_as (const-is h refl) h.requires.1)
+put-value-requires c κs = let h = c in room-front _ (room_as (const-is h.before refl) h.requires.1)
 
 width-of-requires : tie.Need-width_of-requires
 width-of-requires c κs = search rules
@@ -61,7 +60,7 @@ unfolding display
 put-numbered-requires-2 c κs =
     let w = c in
     let h = c in
-    room-step w.put_value-i.ensures (room_as (const-is h w.width_of.ensures.0) h.requires.1)
+    room-step w.put_value-i.ensures (room_as (const-is h.before.before.before.before.before.before w.width_of.ensures.0) h.requires.1)
 
 same-length-2 : tie.Need-shape_of-buf
 same-length-2 c = search rules
@@ -71,7 +70,7 @@ unfolding display
 returns-2 c =
     let p = c in
     let w = c in
-    wrote_as (const-is w w.width_of.ensures.0) (wrote_then w.put_value-i.ensures p.put_numbered-2.ensures)
+    wrote_as (const-is w.before.before.before.before.before.before.before.before.before w.width_of.ensures.0) (wrote_then w.put_value-i.ensures p.put_numbered-2.ensures)
 
 pub put_leaf_spec : {M : Type 1} → statement M
 put_leaf_spec =
