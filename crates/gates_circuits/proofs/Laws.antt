@@ -1,21 +1,20 @@
 -- Words: what a step makes of them, what stays, words side by side and parts of words. Assumes nothing.
 use mathlib.Core.Path.{◌≡◌, refl, sym, ap, ◌∙◌, subst}
-use mathlib.Core.Bool.{Bool, true, false}
 use mathlib.Core.List.{List}
-use mathlib.Core.Logic.{◌⊎◌, inl, inr, ⊎_elim}
-use Prim.Native.Nat.{ℕ, zero, suc, ◌+◌, ◌-◌, ◌*◌, ◌/◌, ◌%◌, ◌^◌, ◌≤◌, ◌<◌}
+use mathlib.Core.Logic.{inl, inr, ⊎_elim}
+use Prim.Native.Nat.{ℕ, ◌+◌, ◌-◌, ◌*◌, ◌/◌, ◌%◌, ◌^◌, ◌≤◌, ◌<◌}
 use native.Mathlib.Nat.{lt_of_lt_of_le, add_assoc}
 use native.Mathlib.Omega.{arith}
 use lib.ListN.{length, get_or}
 use Rattle.facts.proofs.Numbers.{before-or-from}
 use Rattle.gates.specs.Graph.{truth}
-use Rattle.gates.specs.Grow.{Grown, Under}
+use Rattle.gates.specs.Grow.{Under}
 use Rattle.gates.proofs.Laws.{grown-same, grown-trans}
 use Rattle.gates_words.specs.Number.{sum, bit_at, number}
 use Rattle.gates_words.specs.Words.{Low, Reads, Operand, Puts, Run, Writes}
 use Rattle.gates_words.proofs.Sums.{sum_same, sum-parts, sum-high, sum_low, sum_lt}
 use Rattle.gates_words.proofs.Loops.{number-kept, low-kept}
-use Rattle.gates_circuits.specs.Makes.{From, Word, Makes, Two}
+use Rattle.gates_circuits.specs.Makes.{From, Word, Two}
 
 -- ---- steps
 

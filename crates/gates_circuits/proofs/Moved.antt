@@ -2,7 +2,7 @@
 use mathlib.Core.Path.{◌≡◌, refl, sym, ap, ◌∙◌, subst}
 use mathlib.Core.Bool.{Bool, true, false, cond}
 use Prim.Native.Nat.{ℕ, zero, suc, ◌+◌, ◌-◌, ◌*◌, ◌/◌, ◌%◌, ◌^◌, ◌≤◌, ◌<◌}
-use native.Mathlib.Nat.{mod-eq_of_lt, mul-add-mod_self_right, mul-mod_left, div-add-mod', add-mul, mul_assoc, mul_comm, mul_right_comm, mul-one, div-one}
+use native.Mathlib.Nat.{mod-eq_of_lt, mul-add-mod_self_right, mul-mod_left, div-add-mod', add-mul, mul_assoc, mul_right_comm, mul-one, div-one}
 use native.Mathlib.Nat.{div-eq_of_lt, div-le_self, lt_of_lt_of_le, mod-lt, add_comm, one-mul, suc-mul}
 use native.Mathlib.Omega.{arith}
 use lib.Dec.{eqb}

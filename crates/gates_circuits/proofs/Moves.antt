@@ -1,8 +1,8 @@
 -- A word moved by copies is above it. Assumes nothing.
-use mathlib.Core.Path.{◌≡◌, refl, sym, ap, ◌∙◌}
-use mathlib.Core.Bool.{Bool, true, false, cond}
+use mathlib.Core.Path.{◌≡◌, refl, ap, ◌∙◌}
+use mathlib.Core.Bool.{Bool, true, false}
 use mathlib.Core.List.{List}
-use Prim.Native.Nat.{ℕ, ◌+◌, ◌-◌, ◌*◌, ◌/◌, ◌%◌, ◌^◌, ◌≤◌, ◌<◌}
+use Prim.Native.Nat.{ℕ, ◌+◌, ◌-◌, ◌*◌, ◌%◌, ◌^◌, ◌≤◌}
 use native.Mathlib.Omega.{arith}
 use lib.ListN.{length, get_or}
 use Rattle.gates.specs.Graph.{truth}
@@ -14,7 +14,7 @@ use Rattle.gates.proofs.Laws.{grown-same}
 use Rattle.gates_words.specs.Bitwise.{ite_of}
 use Rattle.gates_words.proofs.Sums.{sum-not, sum-none}
 use Rattle.gates_circuits.specs.Makes.{From, Word, Makes}
-use Rattle.gates_circuits.specs.Shift.{moved, moved_if, filled_with, Keeps, Moves}
+use Rattle.gates_circuits.specs.Shift.{moved, moved_if, filled_with, Moves}
 use Rattle.gates_circuits.proofs.Laws
 use Rattle.gates_circuits.proofs.Moved.{left-parts, right-parts}
 

@@ -1,9 +1,9 @@
 -- Products: a row, rows one after the other, words in either order. Assumes nothing.
-use mathlib.Core.Path.{◌≡◌, refl, sym, ap, ◌∙◌, subst}
+use mathlib.Core.Path.{◌≡◌, sym, ap, ◌∙◌, subst}
 use mathlib.Core.Bool.{Bool, true, false}
 use mathlib.Core.List.{List}
-use Prim.Native.Nat.{ℕ, zero, suc, ◌+◌, ◌-◌, ◌*◌, ◌/◌, ◌%◌, ◌^◌, ◌≤◌, ◌<◌}
-use native.Mathlib.Nat.{add-mod-mod, mod-add-mod, mod-mod, mod-lt, mod-eq_of_lt, add-mul-div_right, add-mul-mod_self_right, mul-add, mul_comm, mul_assoc}
+use Prim.Native.Nat.{ℕ, ◌+◌, ◌-◌, ◌*◌, ◌/◌, ◌%◌, ◌^◌, ◌≤◌, ◌<◌}
+use native.Mathlib.Nat.{add-mod-mod, mod-add-mod, mod-mod, mod-eq_of_lt, add-mul-div_right, add-mul-mod_self_right, mul-add, mul_comm, mul_assoc}
 use native.Mathlib.Nat.{mul-suc, mul-le-mul_left, mul-zero, zero-add, add_assoc, one-mul, zero-mul}
 use native.Mathlib.Numerals.{add-one}
 use native.Mathlib.Omega.{arith}

@@ -1,6 +1,6 @@
 -- The three shifts of SMT-LIB, by a shifter's stages. Assumes nothing.
 use mathlib.Core.Path.{◌≡◌, refl, sym, ap, ◌∙◌}
-use mathlib.Core.Bool.{Bool, true, false, cond, true≢false}
+use mathlib.Core.Bool.{Bool, true, false, cond}
 use mathlib.Core.List.{List}
 use Prim.Native.Nat.{ℕ, ◌+◌, ◌-◌, ◌*◌, ◌/◌, ◌%◌, ◌^◌, ◌≤◌, ◌<◌}
 use native.Mathlib.Nat.{mod-eq_of_lt, div-le_self}
@@ -13,8 +13,8 @@ use Rattle.gates.specs.Graph.{truth}
 use Rattle.gates.specs.Grow.{Under}
 use Rattle.gates.proofs.Truth.{same_truth, false-truth}
 use Rattle.gates_words.specs.Number.{bit_at, number}
-use Rattle.gates_words.specs.Words.{Low, Puts}
-use Rattle.gates_words.proofs.Sums.{sum_lt, sum_top}
+use Rattle.gates_words.specs.Words.{Puts}
+use Rattle.gates_words.proofs.Sums.{sum_lt}
 use Rattle.gates_circuits.specs.Makes.{From, Word, Makes, Two}
 use Rattle.gates_circuits.specs.Shift.{moved, filled_with, Stages}
 use Rattle.gates_circuits.proofs.Laws

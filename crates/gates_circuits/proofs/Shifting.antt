@@ -1,8 +1,8 @@
 -- The stages of a shifter, and amounts as far as the width. Assumes nothing.
-use mathlib.Core.Path.{◌≡◌, refl, sym, ap, ◌∙◌}
-use mathlib.Core.Bool.{Bool, true, false, cond}
+use mathlib.Core.Path.{◌≡◌, sym, ap, ◌∙◌}
+use mathlib.Core.Bool.{Bool, cond}
 use mathlib.Core.List.{List}
-use Prim.Native.Nat.{ℕ, ◌+◌, ◌-◌, ◌*◌, ◌/◌, ◌%◌, ◌^◌, ◌≤◌, ◌<◌}
+use Prim.Native.Nat.{ℕ, ◌+◌, ◌*◌, ◌^◌, ◌≤◌, ◌<◌}
 use native.Mathlib.Nat.{mul-suc, mul-le-mul_left, pow-suc}
 use native.Mathlib.Omega.{arith}
 use native.Mathlib.Numerals.{add-one}
@@ -11,13 +11,11 @@ use lib.Dec.{eqb}
 use lib.Pow.{pow_mono}
 use Rattle.facts.proofs.Numbers.{before-or-from, below}
 use lib.ListN.{length, get_or}
-use Rattle.terms.specs.Value.{bit}
 use Rattle.gates.specs.Graph.{truth}
-use Rattle.gates.specs.Grow.{Grown, Builds, Under}
+use Rattle.gates.specs.Grow.{Builds, Under}
 use Rattle.gates.proofs.Truth.{same_truth, false-truth}
-use Rattle.gates.proofs.Laws.{grown-same}
 use Rattle.gates_words.specs.Number.{sum, bit_at, number}
-use Rattle.gates_words.specs.Words.{Low, Reads, Puts, Writes}
+use Rattle.gates_words.specs.Words.{Low, Puts, Writes}
 use Rattle.gates_words.specs.Bitwise.{ite_of}
 use Rattle.gates_words.proofs.Sums.{sum-next, sum_lt}
 use Rattle.gates_circuits.specs.Makes.{From, Word, Makes}

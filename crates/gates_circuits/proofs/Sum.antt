@@ -2,19 +2,18 @@
 use mathlib.Core.Path.{◌≡◌, refl, sym, ap, ◌∙◌}
 use mathlib.Core.Bool.{Bool, true, false}
 use mathlib.Core.List.{List}
-use Prim.Native.Nat.{ℕ, ◌+◌, ◌-◌, ◌*◌, ◌/◌, ◌%◌, ◌^◌, ◌≤◌, ◌<◌}
+use Prim.Native.Nat.{ℕ, ◌+◌, ◌-◌, ◌*◌, ◌%◌, ◌^◌, ◌≤◌, ◌<◌}
 use native.Mathlib.Nat.{mod-eq_of_lt, add-mul-mod_self_right, add-mod-mod}
 use native.Mathlib.Omega.{arith}
-use lib.ListN.{length, get_or}
-use lib.Bits.{bit_xor, bit_and, xor_add_and, and_mask}
+use lib.ListN.{length}
+use lib.Bits.{bit_xor, xor_add_and, and_mask}
 use lib.Pow.{pow_pos}
 use Rattle.terms.specs.Value.{bit, bvadd, bvsub, bvneg}
 use Rattle.gates.specs.Graph.{truth}
-use Rattle.gates.specs.Grow.{Grown, Under}
 use Rattle.gates.proofs.Truth.{false-truth, true-truth}
 use Rattle.gates_build.specs.declared.Made.{Made}
-use Rattle.gates_words.specs.Number.{sum, bit_at, number}
-use Rattle.gates_words.specs.Words.{Low, Operand, Puts, Run, Writes}
+use Rattle.gates_words.specs.Number.{bit_at, number}
+use Rattle.gates_words.specs.Words.{Puts, Writes}
 use Rattle.gates_words.specs.Adds.{Adds}
 use Rattle.gates_words.proofs.Sums.{sum_lt, sum-not, sum-none, sum_same}
 use Rattle.gates_circuits.specs.Makes.{From, Word, Makes, Two}

@@ -1,5 +1,5 @@
 -- What a circuit of words says: what stays, and the word that it makes.
-use Rattle.std.specs.Prelude.{Bool, true, false, List, ◌≡◌, ℕ, zero, suc, ◌+◌, ◌-◌, ◌*◌, ◌/◌, ◌%◌, ◌^◌, ◌≤◌, ◌<◌, length, get_or}
+use Rattle.std.specs.Prelude.{List, ◌≡◌, ℕ, ◌+◌, ◌≤◌, ◌<◌, length, get_or}
 use Rattle.gates.specs.Grow.{Grown}
 use Rattle.gates_words.specs.Number.{number}
 use Rattle.gates_words.specs.Words.{Low}

@@ -1,7 +1,6 @@
 -- `shift_left` is bvshl.
 use Rattle.gates.specs.Graph.{truth}
-use Rattle.gates_words.specs.Number.{bit_at, number}
-use Rattle.gates_words.proofs.Sums.{sum_lt, sum_top}
+use Rattle.gates_words.specs.Number.{number}
 use Rattle.gates_circuits.proofs.Shifted.{makes-by, left_is}
 use borrow.Author.Rules.{rules}
 use Rattle.gates_circuits.proofs.shifts.shift_left.Statement.{statement}

@@ -1,7 +1,7 @@
 -- `shift_right` is bvlshr.
 use Rattle.gates.specs.Graph.{truth}
 use Rattle.gates_words.specs.Number.{bit_at, number}
-use Rattle.gates_words.proofs.Sums.{sum_lt, sum_top}
+use Rattle.gates_words.proofs.Sums.{sum_lt}
 use Rattle.gates.proofs.Truth.{false-truth}
 use Rattle.gates_circuits.proofs.Shifted.{makes-by, right_is}
 use borrow.Author.Rules.{rules}
