@@ -1,9 +1,9 @@
 -- most_m is most_m: both of its choices are the definition's
 use borrow.Author.Rules.{rules}
-use mathlib.Core.Logic.{⊎_elim}
 use mathlib.Core.Path.{refl}
 use Rattle.block_record_check.proofs.most_m.Statement.{statement}
 use Rattle.block_record_check.proofs.most_m.Tie as tie
+use Rattle.block_record_check.proofs.most_m.Lts.{then-short, else-short}
 
 by-element-requires : tie.Need-by_element-requires
 by-element-requires c σs = search rules
@@ -13,11 +13,9 @@ has-second-requires c σs = search rules
 
 returns : tie.Need-returns-then-has_second
 returns c = λ o v h e b.
-    let asked = c in
-    let chosen = c in
-    let element = chosen.by_element.ensures o v h e in
-    rw (← asked.has_second.ensures o v h e, c.if-has_second.true, ← element, ← b)
-    (⊎_elim (λ w. rw w.0.taken w.1) (λ w. rw w.0.left w.1) chosen.if-short.branch)
+    let element = c.by_element.ensures o v h e in
+    rw (← c.has_second.ensures o v h e, c.if-has_second.true, ← element, ← b)
+    (elim c.if-short.branch [ then-short w ↦ rw (w.if-short.true, w.last-is) | else-short w ↦ rw (w.if-short.false, w.last-is) ])
 
 returns-2 : tie.Need-returns-else-has_second
 returns-2 c = λ o v h e b. rw (← c.has_second.ensures o v h e, c.if-has_second.false) refl
