@@ -12,13 +12,12 @@ use Rattle.text_write.proofs.+write_condition_write_term.Proof.Writers.{μ-write
 use Rattle.text_write.proofs.+write_condition_write_term.Proof.Conditions as condition
 use Rattle.text_write.proofs.+write_condition_write_term.Proof.Terms as term
 
-pub +write-condition-write-term-spec : {M : Type 1} → statement M
-+write-condition-write-term-spec =
+pub +write_condition_write_term_spec : {M : Type 1} → statement M
++write_condition_write_term_spec =
     close μ-write-condition μ-write-term
     (λ t.
     write-condition-lts.spec (write-condition-claims t) (write-condition-at t) write-condition.Post
     (condition.slice-aggregate-put t)
-    (condition.slice-aggregate-put-2 t)
     (condition.put-requires t)
     (condition.first-requires t)
     (condition.write-term-requires t)
@@ -27,8 +26,7 @@ pub +write-condition-write-term-spec : {M : Type 1} → statement M
     (condition.put-between-requires t)
     (condition.second-requires t)
     (condition.write-term-requires-2 t)
-    (condition.slice-aggregate-put-3 t)
-    (condition.slice-aggregate-put-4 t)
+    (condition.slice-aggregate-put-2 t)
     (condition.put-requires-2 t)
     (condition.returns t))
     λ t.
@@ -42,7 +40,6 @@ pub +write-condition-write-term-spec : {M : Type 1} → statement M
     (term.first-requires t)
     (term.write-condition-requires t)
     (term.slice-aggregate-put t)
-    (term.slice-aggregate-put-2 t)
     (term.put-requires t)
     (term.left-requires t)
     (term.write-term-requires t)
@@ -56,7 +53,6 @@ pub +write-condition-write-term-spec : {M : Type 1} → statement M
     (term.put-between-requires t)
     (term.right-requires t)
     (term.write-term-requires-2 t)
-    (term.slice-aggregate-put-3 t)
-    (term.slice-aggregate-put-4 t)
+    (term.slice-aggregate-put-2 t)
     (term.put-requires-2 t)
     (term.returns-4 t)

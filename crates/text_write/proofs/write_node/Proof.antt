@@ -1,10 +1,10 @@
 -- `text_write::write_node` meets its contract: the buffer comes back with the text of either writer.
 use mathlib.Core.Path.{◌∙◌}
-use mathlib.Core.Logic.{⊎_elim}
 use Rattle.text_write.proofs.Behind.{behind-whole}
 use borrow.Author.Rules.{rules}
 use Rattle.text_write.proofs.write_node.Statement.{statement}
 use Rattle.text_write.proofs.write_node.Tie as tie
+use Rattle.text_write.proofs.write_node.Lts.{then-width_of-eq0, else-width_of-eq0}
 
 width-of-requires : tie.Need-width_of-requires
 width-of-requires c κs = search rules
@@ -17,10 +17,10 @@ write-term-requires c κs = search rules
 
 returns : tie.Need-returns
 returns c =
-    ⊎_elim
-    (λ w. (w.5 ∙ behind-whole w.3.ensures, w.4 ∙ w.3.ensures.wrote.next_is))
-    (λ w. (w.5 ∙ behind-whole w.3.ensures, w.4 ∙ w.3.ensures.wrote.next_is))
-    c.if-width_of-eq0.branch
+    elim c.if-width_of-eq0.branch [
+      | then-width_of-eq0 w ↦ (w.b-is ∙ behind-whole w.write_condition.ensures, w.end-is ∙ w.write_condition.ensures.wrote.next_is)
+      | else-width_of-eq0 w ↦ (w.b-is ∙ behind-whole w.write_term.ensures, w.end-is ∙ w.write_term.ensures.wrote.next_is)
+    ]
 
 pub write_node_spec : {M : Type 1} → statement M
 write_node_spec =

@@ -32,133 +32,109 @@ module _ (t : ℕ) where
   Start = write-condition-lts.Start (write-condition-claims t) (write-condition-at t) write-condition.Post
 
   abbrev Opened : Type 0
-  Opened = write-condition-lts.After-put (write-condition-claims t) (write-condition-at t) write-condition.Post
+  Opened = write-condition-lts.After-put-i (write-condition-claims t) (write-condition-at t) write-condition.Post
 
-  abbrev start : Opened → Start
-  start c = c.before.before.before
+  pair : (s : Start) → Pair (kind_number s.args.p.now.now s.args.n.0)
+  pair s = a-compare s.args.p.now.now s.args.n.0 s.requires.1.0.0 _ refl s.requires.1.0.1
 
-  abbrev pool : Start → List ℕ
-  pool s = s.args.p.now.now
+  whole : (s : Start) → text s.args.p.now.now s.args.n.0 ≡ bytes "(" ++ (text s.args.p.now.now (op_a s.args.p.now.now s.args.n.0) ++ after-left s.args.p.now.now s.args.n.0)
+  whole s = whole-compare s.args.p.now.now s.args.n.0 s.requires.1.0.0 _ refl s.requires.1.0.1
 
-  abbrev node : Start → ℕ
-  node s = s.args.n.0
-
-  pair : (s : Start) → Pair (kind_number (pool s) (node s))
-  pair s = a-compare (pool s) (node s) s.requires.1.0.0 _ refl s.requires.1.0.1
-
-  whole : (s : Start) → text (pool s) (node s) ≡ bytes "(" ++ (text (pool s) (op_a (pool s) (node s)) ++ after-left (pool s) (node s))
-  whole s = whole-compare (pool s) (node s) s.requires.1.0.0 _ refl s.requires.1.0.1
-
-  opened-room : (c : Opened) → let s = start c in
-      Room c.put.new.buf c.put.result (text (pool s) (op_a (pool s) (node s)) ++ after-left (pool s) (node s))
-  opened-room c = room-step c.put.ensures (room_as (whole (start c)) (start c).requires.1.1)
+  opened-room : (c : Opened) → let s = c in
+      Room c.put-i.new.buf c.put-i.result (text s.args.p.now.now (op_a s.args.p.now.now s.args.n.0) ++ after-left s.args.p.now.now s.args.n.0)
+  opened-room c = room-step c.put-i.ensures (room_as (whole c.before.before.before.before) c.requires.1.1)
 
   -- the left operand is written
   abbrev Lefted : Type 0
-  Lefted = write-condition-lts.After-write-term (write-condition-claims t) (write-condition-at t) write-condition.Post
+  Lefted = write-condition-lts.After-write_term-j (write-condition-claims t) (write-condition-at t) write-condition.Post
 
-  abbrev opened : Lefted → Opened
-  opened c = c.before.before.before.before
+  left-wrote : (c : Lefted) → let o = c in
+      let s = c in
+      WroteBehind (at_last s.args.buf.now o.put-i.new.buf) o.put-i.result (text s.args.p.now.now (op_a s.args.p.now.now s.args.n.0)) c.write_term-j.result c.write_term-j.new.buf
+  left-wrote c = rw c.first.ensures at c.write_term-j.ensures
 
-  left-wrote : (c : Lefted) → let o = opened c in
-      let s = start o in
-      WroteBehind (at_last s.args.buf.now o.put.last.1.0) o.put.result (text (pool s) (op_a (pool s) (node s))) c.write-term.result c.write-term.new.1.1.0
-  left-wrote c = rw c.before.before.first.ensures at c.write-term.ensures
-
-  left-room : (c : Lefted) → let s = start (opened c) in Room c.write-term.new.1.1.0.now c.write-term.result (after-left (pool s) (node s))
-  left-room c = room-step (left-wrote c).wrote (opened-room (opened c))
+  left-room : (c : Lefted) → let s = c in Room c.write_term-j.new.buf.now c.write_term-j.result (after-left s.args.p.now.now s.args.n.0)
+  left-room c = room-step (left-wrote c).wrote (opened-room c.before.before.before.before)
 
   -- the operator is written
   abbrev Signed : Type 0
-  Signed = write-condition-lts.After-put-between (write-condition-claims t) (write-condition-at t) write-condition.Post
+  Signed = write-condition-lts.After-put_between-l (write-condition-claims t) (write-condition-at t) write-condition.Post
 
-  abbrev lefted : Signed → Lefted
-  lefted c = c.before.before.before.before
+  sign-wrote : (c : Signed) → let l = c in
+      let s = c in
+      Wrote l.write_term-j.new.buf.now l.write_term-j.result (between_text (kind_number s.args.p.now.now s.args.n.0)) c.put_between-l.result c.put_between-l.new.buf
+  sign-wrote c = rw c.kind_of.ensures at c.put_between-l.ensures
 
-  sign-wrote : (c : Signed) → let l = lefted c in
-      let s = start (opened l) in
-      Wrote l.write-term.last.1.1.0.now l.write-term.result (between_text (kind_number (pool s) (node s))) c.put-between.result c.put-between.new.1.0
-  sign-wrote c = rw c.before.before.kind-of.ensures at c.put-between.ensures
-
-  sign-room : (c : Signed) → let s = start (opened (lefted c)) in Room c.put-between.new.1.0 c.put-between.result (after-right (pool s) (node s))
-  sign-room c = room-step (sign-wrote c) (left-room (lefted c))
+  sign-room : (c : Signed) → let s = c in Room c.put_between-l.new.buf c.put_between-l.result (after-right s.args.p.now.now s.args.n.0)
+  sign-room c = room-step (sign-wrote c) (left-room c.before.before.before.before)
 
   -- the right operand is written
   abbrev Righted : Type 0
-  Righted = write-condition-lts.After-write-term2 (write-condition-claims t) (write-condition-at t) write-condition.Post
+  Righted = write-condition-lts.After-write_term-m (write-condition-claims t) (write-condition-at t) write-condition.Post
 
-  abbrev signed : Righted → Signed
-  signed c = c.before.before.before.before
+  right-wrote : (c : Righted) → let g = c in
+      let l = c in
+      let s = c in
+      WroteBehind (at_last l.write_term-j.new.buf g.put_between-l.new.buf) g.put_between-l.result (text s.args.p.now.now (op_b s.args.p.now.now s.args.n.0)) c.write_term-m.result
+      c.write_term-m.new.buf
+  right-wrote c = rw c.second.ensures at c.write_term-m.ensures
 
-  right-wrote : (c : Righted) → let g = signed c in
-      let l = lefted g in
-      let s = start (opened l) in
-      WroteBehind (at_last l.write-term.last.1.1.0 g.put-between.last.1.0) g.put-between.result (text (pool s) (op_b (pool s) (node s))) c.write-term2.result
-      c.write-term2.new.1.1.0
-  right-wrote c = rw c.before.before.second.ensures at c.write-term2.ensures
-
-  right-room : (c : Righted) → Room c.write-term2.new.1.1.0.now c.write-term2.result (bytes ")")
-  right-room c = room-step (right-wrote c).wrote (sign-room (signed c))
+  right-room : (c : Righted) → Room c.write_term-m.new.buf.now c.write_term-m.result (bytes ")")
+  right-room c = room-step (right-wrote c).wrote (sign-room c.before.before.before.before)
 
   -- ---- the needs
 
-  pub slice-aggregate-put : write-condition-lts.Need-slice-aggregate-put (write-condition-claims t) (write-condition-at t) write-condition.Post
+  pub slice-aggregate-put : write-condition-lts.Need-slice_bounds-put-end-2 (write-condition-claims t) (write-condition-at t) write-condition.Post
   slice-aggregate-put c = refl
 
-  pub slice-aggregate-put-2 : write-condition-lts.Need-slice-aggregate-put-2 (write-condition-claims t) (write-condition-at t) write-condition.Post
-  slice-aggregate-put-2 c = refl
-
-  pub put-requires : write-condition-lts.Need-put-requires (write-condition-claims t) (write-condition-at t) write-condition.Post
-  put-requires c κs = let s = c.before.before in room-front _ (room_as (whole s) s.requires.1.1)
+  pub put-requires : write-condition-lts.Need-put-i-requires (write-condition-claims t) (write-condition-at t) write-condition.Post
+  put-requires c κs = let s = c in room-front _ (room_as (whole s.before.before.before) s.requires.1.1)
 
   pub first-requires : write-condition-lts.Need-first-requires (write-condition-claims t) (write-condition-at t) write-condition.Post
-  first-requires c κs = (start c.before).pre.1.0.0.inside
+  first-requires c κs = c.requires.1.0.0.inside
 
-  pub write-term-requires : write-condition-lts.Need-write-term-requires (write-condition-claims t) (write-condition-at t) write-condition.Post
+  pub write-term-requires : write-condition-lts.Need-write_term-j-requires (write-condition-claims t) (write-condition-at t) write-condition.Post
   write-term-requires c κs =
-      let f = c.before in
-      let o = f.before.before in
-      let s = start o in
-      let d = pair-a (pool s) (node s) s.pre.1.0.0 _ refl (pair s) in
-      rw f.first.ensures (omega (arith, s.pre.0, d.before), ((d.ready, d.wide), room-front _ (opened-room o)))
+      let f = c in
+      let o = c in
+      let s = c in
+      let d = pair-a s.args.p.now.now s.args.n.0 s.requires.1.0.0 _ refl (pair s.before.before.before.before.before.before.before) in
+      rw f.first.ensures (omega (arith, s.requires.0, d.before), ((d.ready, d.wide), room-front _ (opened-room c.before.before.before)))
 
-  pub kind-of-requires : write-condition-lts.Need-kind-of-requires (write-condition-claims t) (write-condition-at t) write-condition.Post
-  kind-of-requires c κs = (start (opened c.before)).pre.1.0.0.inside
+  pub kind-of-requires : write-condition-lts.Need-kind_of-requires (write-condition-claims t) (write-condition-at t) write-condition.Post
+  kind-of-requires c κs = c.requires.1.0.0.inside
 
-  pub slice-aggregate-put-between : write-condition-lts.Need-slice-aggregate-put-between (write-condition-claims t) (write-condition-at t) write-condition.Post
+  pub slice-aggregate-put-between : write-condition-lts.Need-slice_bounds-put_between-end (write-condition-claims t) (write-condition-at t) write-condition.Post
   slice-aggregate-put-between c = refl
 
-  pub put-between-requires : write-condition-lts.Need-put-between-requires (write-condition-claims t) (write-condition-at t) write-condition.Post
+  pub put-between-requires : write-condition-lts.Need-put_between-l-requires (write-condition-claims t) (write-condition-at t) write-condition.Post
   put-between-requires c κs =
-      let k = c.before in
-      let l = k.before.before in
-      rw k.kind-of.ensures (pair-joined (pair (start (opened l))), room-front _ (left-room l))
+      let k = c in
+      let l = c in
+      rw k.kind_of.ensures (pair-joined (pair l.before.before.before.before.before.before.before.before.before.before.before), room-front _ (left-room l.before.before.before))
 
   pub second-requires : write-condition-lts.Need-second-requires (write-condition-claims t) (write-condition-at t) write-condition.Post
-  second-requires c κs = (start (opened (lefted c.before))).pre.1.0.0.inside
+  second-requires c κs = c.requires.1.0.0.inside
 
-  pub write-term-requires-2 : write-condition-lts.Need-write-term-requires-2 (write-condition-claims t) (write-condition-at t) write-condition.Post
+  pub write-term-requires-2 : write-condition-lts.Need-write_term-m-requires (write-condition-claims t) (write-condition-at t) write-condition.Post
   write-term-requires-2 c κs =
-      let r = c.before in
-      let g = r.before.before in
-      let s = start (opened (lefted g)) in
-      let d = pair-b (pool s) (node s) s.pre.1.0.0 _ refl (pair s) in
-      rw r.second.ensures (omega (arith, s.pre.0, d.before), ((d.ready, d.wide), room-front _ (sign-room g)))
+      let r = c in
+      let g = c in
+      let s = c in
+      let d = pair-b s.args.p.now.now s.args.n.0 s.requires.1.0.0 _ refl (pair s.before.before.before.before.before.before.before.before.before.before.before.before.before.before.before) in
+      rw r.second.ensures (omega (arith, s.requires.0, d.before), ((d.ready, d.wide), room-front _ (sign-room g.before.before.before)))
 
-  pub slice-aggregate-put-3 : write-condition-lts.Need-slice-aggregate-put-3 (write-condition-claims t) (write-condition-at t) write-condition.Post
-  slice-aggregate-put-3 c = refl
+  pub slice-aggregate-put-2 : write-condition-lts.Need-slice_bounds-put-end-4 (write-condition-claims t) (write-condition-at t) write-condition.Post
+  slice-aggregate-put-2 c = refl
 
-  pub slice-aggregate-put-4 : write-condition-lts.Need-slice-aggregate-put-4 (write-condition-claims t) (write-condition-at t) write-condition.Post
-  slice-aggregate-put-4 c = refl
-
-  pub put-requires-2 : write-condition-lts.Need-put-requires-2 (write-condition-claims t) (write-condition-at t) write-condition.Post
-  put-requires-2 c κs = right-room c.before.before
+  pub put-requires-2 : write-condition-lts.Need-put-requires (write-condition-claims t) (write-condition-at t) write-condition.Post
+  put-requires-2 c κs = right-room c.before.before.before
 
   pub returns : write-condition-lts.Need-returns (write-condition-claims t) (write-condition-at t) write-condition.Post
   returns c =
-      let r = c.before.before.before in
-      let g = signed r in
-      let l = lefted g in
-      let o = opened l in
-      behind-as (whole (start o))
-      (behind-then _ o.put.ensures (behind_more (left-wrote l) (behind-then _ (sign-wrote g) (behind_more (right-wrote r) (behind-one _ c.put2.ensures)))))
+      let r = c in
+      let g = c in
+      let l = c in
+      let o = c in
+      behind-as (whole o.before.before.before.before.before.before.before.before.before.before.before.before.before.before.before.before.before.before.before.before)
+      (behind-then _ o.put-i.ensures (behind_more (left-wrote l.before.before.before.before.before.before.before.before.before.before.before.before) (behind-then _ (sign-wrote g.before.before.before.before.before.before.before.before) (behind_more (right-wrote r.before.before.before.before) (behind-one _ c.put.ensures)))))
