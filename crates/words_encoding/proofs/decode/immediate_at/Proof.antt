@@ -41,10 +41,9 @@ returns-4 : tie.Need-returns-in_default
 returns-4 c =
     let element = c in
     let a = element.args in
-    let t = element.match.rest in
     λ o v h e.
     let r = (parts a.code o v h e).row in
-    at-element (form o).immediate a.bits a.w c.element_at.result c.element_at.ensures (omega (arith, r, t)) (omega (arith, r, t)) (omega (arith, r, t))
+    at-element (form o).immediate a.bits a.w c.element_at.result c.element_at.ensures (omega (arith, r)) (omega (arith, r)) (omega (arith, r))
 
 pub immediate_at_spec : {M : Type 1} → statement M
 immediate_at_spec =

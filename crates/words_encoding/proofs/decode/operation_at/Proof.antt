@@ -66,8 +66,8 @@ returns c =
     let w = c.args.w in
     let a = c.class_at-class in
     let k = c.key-at in
-    let at : ℕ = get_or table (8 * a.result-1 + k.result-1 / 8) 0 / 2 ^ (8 * (k.result-1 % 8)) % 256 in
-    let e : at ≡ operation_at w = found w a.result-1 k.result-1 a.ensures.0 a.ensures.1 k.ensures.0 k.ensures.1 in
+    let at : ℕ = get_or table (8 * a.result + k.result / 8) 0 / 2 ^ (8 * (k.result % 8)) % 256 in
+    let e : at ≡ operation_at w = found w a.result k.result a.ensures.0 a.ensures.1 k.ensures.0 k.ensures.1 in
     (e, subst (λ (x : ℕ). x ≤ 67) (sym e) (at-le w))
 
 pub operation_at_spec : {M : Type 1} → statement M

@@ -56,11 +56,10 @@ returns-4 : tie.Need-returns-in_default
 returns-4 c =
     let element = c in
     let a = element.args in
-    let t = c.element_part in
-    let z = element.match.rest in (
+    let t = c.element_part in (
       λ o v h e.
           let r = (parts a.code o v h e).row in
-          row-element (form o).immediate a.bits a.size a.i a.m t.result t.ensures.0 (omega (arith, r, z)) (omega (arith, r, z)) (omega (arith, r, z)),
+          row-element (form o).immediate a.bits a.size a.i a.m t.result t.ensures.0 (omega (arith, r)) (omega (arith, r)) (omega (arith, r)),
       omega (arith, element.requires, t.ensures.1),
     )
 
