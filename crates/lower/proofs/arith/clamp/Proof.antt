@@ -63,31 +63,21 @@ same_length c = search rules
 
 returns : tie.Need-returns-in-Signed
 returns c =
-    let l-clamp-between = c in
-    let l-power = c in
-    let l-minus-power = c in
-    let l-enum-told = c in
-    clamp-signed l-enum-told.enum_told-1.given.1 l-power.power.ensures l-minus-power.minus_power-low.ensures refl l-clamp-between.clamp_between.ensures
+    clamp-signed c.in-Signed.is c.power.ensures c.minus_power-low.ensures refl c.clamp_between.ensures
 
 same-length-2 : tie.Need-shape_of-pool-in-Unsigned
 same-length-2 c = search rules
 
 returns-2 : tie.Need-returns-in-Unsigned
 returns-2 c =
-    let l-clamp-below = c in
-    let l-unsigned-max = c in
-    let l-enum-told2 = c in
-    clamp-unsigned l-enum-told2.enum_told-in-Unsigned-1.given.1 l-unsigned-max.unsigned_max.ensures l-clamp-below.clamp_below.ensures
+    clamp-unsigned c.in-Unsigned.is c.unsigned_max.ensures c.clamp_below.ensures
 
 same-length-3 : tie.Need-shape_of-pool-in-SignedToUnsigned
 same-length-3 c = search rules
 
 returns-3 : tie.Need-returns-in-SignedToUnsigned
 returns-3 c =
-    let l-clamp-between2 = c in
-    let l-unsigned-max2 = c in
-    let l-enum-told3 = c in
-    clamp-to-unsigned l-enum-told3.enum_told-in-SignedToUnsigned-1.given.1 l-unsigned-max2.unsigned_max-in-SignedToUnsigned.ensures refl l-clamp-between2.clamp_between-in-SignedToUnsigned.ensures
+    clamp-to-unsigned c.in-SignedToUnsigned.is c.unsigned_max-in-SignedToUnsigned.ensures refl c.clamp_between-in-SignedToUnsigned.ensures
 
 pub clamp_spec : {M : Type 1} → statement M
 clamp_spec =
