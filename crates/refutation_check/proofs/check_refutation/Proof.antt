@@ -34,7 +34,7 @@ returns c =
     (sym c.graph_check.ensures ∙ not-true _ c.if-not-graph_check.true-raw)
 
 add-variables : tie.Need-overflow_add-variables
-add-variables c = omega (arith, fits c, c.well-formed)
+add-variables c = omega (arith, fits c, c.well_formed)
 
 returns-2 : tie.Need-returns-then-variables-literal
 returns-2 c =
@@ -42,7 +42,7 @@ returns-2 c =
     bad-literal a.graph.now a.count a.l.0 a.words.now (length a.marks.now) (length a.starts.now) (good c.before) c.if-variables-literal.true
 
 mul-limit : tie.Need-overflow_mul-limit
-mul-limit c = omega (arith, fits c.before, c.well-formed)
+mul-limit c = omega (arith, fits c.before, c.well_formed)
 
 returns-3 : tie.Need-returns-then-marks-limit
 returns-3 c =

@@ -18,7 +18,7 @@ loop-holds : tie.Need-loop-i-init invariant-loop-i decreases-loop-i
 loop-holds c = (omega arith, refl, λ x h. absurd (not-suc-le-zero h))
 
 mul-marks : tie.Need-offset_bounds-marks-i invariant-loop-i decreases-loop-i
-mul-marks c = omega (arith, c.well-formed)
+mul-marks c = omega (arith, c.well_formed)
 
 slice-write-marks : tie.Need-bounds-marks-i invariant-loop-i decreases-loop-i
 slice-write-marks c = omega arith

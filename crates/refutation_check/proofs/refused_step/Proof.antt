@@ -25,7 +25,7 @@ ok_at c =
     let l = c.loop-count in step_ok a.graph.now a.count (clauses_to a.words.now l.starts a.l l.k) (drop l.at a.words.now)
 
 abbrev marks_now : tie.After-step-next invariant-loop-count decreases-loop-count → List ℕ
-marks_now c = c.step-next.new.1.1.1.1.1.1.1.0
+marks_now c = c.step-next.new.marks
 
 -- the step is accepted, and the next one's place
 accepted :
@@ -40,7 +40,7 @@ accepted c =
 
 long :
     (c : tie.After-step-next invariant-loop-count decreases-loop-count) → length (marks_now c) ≡ length c.args.marks.now
-long c = c.step-next.auto.1.1.1.1.1.1.1.0 ∙ c.loop-count.invariant.0.ready.room ∙ sym c.requires.2
+long c = c.step-next.auto.marks ∙ c.loop-count.invariant.0.ready.room ∙ sym c.requires.2
 
 -- the step's place is in the words, and it has a place of its own
 within :
@@ -61,7 +61,7 @@ loop-holds c =
     let s = c in
     let a = s.args in
     let p = s.requires in (
-      going-first a.graph.now a.count a.l a.words.now a.starts.now f.clear.new.0 p.0 p.1 (f.clear.auto.0 ∙ p.2) p.3
+      going-first a.graph.now a.count a.l a.words.now a.starts.now f.clear.new.marks p.0 p.1 (f.clear.auto.marks ∙ p.2) p.3
           f.clear.ensures,
       refl,
     )
@@ -84,7 +84,7 @@ returns c =
     going-refused t.loop-count.invariant.0 (skip-none (ok_at c.before.before.before.before.before) (h + get_or ws h 0) s.step-next.result s.step-next.ensures.0 c.if-next-eq0.true)
 
 mul-if2 : tie.Need-offset_bounds-words-at invariant-loop-count decreases-loop-count
-mul-if2 c = let s = c in omega (arith, within c, s.good)
+mul-if2 c = let s = c in omega (arith, within c, s.well_formed)
 
 shared-slice-read-if2 : tie.Need-bounds-words-at invariant-loop-count decreases-loop-count
 shared-slice-read-if2 c = omega (arith, within c.before)
@@ -99,19 +99,19 @@ returns-2 : tie.Need-returns-then-words-at-eq0 invariant-loop-count decreases-lo
 returns-2 c =
     let z = c in
     let t = c in
-    going_done t.loop-count.invariant.0 (accepted z).0 c.if-words-at-eq0.true
+    going_done t.loop-count.invariant.0 (accepted z.before.before).0 c.if-words-at-eq0.true
 
 mul-starts : tie.Need-offset_bounds-starts-k invariant-loop-count decreases-loop-count
-mul-starts c = let s = c in omega (arith, within c.before.before, s.good)
+mul-starts c = let s = c in omega (arith, within c.before.before, s.well_formed)
 
 slice-write-starts : tie.Need-bounds-starts-k invariant-loop-count decreases-loop-count
 slice-write-starts c = (within c.before.before).2
 
 add-k : tie.Need-overflow_add-k invariant-loop-count decreases-loop-count
-add-k c = let s = c in omega (arith, within c.before.before, s.good)
+add-k c = let s = c in omega (arith, within c.before.before, s.well_formed)
 
 loop-less : tie.Need-loop-count-smaller invariant-loop-count decreases-loop-count
-loop-less c = let z = c in omega (arith, within z, (accepted z).1)
+loop-less c = let z = c in omega (arith, within z.before.before, (accepted z.before.before).1)
 
 loop-again : tie.Need-loop-count-preserved invariant-loop-count decreases-loop-count
 loop-again c =
@@ -119,8 +119,8 @@ loop-again c =
     let s = c in
     let t = c in
     let l = t.loop-count in
-    let p = accepted z in (
-      rw p.1 (going_on l.invariant.0 p.0 (marks_now c.before.before.before.before.before) c.if-words-at-eq0.false s.step-next.auto.1.1.1.1.1.1.1.0 s.step-next.ensures.1),
+    let p = accepted z.before.before in (
+      rw p.1 (going_on l.invariant.0 p.0 (marks_now c.before.before.before.before.before) c.if-words-at-eq0.false s.step-next.auto.marks s.step-next.ensures.1),
       length-set l.starts l.k l.at ∙ l.invariant.1,
     )
 

@@ -59,10 +59,10 @@ ends c =
 
 -- past the marks
 abbrev marks_now : tie.Else-not-set_false → List ℕ
-marks_now c = c.set_false.new.1.1.1.1.0
+marks_now c = c.set_false.new.marks
 
 same-marks : (c : tie.Else-not-set_false) → length (marks_now c) ≡ length c.args.marks.now
-same-marks c = c.set_false.auto.1.1.1.1.0
+same-marks c = c.set_false.auto.marks
 
 some-mark : (c : tie.Else-not-set_false) → 0 < length (marks_now c)
 some-mark c = omega (arith, same-marks c, c.requires.0.room)
@@ -88,21 +88,21 @@ step_is c =
     let at = h.skip-hints.result in
     let end = b.skip-end.result in
     let clause = slice (a.at + 1) at ws in
-    let f = clause-there b.before.before in
-    let t = hints-there b in
+    let f = clause-there b.before.before.before.before.before.before.before.before.before in
+    let t = hints-there b.before.before.before.before.before.before.before in
     let m = z.set_false.ensures.marks_are (not-false _ z.if-not-set_false.false-raw) in
     c.conflict.ensures.0
     ∙ ap (λ (x : ℕ → Bool). refutation.conflict a.graph.now a.count (steps_in c.before.before.before.before.before.before.before.before.before.before.before.before.before.before.before) x (slice (at + 1) end ws))
     (marked_more (marks_now c.before.before) 0 a.k (some-mark c.before.before)
     ∙ ap (λ (x : ℕ → Bool). and_false x 0) (marked-clause a.marks.now (marks_now c.before.before) a.k clause s.requires.1 m))
-    ∙ sym (low a.graph.now a.count (steps_in c.before.before.before.before.before.before.before.before.before.before.before.before.before.before.before) ws a.at at end f.1 t.1 f.0 t.0 (all-below z))
+    ∙ sym (low a.graph.now a.count (steps_in c.before.before.before.before.before.before.before.before.before.before.before.before.before.before.before) ws a.at at end f.1 t.1 f.0 t.0 (all-below z.before.before))
 
 after-conflict :
     (c : tie.After-conflict)
-    → length c.conflict.new.1.1.1.1.1.1.1.1.0 ≡ length c.args.marks.now
+    → length c.conflict.new.marks ≡ length c.args.marks.now
 after-conflict c =
     let z = c in
-    c.conflict.auto.1.1.1.1.1.1.1.1.0 ∙ length-set (marks_now c.before.before) 0 z.args.k ∙ same-marks c.before.before
+    c.conflict.auto.marks ∙ length-set (marks_now c.before.before) 0 z.args.k ∙ same-marks c.before.before
 
 skip-requires : tie.Need-skip-hints-requires
 skip-requires c κs = search rules
@@ -127,7 +127,7 @@ returns-2 c =
     let a = s.args in
     let ws = words_in c.before.before.before.before.before.before.before.before in
     let at = h.skip-hints.result in
-    let f = clause-there e in
+    let f = clause-there e.before.before in
     let no = skip-none (whole (drop at ws)) (at + get_or ws at 0) c.skip-end.result c.skip-end.ensures c.if-end-eq0.true in
     (rw (no-hints a.graph.now a.count (steps_in c.before.before.before.before.before.before.before.before) ws a.at at f.1 f.0 no) refl, λ x. omega (arith, s.requires.1 x))
 
@@ -144,7 +144,7 @@ set-false-requires : tie.Need-set_false-requires
 set-false-requires c κs =
     let b = c in
     let s = c in
-    let e = ends b in (e.0, omega (arith, e), omega (arith, s.requires.0.room), λ x. omega (arith, s.requires.1 x))
+    let e = ends b.before in (e.0, omega (arith, e), omega (arith, s.requires.0.room), λ x. omega (arith, s.requires.1 x))
 
 same_length : tie.Need-shape_of-marks-then-not-set_false
 same_length c = search rules
@@ -156,8 +156,8 @@ returns-3 c =
     let h = c in
     let s = c in
     let a = s.args in
-    let p = clause-there b.before.before in
-    let t = hints-there b in
+    let p = clause-there b.before.before.before.before.before.before.before in
+    let t = hints-there b.before.before.before.before.before in
     let no = sym f.set_false.ensures.answer ∙ not-true _ c.if-not-set_false.true-raw in (
       rw (not_low a.graph.now a.count (steps_in c.before.before.before.before.before.before.before.before.before.before.before.before.before) (words_in c.before.before.before.before.before.before.before.before.before.before.before.before.before) a.at h.skip-hints.result b.skip-end.result p.1 t.1 p.0 t.0 no) refl,
       f.set_false.ensures.at_most,
@@ -167,14 +167,14 @@ slice-write-marks : tie.Need-bounds-marks-0
 slice-write-marks c = some-mark c
 
 add-conflict : tie.Need-overflow_add-hints
-add-conflict c = omega (arith, ends c)
+add-conflict c = omega (arith, ends c.before.before.before.before.before)
 
 conflict-requires : tie.Need-conflict-requires
 conflict-requires c κs =
     let z = c in
     let b = c in
     let s = c in
-    let e = ends b in
+    let e = ends b.before.before.before.before.before.before in
     let f = c in (
       ready-again s.requires.0 (length-set (marks_now c.before) 0 s.args.k ∙ same-marks c.before),
       e.1,
@@ -188,7 +188,7 @@ same-length-2 c = after-conflict c.before.before.before
 returns-4 : tie.Need-returns-then-not-conflict
 returns-4 c =
     let f = c in
-    (rw (sym (step_is f) ∙ not-true _ c.if-not-conflict.true-raw) refl, f.conflict.ensures.1)
+    (rw (sym (step_is f.before.before.before) ∙ not-true _ c.if-not-conflict.true-raw) refl, f.conflict.ensures.1)
 
 same-length-3 : tie.Need-shape_of-marks
 same-length-3 c = after-conflict c.before.before.before
@@ -198,7 +198,7 @@ returns-5 c =
     let f = c in
     let b = c in
     let ws = words_in c.before.before.before.before.before.before.before.before.before.before.before.before.before.before.before.before.before.before in
-    (rw (sym (step_is f) ∙ not-false _ c.if-not-conflict.false-raw) ((hints-there b).1 ∙ ap (skipped ws) (clause-there b.before.before).1), f.conflict.ensures.1)
+    (rw (sym (step_is f.before.before.before) ∙ not-false _ c.if-not-conflict.false-raw) ((hints-there b.before.before.before.before.before.before.before.before.before.before).1 ∙ ap (skipped ws) (clause-there b.before.before.before.before.before.before.before.before.before.before.before.before).1), f.conflict.ensures.1)
 
 pub step_spec : {M : Type 1} → statement M
 step_spec =
