@@ -1,7 +1,5 @@
 -- `left_after_node` meets its contract: the node number falls at every call, and the lengths of the parts are taken off in turn.
 use mathlib.Core.Bool.{true, false}
-use mathlib.Core.List.{List}
-use mathlib.Core.Logic.{⊎_elim}
 use mathlib.Core.Path.{◌≡◌, sym, ◌∙◌}
 use Prim.Native.Nat.{ℕ, ◌-◌, ◌≤◌, ◌<◌}
 use native.Mathlib.Omega.{arith}
@@ -16,6 +14,7 @@ use Rattle.text_length.proofs.Sizes.{before, left-after-one, left-after-two}
 use Rattle.text_length.proofs.left_after_node.Reads as left-after-node
 use Rattle.text_length.proofs.left_after_node.Kinds as left-after-node-kinds
 use Rattle.text_length.proofs.+left_after_node.Lts-left_after_node as left-after-node-lts
+use Rattle.text_length.proofs.+left_after_node.Lts-left_after_node.{then-k-eq-ITE, else-k-eq-ITE}
 use Rattle.text_digits.proofs.minus_or_zero.Reads as minus-or-zero-reads
 use Rattle.pool_fields.proofs.first.Reads as first_reads
 use Rattle.pool.proofs.words.kind_of.Reads as kind-of-reads
@@ -68,169 +67,115 @@ module _ (t : ℕ) where
   abbrev Start : Type 0
   Start = left-after-node-lts.Start (claims t) (left-after-node-at t) left-after-node.Post
 
-  abbrev pool : Start → List ℕ
-  pool s = s.args.p.now.now
-
-  abbrev node : Start → ℕ
-  node s = s.args.n.0
-
   -- the kind is read
   abbrev Read : Type 0
-  Read = left-after-node-lts.After-kind-of (claims t) (left-after-node-at t) left-after-node.Post
-
-  abbrev start : Read → Start
-  start c = c.before.before.before
-
-  abbrev kind : Read → ℕ
-  kind c = c.kind-of.result
+  Read = left-after-node-lts.After-kind_of-k (claims t) (left-after-node-at t) left-after-node.Post
 
   -- a kind with one operand
   abbrev One : Type 0
-  One = left-after-node-lts.Then3 (claims t) (left-after-node-at t) left-after-node.Post
+  One = left-after-node-lts.Then-is_single (claims t) (left-after-node-at t) left-after-node.Post
 
-  abbrev read_one : One → Read
-  read_one c = c.before.before.before
-
-  one-is : (c : One) → single (kind (read_one c)) ≡ true
-  one-is c = sym c.before.is-single.ensures ∙ c.if3.true
-
-  abbrev one : left-after-node-lts.After-first (claims t) (left-after-node-at t) left-after-node.Post → One
-  one c = c.before.before
+  one-is : (c : One) → single c.kind_of-k.result ≡ true
+  one-is c = sym c.is_single.ensures ∙ c.if-is_single.true
 
   -- a kind with two, or an Ite
   abbrev Two : Type 0
-  Two = left-after-node-lts.Else3 (claims t) (left-after-node-at t) left-after-node.Post
+  Two = left-after-node-lts.Else-is_single (claims t) (left-after-node-at t) left-after-node.Post
 
-  abbrev read-two : Two → Read
-  read-two c = c.before.before.before
+  two_is : (c : Two) → single c.kind_of-k.result ≡ false
+  two_is c = sym c.is_single.ensures ∙ c.if-is_single.false
 
-  two_is : (c : Two) → single (kind (read-two c)) ≡ false
-  two_is c = sym c.before.is-single.ensures ∙ c.if3.false
-
-  from-three : (c : Two) → 3 ≤ kind (read-two c)
-  from-three c = c.before.before.if2.false
+  from-three : (c : Two) → 3 ≤ c.kind_of-k.result
+  from-three c = c.if-k-lt-ADD.false
 
   -- its own characters are taken off
   abbrev Own : Type 0
-  Own = left-after-node-lts.After-minus-or-zero (claims t) (left-after-node-at t) left-after-node.Post
-
-  abbrev two : Own → Two
-  two c = c.before.before
+  Own = left-after-node-lts.After-minus_or_zero-c (claims t) (left-after-node-at t) left-after-node.Post
 
   -- and the condition of an Ite
   abbrev Conditioned : Type 0
-  Conditioned = left-after-node-lts.Joined4 (claims t) (left-after-node-at t) left-after-node.Post
+  Conditioned = left-after-node-lts.Joined-k-eq-ITE (claims t) (left-after-node-at t) left-after-node.Post
 
-  condition-left : (c : Conditioned) → let r = read-two (two c.before) in
-      let s = start r in c.if4.c ≡ c.before.minus-or-zero.result - before (pool s) (node s) s.pre.1 (kind r) r.kind-of.ensures
+  condition-left : (c : Conditioned) → c.if-k-eq-ITE.c ≡ c.minus_or_zero-c.result - before c.args.p.now.now c.args.n.0 c.requires.1 c.kind_of-k.result c.kind_of-k.ensures
   condition-left c =
-      ⊎_elim (λ w. rw (eq-eqb _ 15 w.0.taken) (w.4 ∙ (rw w.2.ensures at w.3.ensures)))
-      (λ w. rw (ne_eqb _ 15 w.0.left) (omega (arith, w.1)))
-      c.if4.branch
+      elim c.if-k-eq-ITE.branch [
+        | then-k-eq-ITE w ↦ rw (eq-eqb _ 15 w.if-k-eq-ITE.true) (w.c-is ∙ (rw w.first-then-k-eq-ITE.ensures at w.left_after_node-c.ensures))
+        | else-k-eq-ITE w ↦ rw (ne_eqb _ 15 w.if-k-eq-ITE.false) (omega (arith, w.c-is))
+      ]
 
   -- ---- the needs
 
-  returns : left-after-node-lts.Need-returns (claims t) (left-after-node-at t) left-after-node.Post
+  returns : left-after-node-lts.Need-returns-then-b-eq0 (claims t) (left-after-node-at t) left-after-node.Post
   returns c = omega arith
 
-  kind-of-requires : left-after-node-lts.Need-kind-of-requires (claims t) (left-after-node-at t) left-after-node.Post
-  kind-of-requires c κs = c.before.before.requires.1.inside
+  kind-of-requires : left-after-node-lts.Need-kind_of-k-requires (claims t) (left-after-node-at t) left-after-node.Post
+  kind-of-requires c κs = c.requires.1.inside
 
-  left-after-leaf-requires : left-after-node-lts.Need-left-after-leaf-requires (claims t) (left-after-node-at t) left-after-node.Post
-  left-after-leaf-requires c κs = let l = c.before in ((start l.before).pre.1, l.before.kind-of.ensures, l.if2.true)
+  left-after-leaf-requires : left-after-node-lts.Need-left_after_leaf-requires (claims t) (left-after-node-at t) left-after-node.Post
+  left-after-leaf-requires c κs = (c.requires.1, c.kind_of-k.ensures, c.if-k-lt-ADD.true)
 
-  returns-2 : left-after-node-lts.Need-returns-2 (claims t) (left-after-node-at t) left-after-node.Post
-  returns-2 c = c.left-after-leaf.ensures
+  returns-2 : left-after-node-lts.Need-returns-then-k-lt-ADD (claims t) (left-after-node-at t) left-after-node.Post
+  returns-2 c = c.left_after_leaf.ensures
 
-  is-single-requires : left-after-node-lts.Need-is-single-requires (claims t) (left-after-node-at t) left-after-node.Post
+  is-single-requires : left-after-node-lts.Need-is_single-requires (claims t) (left-after-node-at t) left-after-node.Post
   is-single-requires c κs = search rules
 
   first-requires : left-after-node-lts.Need-first-requires (claims t) (left-after-node-at t) left-after-node.Post
-  first-requires c κs = (start (read_one c.before)).pre.1.inside
+  first-requires c κs = c.requires.1.inside
 
-  left-after-single-requires : left-after-node-lts.Need-left-after-single-requires (claims t) (left-after-node-at t) left-after-node.Post
+  left-after-single-requires : left-after-node-lts.Need-left_after_single-requires (claims t) (left-after-node-at t) left-after-node.Post
   left-after-single-requires c κs =
-      let o = one c.before in
-      let r = read_one o in
-      ((start r).pre.1, r.kind-of.ensures, one-is o)
+      (c.requires.1, c.kind_of-k.ensures, one-is c.before.before.before)
 
-  left-after-node-requires : left-after-node-lts.Need-left-after-node-requires (claims t) (left-after-node-at t) left-after-node.Post
+  left-after-node-requires : left-after-node-lts.Need-left_after_node-requires (claims t) (left-after-node-at t) left-after-node.Post
   left-after-node-requires c κs =
-      let f = c.before.before in
-      let o = one f in
-      let r = read_one o in
-      let s = start r in
-      let d = single-a (pool s) (node s) s.pre.1 _ r.kind-of.ensures (is-single _ (one-is o)) in
-      rw f.first.ensures (omega (arith, s.pre.0, d.before), d.ready)
+      let d = single-a c.args.p.now.now c.args.n.0 c.requires.1 _ c.kind_of-k.ensures (is-single _ (one-is c.before.before.before.before)) in
+      rw c.first.ensures (omega (arith, c.requires.0, d.before), d.ready)
 
-  returns-3 : left-after-node-lts.Need-returns-3 (claims t) (left-after-node-at t) left-after-node.Post
+  returns-3 : left-after-node-lts.Need-returns-then-is_single (claims t) (left-after-node-at t) left-after-node.Post
   returns-3 c =
-      let l = c.before in
-      let f = l.before.before in
-      let o = one f in
-      let r = read_one o in
-      let s = start r in
-      left-after-one (pool s) (node s) s.pre.1 _ r.kind-of.ensures s.args.b (is-single _ (one-is o)) l.left-after-single.ensures
-      (rw f.first.ensures at c.left-after-node.ensures)
+      left-after-one c.args.p.now.now c.args.n.0 c.requires.1 _ c.kind_of-k.ensures c.args.b (is-single _ (one-is c.before.before.before.before.before)) c.left_after_single.ensures
+      (rw c.first.ensures at c.left_after_node.ensures)
 
-  own-length-requires : left-after-node-lts.Need-own-length-requires (claims t) (left-after-node-at t) left-after-node.Post
+  own-length-requires : left-after-node-lts.Need-own_length-requires (claims t) (left-after-node-at t) left-after-node.Post
   own-length-requires c κs =
-      let r = read-two c in
-      let s = start r in
-      a-joined (pool s) (node s) s.pre.1 _ r.kind-of.ensures (from-three c) (two_is c)
+      a-joined c.args.p.now.now c.args.n.0 c.requires.1 _ c.kind_of-k.ensures (from-three c) (two_is c)
 
-  minus-or-zero-requires : left-after-node-lts.Need-minus-or-zero-requires (claims t) (left-after-node-at t) left-after-node.Post
+  minus-or-zero-requires : left-after-node-lts.Need-minus_or_zero-c-requires (claims t) (left-after-node-at t) left-after-node.Post
   minus-or-zero-requires c κs = search rules
 
-  first-requires-2 : left-after-node-lts.Need-first-requires-2 (claims t) (left-after-node-at t) left-after-node.Post
-  first-requires-2 c κs = (start (read-two (two c.before.before))).pre.1.inside
+  first-requires-2 : left-after-node-lts.Need-first-requires-then-k-eq-ITE (claims t) (left-after-node-at t) left-after-node.Post
+  first-requires-2 c κs = c.requires.1.inside
 
-  left-after-node-requires-2 : left-after-node-lts.Need-left-after-node-requires-2 (claims t) (left-after-node-at t) left-after-node.Post
+  left-after-node-requires-2 : left-after-node-lts.Need-left_after_node-c-requires (claims t) (left-after-node-at t) left-after-node.Post
   left-after-node-requires-2 c κs =
-      let q = c.before.before in
-      let r = read-two (two q.before) in
-      let s = start r in
-      let d = ite-a (pool s) (node s) s.pre.1 _ r.kind-of.ensures q.if4.true in
-      rw c.first2.ensures (omega (arith, s.pre.0, d.before), d.ready)
+      let d = ite-a c.args.p.now.now c.args.n.0 c.requires.1 _ c.kind_of-k.ensures c.if-k-eq-ITE.true in
+      rw c.first-then-k-eq-ITE.ensures (omega (arith, c.requires.0, d.before), d.ready)
 
   left-requires : left-after-node-lts.Need-left-requires (claims t) (left-after-node-at t) left-after-node.Post
-  left-requires c κs = (start (read-two (two c.before.before))).pre.1.inside
+  left-requires c κs = c.requires.1.inside
 
-  left-after-node-requires-3 : left-after-node-lts.Need-left-after-node-requires-3 (claims t) (left-after-node-at t) left-after-node.Post
+  left-after-node-requires-3 : left-after-node-lts.Need-left_after_node-d-requires (claims t) (left-after-node-at t) left-after-node.Post
   left-after-node-requires-3 c κs =
-      let w = two c.before.before.before in
-      let r = read-two w in
-      let s = start r in
-      let d = left-term (pool s) (node s) s.pre.1 _ r.kind-of.ensures (from-three w) in
-      rw c.left.ensures (omega (arith, s.pre.0, d.before), d.ready)
+      let d = left-term c.args.p.now.now c.args.n.0 c.requires.1 _ c.kind_of-k.ensures (from-three c.before.before.before.before.before) in
+      rw c.left.ensures (omega (arith, c.requires.0, d.before), d.ready)
 
   right-requires : left-after-node-lts.Need-right-requires (claims t) (left-after-node-at t) left-after-node.Post
-  right-requires c κs = (start (read-two (two c.before.before.before.before.before))).pre.1.inside
+  right-requires c κs = c.requires.1.inside
 
-  left-after-node-requires-4 : left-after-node-lts.Need-left-after-node-requires-4 (claims t) (left-after-node-at t) left-after-node.Post
+  left-after-node-requires-4 : left-after-node-lts.Need-left_after_node-requires-2 (claims t) (left-after-node-at t) left-after-node.Post
   left-after-node-requires-4 c κs =
-      let w = two c.before.before.before.before.before.before in
-      let r = read-two w in
-      let s = start r in
-      let d = right-term (pool s) (node s) s.pre.1 _ r.kind-of.ensures (from-three w) (two_is w) in
-      rw c.right.ensures (omega (arith, s.pre.0, d.before), d.ready)
+      let d = right-term c.args.p.now.now c.args.n.0 c.requires.1 _ c.kind_of-k.ensures (from-three c.before.before.before.before.before.before.before.before) (two_is c.before.before.before.before.before.before.before.before) in
+      rw c.right.ensures (omega (arith, c.requires.0, d.before), d.ready)
 
-  returns-4 : left-after-node-lts.Need-returns-4 (claims t) (left-after-node-at t) left-after-node.Post
+  returns-4 : left-after-node-lts.Need-returns (claims t) (left-after-node-at t) left-after-node.Post
   returns-4 c =
-      let g = c.before in
-      let l = g.before.before in
-      let f = l.before in
-      let q = f.before.before in
-      let o = q.before in
-      let w = two o in
-      let r = read-two w in
-      let s = start r in
-      left-after-two (pool s) (node s) s.pre.1 _ r.kind-of.ensures s.args.b (from-three w) (two_is w)
-      (rw o.before.own-length.ensures at o.minus-or-zero.ensures) (condition-left q) (rw f.left.ensures at l.left-after-node3.ensures)
-      (rw g.right.ensures at c.left-after-node4.ensures)
+      left-after-two c.args.p.now.now c.args.n.0 c.requires.1 _ c.kind_of-k.ensures c.args.b (from-three c.before.before.before.before.before.before.before.before.before) (two_is c.before.before.before.before.before.before.before.before.before)
+      (rw c.own_length.ensures at c.minus_or_zero-c.ensures) (condition-left c.before.before.before.before.before.before) (rw c.left.ensures at c.left_after_node-d.ensures)
+      (rw c.right.ensures at c.left_after_node-2.ensures)
 
-pub +left-after-node-spec : {M : Type 1} → statement M
-+left-after-node-spec =
+pub +left_after_node_spec : {M : Type 1} → statement M
++left_after_node_spec =
     close μ-left-after-node λ t.
     left-after-node-lts.spec (claims t) (left-after-node-at t) left-after-node.Post
     (returns t)

@@ -42,7 +42,7 @@ returns-3 : tie.Need-returns
 returns-3 c =
     let s = c in
     let z : wide s.args.low s.args.high ≡ s.args.low = omega (arith, no-high c.before) in
-    let d = word-digits s.args.low (omega (arith, c.if-low-lt16.false)) s.fits.low.fits in
+    let d = word-digits s.args.low (omega (arith, c.if-low-lt16.false)) s.ranges.low.fits in
     rw z (d.0, omega (arith, d.1))
 
 pub hex_length_spec : {M : Type 1} → statement M

@@ -73,7 +73,7 @@ returns : tie.Need-returns-then-k-lt-ADD
 returns c = search rules
 
 two-lengths-requires : tie.Need-two_lengths-requires
-two-lengths-requires c κs = let e = c in (e.requires.0.inside, (held e (one c.before), held e (two c.before (operator-is c))))
+two-lengths-requires c κs = let e = c in (e.requires.0.inside, (held e.before (one c.before), held e.before (two c.before (operator-is c))))
 
 operator-characters-requires : tie.Need-operator_characters-requires
 operator-characters-requires c κs = search rules
@@ -82,7 +82,7 @@ add-least : tie.Need-overflow_add-two_lengths
 add-least c =
     let o = c in
     let e = c in
-    omega (arith, o.two_lengths.ensures, c.operator_characters.ensures.1, (held e (one c.before.before.before)).small, (held e (two c.before.before.before (operator-is c.before.before))).small)
+    omega (arith, o.two_lengths.ensures, c.operator_characters.ensures.1, (held e.before.before.before (one c.before.before.before)).small, (held e.before.before.before (two c.before.before.before (operator-is c.before.before))).small)
 
 least-requires-2 : tie.Need-least-requires-then-k-lt-ITE
 least-requires-2 c κs = search rules
@@ -94,13 +94,13 @@ returns-2 c =
     let s = c in
     let z = pair_size (pool c.before.before.before.before.before.before.before.before) (node c.before.before.before.before.before.before.before.before) s.requires.0 _ e.kind_of-k.ensures (an-operator e.if-k-lt-ADD.false o.if-k-lt-ITE.true) in
     omega
-    (arith, c.least-then-k-lt-ITE.ensures, o.two_lengths.ensures, c.operator_characters.ensures.0, known e (one c.before.before.before.before), known e (two c.before.before.before.before (operator-is c.before.before.before)), z)
+    (arith, c.least-then-k-lt-ITE.ensures, o.two_lengths.ensures, c.operator_characters.ensures.0, known e.before.before.before.before (one c.before.before.before.before), known e.before.before.before.before (two c.before.before.before.before (operator-is c.before.before.before)), z)
 
 first-requires : tie.Need-first-requires
 first-requires c κs = search rules
 
 length-at-requires : tie.Need-length_at-requires
-length-at-requires c κs = let e = c in rw c.first.ensures (held e (one c.before.before.before)).below
+length-at-requires c κs = let e = c in rw c.first.ensures (held e.before.before.before (one c.before.before.before)).below
 
 range-length-requires : tie.Need-range_length-requires
 range-length-requires c κs =
@@ -111,7 +111,7 @@ add-least-2 : tie.Need-overflow_add-length_at
 add-least-2 c =
     let r = c in
     let e = c in
-    omega (arith, (held e (one c.before.before.before.before.before)).small, rw r.first.ensures at r.length_at.ensures, c.range_length.ensures.1)
+    omega (arith, (held e.before.before.before.before.before (one c.before.before.before.before.before)).small, rw r.first.ensures at r.length_at.ensures, c.range_length.ensures.1)
 
 least-requires-3 : tie.Need-least-requires-then-k-eq-EXTRACT
 least-requires-3 c κs = search rules
@@ -123,13 +123,13 @@ returns-3 c =
     let s = c in
     let x = rw (← e.kind_of-k.ensures) at c.range_length.ensures.0 in
     let z = single-size (pool c.before.before.before.before.before.before.before.before.before.before) (node c.before.before.before.before.before.before.before.before.before.before) s.requires.0 _ e.kind_of-k.ensures (a-range r.if-k-eq-EXTRACT.true) in
-    omega (arith, c.least-then-k-eq-EXTRACT.ensures, known e (one c.before.before.before.before.before.before), rw r.first.ensures at r.length_at.ensures, x, z)
+    omega (arith, c.least-then-k-eq-EXTRACT.ensures, known e.before.before.before.before.before.before (one c.before.before.before.before.before.before), rw r.first.ensures at r.length_at.ensures, x, z)
 
 first-requires-2 : tie.Need-first-requires-then-k-ge-ZERO_EXTEND
 first-requires-2 c κs = search rules
 
 length-at-requires-2 : tie.Need-length_at-requires-then-k-ge-ZERO_EXTEND
-length-at-requires-2 c κs = let e = c in rw c.first-then-k-ge-ZERO_EXTEND.ensures (held e (one c.before.before.before.before)).below
+length-at-requires-2 c κs = let e = c in rw c.first-then-k-ge-ZERO_EXTEND.ensures (held e.before.before.before.before (one c.before.before.before.before)).below
 
 extension-length-requires : tie.Need-extension_length-requires
 extension-length-requires c κs =
@@ -140,7 +140,7 @@ add-least-3 : tie.Need-overflow_add-length_at-then-k-ge-ZERO_EXTEND
 add-least-3 c =
     let x = c in
     let e = c in
-    omega (arith, (held e (one c.before.before.before.before.before.before)).small, rw x.first-then-k-ge-ZERO_EXTEND.ensures at x.length_at-then-k-ge-ZERO_EXTEND.ensures, c.extension_length.ensures.1)
+    omega (arith, (held e.before.before.before.before.before.before (one c.before.before.before.before.before.before)).small, rw x.first-then-k-ge-ZERO_EXTEND.ensures at x.length_at-then-k-ge-ZERO_EXTEND.ensures, c.extension_length.ensures.1)
 
 least-requires-4 : tie.Need-least-requires-then-k-ge-ZERO_EXTEND
 least-requires-4 c κs = search rules
@@ -152,25 +152,25 @@ returns-4 c =
     let s = c in
     let x = rw (← e.kind_of-k.ensures) at c.extension_length.ensures.0 in
     let z = single-size (pool c.before.before.before.before.before.before.before.before.before.before.before) (node c.before.before.before.before.before.before.before.before.before.before.before) s.requires.0 _ e.kind_of-k.ensures (an-extension l.if-k-ge-ZERO_EXTEND.true) in
-    omega (arith, c.least-then-k-ge-ZERO_EXTEND.ensures, known e (one c.before.before.before.before.before.before.before), rw l.first-then-k-ge-ZERO_EXTEND.ensures at l.length_at-then-k-ge-ZERO_EXTEND.ensures, x, z)
+    omega (arith, c.least-then-k-ge-ZERO_EXTEND.ensures, known e.before.before.before.before.before.before.before (one c.before.before.before.before.before.before.before), rw l.first-then-k-ge-ZERO_EXTEND.ensures at l.length_at-then-k-ge-ZERO_EXTEND.ensures, x, z)
 
 two-lengths-requires-2 : tie.Need-two_lengths-two-requires
-two-lengths-requires-2 c κs = let e = c in (e.requires.0.inside, (held e (one c.before.before.before), held e (two c.before.before.before (joins-is c))))
+two-lengths-requires-2 c κs = let e = c in (e.requires.0.inside, (held e.before.before.before (one c.before.before.before), held e.before.before.before (two c.before.before.before (joins-is c))))
 
 third-requires : tie.Need-third-requires
 third-requires c κs = search rules
 
 length-at-requires-3 : tie.Need-length_at-requires-then-k-eq-ITE
-length-at-requires-3 c κs = rw c.third.ensures (held c.before.before (three c.before)).below
+length-at-requires-3 c κs = rw c.third.ensures (held c.before.before.before.before.before.before (three c.before)).below
 
 -- the two lengths of an Ite or a Concat have a sum, and the three of an Ite
 pair-sum : (c : tie.After-two_lengths-two) → c.two_lengths-two.result ≤ 8589934592
-pair-sum c = let e = c in omega (arith, c.two_lengths-two.ensures, (held e (one c.before.before.before.before)).small, (held e (two c.before.before.before.before (joins-is c.before))).small)
+pair-sum c = let e = c in omega (arith, c.two_lengths-two.ensures, (held e.before.before.before.before (one c.before.before.before.before)).small, (held e.before.before.before.before (two c.before.before.before.before (joins-is c.before))).small)
 
 sum : (c : tie.After-length_at-then-k-eq-ITE) → c.two_lengths-two.result + c.length_at-then-k-eq-ITE.result ≤ 12884901888
 sum c =
     let z = rw c.third.ensures at c.length_at-then-k-eq-ITE.ensures in
-    omega (arith, pair-sum c.before.before.before, z, (held c (three c.before.before)).small)
+    omega (arith, pair-sum c.before.before.before, z, (held c.before.before.before.before.before.before.before (three c.before.before)).small)
 
 add-least-4 : tie.Need-overflow_add-two
 add-least-4 c = omega (arith, sum c)
@@ -190,7 +190,7 @@ returns-5 c =
     let s = c in
     let x = rw l.third.ensures at l.length_at-then-k-eq-ITE.ensures in
     let z = ite-size (pool c.before.before.before.before.before.before.before.before.before.before.before.before) (node c.before.before.before.before.before.before.before.before.before.before.before.before) s.requires.0 _ e.kind_of-k.ensures i.if-k-eq-ITE.true in
-    omega (arith, c.least-then-k-eq-ITE.ensures, t.two_lengths-two.ensures, x, known e (one c.before.before.before.before.before.before.before.before), known e (two c.before.before.before.before.before.before.before.before (joins-is c.before.before.before.before.before)), known e (three c.before.before.before), z)
+    omega (arith, c.least-then-k-eq-ITE.ensures, t.two_lengths-two.ensures, x, known e.before.before.before.before.before.before.before.before (one c.before.before.before.before.before.before.before.before), known e.before.before.before.before.before.before.before.before (two c.before.before.before.before.before.before.before.before (joins-is c.before.before.before.before.before)), known e.before.before.before.before.before.before.before.before (three c.before.before.before), z)
 
 add-least-6 : tie.Need-overflow_add-two-2
 add-least-6 c = omega (arith, pair-sum c.before)
@@ -207,7 +207,7 @@ returns-6 c =
     let s = c in
     let k : kind c.before.before.before.before.before.before.before ≡ 17 = omega (arith, j.if-k-lt-ITE.false, j.if-k-eq-EXTRACT.false, j.if-k-ge-ZERO_EXTEND.false, i.if-k-eq-ITE.false) in
     let z = pair_size (pool c.before.before.before.before.before.before.before.before.before.before) (node c.before.before.before.before.before.before.before.before.before.before) s.requires.0 _ e.kind_of-k.ensures (a-concat k) in
-    omega (arith, c.least-2.ensures, t.two_lengths-two.ensures, known e (one c.before.before.before.before.before.before), known e (two c.before.before.before.before.before.before (joins-is c.before.before.before)), concat-own k, z)
+    omega (arith, c.least-2.ensures, t.two_lengths-two.ensures, known e.before.before.before.before.before.before (one c.before.before.before.before.before.before), known e.before.before.before.before.before.before (two c.before.before.before.before.before.before (joins-is c.before.before.before)), concat-own k, z)
 
 pub known_length_spec : {M : Type 1} → statement M
 known_length_spec =
