@@ -8,74 +8,60 @@ use borrow.Author.Rules.{rules}
 use Rattle.line_records.proofs.put_line.Statement.{statement}
 use Rattle.line_records.proofs.put_line.Tie as tie
 
--- ---- places: after each field, with the place before it and the entry
-
 -- ---- what is left of the line after each field, and room for it
 
-abbrev after-5 : tie.Start → List ℕ
-after-5 s = columns s.args.m ++ (10 ∷ [])
+abbrev after-5 : ℕ → List ℕ
+after-5 m = columns m ++ (10 ∷ [])
 
-abbrev after-4 : tie.Start → List ℕ
-after-4 s = columns s.args.n ++ after-5 s
+abbrev after-4 : (n m : ℕ) → List ℕ
+after-4 n m = columns n ++ after-5 m
 
-abbrev after-3 : tie.Start → List ℕ
-after-3 s = columns s.args.d ++ after-4 s
+abbrev after-3 : (d n m : ℕ) → List ℕ
+after-3 d n m = columns d ++ after-4 n m
 
-abbrev after-2 : tie.Start → List ℕ
-after-2 s = columns s.args.i ++ after-3 s
+abbrev after-2 : (i d n m : ℕ) → List ℕ
+after-2 i d n m = columns i ++ after-3 d n m
 
-abbrev after-1 : tie.Start → List ℕ
-after-1 s = columns s.args.arrangement ++ after-2 s
+abbrev after-1 : (arrangement i d n m : ℕ) → List ℕ
+after-1 arrangement i d n m = columns arrangement ++ after-2 i d n m
 
-room-1 : (c : tie.After-put_columns-a) → Room c.put_columns-a.new.1.0 c.put_columns-a.result (after-1 c.before.before.before)
+room-1 : (c : tie.After-put_columns-a) → Room c.put_columns-a.new.buf c.put_columns-a.result (after-1 c.args.arrangement c.args.i c.args.d c.args.n c.args.m)
 room-1 c = room-step c.put_columns-a.ensures c.requires.1
 
-room-2 : (c : tie.After-put_columns-b) → Room c.put_columns-b.new.1.0 c.put_columns-b.result (after-2 c.before.before.before.before.before.before.before)
+room-2 : (c : tie.After-put_columns-b) → Room c.put_columns-b.new.buf c.put_columns-b.result (after-2 c.args.i c.args.d c.args.n c.args.m)
 room-2 c = room-step c.put_columns-b.ensures (room-1 c.before.before.before.before)
 
-room-3 : (c : tie.After-put_columns-c) → Room c.put_columns-c.new.1.0 c.put_columns-c.result (after-3 c.before.before.before.before.before.before.before.before.before.before.before)
+room-3 : (c : tie.After-put_columns-c) → Room c.put_columns-c.new.buf c.put_columns-c.result (after-3 c.args.d c.args.n c.args.m)
 room-3 c = room-step c.put_columns-c.ensures (room-2 c.before.before.before.before)
 
-room-4 : (c : tie.After-put_columns-e) → Room c.put_columns-e.new.1.0 c.put_columns-e.result (after-4 c.before.before.before.before.before.before.before.before.before.before.before.before.before.before.before)
+room-4 : (c : tie.After-put_columns-e) → Room c.put_columns-e.new.buf c.put_columns-e.result (after-4 c.args.n c.args.m)
 room-4 c = room-step c.put_columns-e.ensures (room-3 c.before.before.before.before)
 
-room-5 : (c : tie.After-put_columns-f) → Room c.put_columns-f.new.1.0 c.put_columns-f.result (after-5 c.before.before.before.before.before.before.before.before.before.before.before.before.before.before.before.before.before.before.before)
+room-5 : (c : tie.After-put_columns-f) → Room c.put_columns-f.new.buf c.put_columns-f.result (after-5 c.args.m)
 room-5 c = room-step c.put_columns-f.ensures (room-4 c.before.before.before.before)
 
-room-6 : (c : tie.After-put_columns-g) → Room c.put_columns-g.new.1.0 c.put_columns-g.result (10 ∷ [])
+room-6 : (c : tie.After-put_columns-g) → Room c.put_columns-g.new.buf c.put_columns-g.result (10 ∷ [])
 room-6 c = room-step c.put_columns-g.ensures (room-5 c.before.before.before.before)
 
 -- ---- needs
 
 put-columns-requires : tie.Need-put_columns-a-requires
-put-columns-requires c κs =
-    let s = c in
-    (s.requires.0.0, room-front _ s.requires.1)
+put-columns-requires c κs = (c.requires.0.0, room-front _ c.requires.1)
 
 put-columns-requires-2 : tie.Need-put_columns-b-requires
-put-columns-requires-2 c κs =
-    let s = c in
-    (s.requires.0.1, room-front _ (room-1 c.before.before.before))
+put-columns-requires-2 c κs = (c.requires.0.1, room-front _ (room-1 c.before.before.before))
 
 put-columns-requires-3 : tie.Need-put_columns-c-requires
-put-columns-requires-3 c κs =
-    let s = c in
-    (s.requires.0.2, room-front _ (room-2 c.before.before.before))
+put-columns-requires-3 c κs = (c.requires.0.2, room-front _ (room-2 c.before.before.before))
 
 put-columns-requires-4 : tie.Need-put_columns-e-requires
-put-columns-requires-4 c κs =
-    let s = c in
-    (s.requires.0.3, room-front _ (room-3 c.before.before.before))
+put-columns-requires-4 c κs = (c.requires.0.3, room-front _ (room-3 c.before.before.before))
 
 put-columns-requires-5 : tie.Need-put_columns-f-requires
-put-columns-requires-5 c κs =
-    let s = c in
-    (s.requires.0.4, room-front _ (room-4 c.before.before.before))
+put-columns-requires-5 c κs = (c.requires.0.4, room-front _ (room-4 c.before.before.before))
 
 put-columns-requires-6 : tie.Need-put_columns-g-requires
-put-columns-requires-6 c κs =
-    let s = c in
-    (s.requires.0.5, room-front _ (room-5 c.before.before.before))
+put-columns-requires-6 c κs = (c.requires.0.5, room-front _ (room-5 c.before.before.before))
 
 put-requires : tie.Need-put-requires
 put-requires c κs = room-6 c.before.before.before.before.before
@@ -85,15 +71,8 @@ same_length c = search rules
 
 returns : tie.Need-returns
 returns c =
-    let w7 = c in
-    let w6 = c in
-    let w5 = c in
-    let w4 = c in
-    let w3 = c in
-    let w2 = c in
-    let w1 = c in
-    wrote_then w1.put_columns-a.ensures (wrote_then w2.put_columns-b.ensures (wrote_then w3.put_columns-c.ensures
-    (wrote_then w4.put_columns-e.ensures (wrote_then w5.put_columns-f.ensures (wrote_then w6.put_columns-g.ensures w7.put.ensures)))))
+    wrote_then c.put_columns-a.ensures (wrote_then c.put_columns-b.ensures (wrote_then c.put_columns-c.ensures
+    (wrote_then c.put_columns-e.ensures (wrote_then c.put_columns-f.ensures (wrote_then c.put_columns-g.ensures c.put.ensures)))))
 
 pub put_line_spec : {M : Type 1} → statement M
 put_line_spec =
