@@ -108,5 +108,5 @@ module _ (bs : List ℕ) where
         number_is = sym (ap (λ (x : Refusal). x.number) e);
         position_is = sym (ap (λ (x : Refusal). x.position) e);
         count_is = rw e c;
-        list_is = rw e (w.after-is ∙ sets-eq (numbers_in bs) old 0 (omega arith) ∙ ap (λ (k : ℕ). numbers_in bs ++ drop k old) (zero-add (length (numbers_in bs))));
+        list_is = rw e (w.after_is ∙ sets-eq (numbers_in bs) old 0 (omega arith) ∙ ap (λ (k : ℕ). numbers_in bs ++ drop k old) (zero-add (length (numbers_in bs))));
       }
