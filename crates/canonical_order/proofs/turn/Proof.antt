@@ -62,7 +62,7 @@ returns c =
     let o = c in
     let s = c in
     let a = s.args in
-    turn-done a.pool.now a.class.now a.root.0 s.requires.1.0 s.requires.0.2 s.requires.0.0 (words o) a.number.now
+    turn-done a.pool.now a.class.now a.root.0 s.requires.1.0 s.requires.0.2 s.requires.0.0 (words c.before.before.before.before) a.number.now
     a.order.now a.s.count a.stack.now a.s.depth s.requires.1.1.1 s.requires.1.1.0 o.wide.result o.next_open-m.result.0 o.wide.ensures.0
     o.next_open-m.ensures c.if-m-eq-NONE.true
 
@@ -73,7 +73,7 @@ cast-stack c =
     let a = s.args in
     omega (
       arith,
-      turn-less a.pool.now a.class.now a.root.0 s.requires.1.0 s.requires.0.2 s.requires.0.0 (words o)
+      turn-less a.pool.now a.class.now a.root.0 s.requires.1.0 s.requires.0.2 s.requires.0.0 (words c.before.before.before)
           a.number.now a.order.now a.s.count a.stack.now a.s.depth s.requires.1.1.1 s.requires.1.1.0 o.wide.result o.next_open-m.result.0
           o.wide.ensures.0 o.next_open-m.ensures c.if-m-eq-NONE.false,
     )
@@ -95,7 +95,7 @@ returns-2 c =
     let o = c in
     let s = c in
     let a = s.args in
-    turn_more a.pool.now a.class.now a.root.0 s.requires.1.0 s.requires.0.2 s.requires.0.0 (words o) a.number.now
+    turn_more a.pool.now a.class.now a.root.0 s.requires.1.0 s.requires.0.2 s.requires.0.0 (words c.before.before.before) a.number.now
     a.order.now a.s.count a.stack.now a.s.depth s.requires.1.1.1 s.requires.1.1.0 o.wide.result o.next_open-m.result.0 o.wide.ensures.0
     o.next_open-m.ensures c.if-m-eq-NONE.false
 

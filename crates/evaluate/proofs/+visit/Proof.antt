@@ -46,7 +46,7 @@ module _ (t : ℕ) where
       let e = c.before.before.before in
       let r = e.before in
       let s = start t r in
-      let d = first-operand (pool t s) (node t s) s.pre.1.0 _ r.kind-of.ensures e.if2.false in
+      let d = first-operand (pool t s) (node t s) s.pre.1.0 _ r.kind_of.ensures e.if2.false in
       rw c.before.first.ensures (omega (arith, s.pre.0, d.before), (d.ready, s.pre.1.1))
 
   returns-3 : visit-lts.Need-returns-3 (claims t) (visit-at t) visit.Post

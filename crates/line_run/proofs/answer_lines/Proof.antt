@@ -103,9 +103,9 @@ loop-again c =
     in (
       omega (arith, fits g, g.gather.kept.0),
       a.answer_line-output.ensures.1.1 i.1,
-      a.answer-line.kept.0 ∙ i.2,
+      a.answer_line.kept.0 ∙ i.2,
       g.gather.kept.0 ∙ i.3,
-      a.answer-line.kept.1.1.0 ∙ i.4,
+      a.answer_line.kept.1.1.0 ∙ i.4,
       omega (arith, i.5, more g),
       λ e. absurd (omega (arith, i.5, more g, e)),
       λ rest. rw (sym same-places) (turned rest) ∙ i.7 rest,

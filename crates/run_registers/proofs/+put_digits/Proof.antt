@@ -43,10 +43,10 @@ module _ (t : ℕ) where
   entry c = (rest c).before.before.before.before
 
   -- the last digit has its place
-  room : (c : Done) → (rest c).put-digits.result < length (rest c).put-digits.new.1.1.0
+  room : (c : Done) → (rest c).put_digits.result < length (rest c).put_digits.new.1.1.0
   room c =
       let s = entry c in
-      let w = (rest c).put-digits.ensures in
+      let w = (rest c).put_digits.ensures in
       omega
       (arith, w.next_is, wrote-length w, digits-length (s.args.k - 1) (s.args.x / 16), digits-length s.args.k s.args.x, s.pre.1.room, (rest c).before.before.if1.false)
 
@@ -77,12 +77,12 @@ put-digits-add-result : (t : ℕ) → put-digits-lts.Need-overflow-add-result (c
 put-digits-add-result t c = omega (arith, room t c)
 
 put-digits-same-length : (t : ℕ) → put-digits-lts.Need-same-length (claims t) (put-digits-at t) put-digits.Post
-put-digits-same-length t c = simp length-set (wrote-length (rest t c).put-digits.ensures)
+put-digits-same-length t c = simp length-set (wrote-length (rest t c).put_digits.ensures)
 
 put-digits-returns-2 : (t : ℕ) → put-digits-lts.Need-returns-2 (claims t) (put-digits-at t) put-digits.Post
 put-digits-returns-2 t c =
     let s = entry t c in
-    wrote-last s.args.k s.args.x c.character.result (omega (arith, (rest t c).before.before.if1.false)) (rest t c).put-digits.ensures c.character.ensures
+    wrote-last s.args.k s.args.x c.character.result (omega (arith, (rest t c).before.before.if1.false)) (rest t c).put_digits.ensures c.character.ensures
 
 pub +put-digits-spec : {M : Type 1} → statement M
 +put-digits-spec = close μ-put-digits λ t. put-digits-lts.spec (claims t)
