@@ -20,7 +20,7 @@ use Rattle.text.specs.Answer.{text_number, Answered}
 -- a text at the front of a buffer, and the bytes after it
 pub in-front : {old new s : List ℕ} {end : ℕ} → Wrote old 0 s end new → length s ≤ length old → new ≡ s ++ drop (length s) old
 in-front {old} {new} {s} w h =
-    w.after-is ∙ sets-eq s old 0 (omega arith) ∙ ap (λ (k : ℕ). s ++ drop k old) (zero-add (length s))
+    w.after_is ∙ sets-eq s old 0 (omega arith) ∙ ap (λ (k : ℕ). s ++ drop k old) (zero-add (length s))
 
 module _ (ws : List ℕ) (count n : ℕ) where
   pub bad : (room : ℕ) → 0 < node_number ws count n 0 → node_number ws count n 0 ≡ text_number ws count n room
