@@ -3,19 +3,12 @@ use native.Mathlib.Omega.{arith}
 use mathlib.Core.Path.{sym, subst}
 use mathlib.Core.List.{List}
 use Prim.Native.Nat.{ℕ, ◌+◌, ◌-◌, ◌<◌}
-use lib.ListN.{get_or, set}
+use lib.ListN.{set}
 use Rattle.canonical_classes.specs.Class.{Kept, slots_of}
 use Rattle.canonical_classes.proofs.Steps.{kept_new, kept-old}
 use borrow.Author.Rules.{rules}
 use Rattle.canonical_classes.proofs.class_one.Statement.{statement}
 use Rattle.canonical_classes.proofs.class_one.Tie as tie
-
-abbrev slots_in : tie.Start → List ℕ
-slots_in s = slots_of s.args.first.now s.args.second.now s.args.ways.now
-
--- each word of the pool is one of 64 bits
-words : (c : tie.After-find-place) (i : ℕ) → get_or c.args.pool.now i 0 < 18446744073709551616
-words c i = omega (arith, c.shared_slice_known-1.given i)
 
 link-low : (c : tie.Then-link-gt0) → c.find-place.result.link - 1 < 65536
 link-low c = omega (arith, (c.find-place.ensures.found (omega (arith, c.if-link-gt0.true))).0, c.requires.0)
@@ -47,7 +40,8 @@ returns c =
     let s = c in
     let a = s.args in (
       s.requires.0.3,
-      kept-old a.pool.now (a.n.0 + 1) s.requires.0.0 (words known.before) (omega arith) a.n.0 (omega arith) a.class.now (slots_in c.before.before.before.before.before) s.requires.1
+      kept-old a.pool.now (a.n.0 + 1) s.requires.0.0 (λ i. omega (arith, c.shared_slice_known-1.given i)) (omega arith) a.n.0 (omega arith)
+          a.class.now (slots_of a.first.now a.second.now a.ways.now) s.requires.1
           (known.find-place.result.link - 1) (omega (arith, f.0, known.if-link-gt0.true)) f.1,
     )
 
@@ -73,7 +67,8 @@ returns-2 c =
     let a = s.args in (
       c.set_link.ensures.laid,
       subst (λ (l : List ℕ). Kept a.pool.now (a.n.0 + 1) (set a.class.now a.n.0 a.n.0) l) (sym c.set_link.ensures.is)
-          (kept_new a.pool.now (a.n.0 + 1) s.requires.0.0 (words fresh.before) (omega arith) a.n.0 (omega arith) a.class.now (slots_in c.before.before.before.before.before.before.before.before) s.requires.1
+          (kept_new a.pool.now (a.n.0 + 1) s.requires.0.0 (λ i. omega (arith, c.shared_slice_known-1.given i)) (omega arith) a.n.0 (omega arith)
+          a.class.now (slots_of a.first.now a.second.now a.ways.now) s.requires.1
           fresh.find-place.result (omega (arith, fresh.if-link-gt0.false)) fresh.find-place.ensures),
     )
 

@@ -64,7 +64,7 @@ sub-t14 : tie.Need-overflow_sub-m invariant-loop-link decreases-loop-link
 sub-t14 c = search rules
 
 key-of-requires-2 : tie.Need-key_of-requires invariant-loop-link decreases-loop-link
-key-of-requires-2 c κs = readable c.before (c.loop-link.link - 1) (omega (arith, link-low c.before))
+key-of-requires-2 c κs = readable c.before.before.before.before.before.before.before (c.loop-link.link - 1) (omega (arith, link-low c.before))
 
 same-requires : tie.Need-same-requires invariant-loop-link decreases-loop-link
 same-requires c κs = search rules
