@@ -4,7 +4,7 @@ use Prim.Native.Nat.{◌*◌, ◌-◌}
 use mathlib.Core.List.{[]}
 use Rattle.lower.specs.Builds.{read, read_if}
 use Rattle.lower.proofs.Loop.{Turning, SoFar, begun, so_far, first-asks, lane-asks, concat-asks, again, whole}
-use Rattle.trees.specs.Trees.{difference_at, absolute_difference_lanes}
+use Rattle.trees.specs.Trees.{difference_at}
 use Rattle.trees.specs.Arith as Arith
 use Rattle.lower_absolute_difference.proofs.absolute_difference_lanes.Statement.{statement}
 use Rattle.lower_absolute_difference.proofs.absolute_difference_lanes.Tie as tie

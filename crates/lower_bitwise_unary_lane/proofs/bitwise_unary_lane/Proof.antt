@@ -35,7 +35,7 @@ returns : tie.Need-returns-in-PopulationCount
 returns c =
     let l-population-count = c in
     let l-enum-told = c in
-    lane_count l-enum-told.enum_told-1.given.1 l-population-count.population_count.ensures
+    lane_count l-enum-told.in-PopulationCount.is l-population-count.population_count.ensures
 
 same-length-2 : tie.Need-shape_of-pool-in-LeadingZeros
 same-length-2 c = search rules
@@ -44,7 +44,7 @@ returns-2 : tie.Need-returns-in-LeadingZeros
 returns-2 c =
     let l-leading-zeros = c in
     let l-enum-told2 = c in
-    lane-zeros l-enum-told2.enum_told-in-LeadingZeros-1.given.1 l-leading-zeros.leading_zeros.ensures
+    lane-zeros l-enum-told2.in-LeadingZeros.is l-leading-zeros.leading_zeros.ensures
 
 same-length-3 : tie.Need-shape_of-pool-in-LeadingSignBits
 same-length-3 c = search rules
@@ -53,7 +53,7 @@ returns-3 : tie.Need-returns-in-LeadingSignBits
 returns-3 c =
     let l-leading-sign-bits = c in
     let l-enum-told3 = c in
-    lane-signs l-enum-told3.enum_told-in-LeadingSignBits-1.given.1 l-leading-sign-bits.leading_sign_bits.ensures
+    lane-signs l-enum-told3.in-LeadingSignBits.is l-leading-sign-bits.leading_sign_bits.ensures
 
 same-length-4 : tie.Need-shape_of-pool-in-ReverseBits
 same-length-4 c = search rules
@@ -62,7 +62,7 @@ returns-4 : tie.Need-returns-in-ReverseBits
 returns-4 c =
     let l-reverse-bits = c in
     let l-enum-told4 = c in
-    lane-reversed l-enum-told4.enum_told-in-ReverseBits-1.given.1 l-reverse-bits.reverse_bits.ensures
+    lane-reversed l-enum-told4.in-ReverseBits.is l-reverse-bits.reverse_bits.ensures
 
 pub bitwise_unary_lane_spec : {M : Type 1} → statement M
 bitwise_unary_lane_spec =

@@ -2,7 +2,6 @@
 use native.Mathlib.Omega.{arith}
 use native.Mathlib.Nat.{lt_of_lt_of_le, one-le-mul}
 use Rattle.lower.proofs.Lanes.{kept-below}
-use Rattle.trees.specs.Trees.{high_narrow_lanes}
 use Rattle.trees.specs.Width as Width
 use borrow.Author.Rules.{rules}
 use Rattle.lower_high_narrow.proofs.high_narrow_lanes.Statement.{statement}

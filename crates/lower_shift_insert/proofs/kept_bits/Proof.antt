@@ -11,7 +11,7 @@ low-bits-requires c κs = search rules
 returns : tie.Need-returns-then-left
 returns c =
     let a = c.args in
-    kept-left a.lane-bits a.shift c.if-left.true c.low_bits.ensures
+    kept-left a.lane_bits a.shift c.if-left.true c.low_bits.ensures
 
 unsigned-max-requires : tie.Need-unsigned_max-requires
 unsigned-max-requires c κs = search rules
@@ -25,12 +25,12 @@ low-bits-requires-2 c κs = search rules
 sub-result : tie.Need-overflow_sub-result
 sub-result c =
     let a = c.args in
-    low-le a.lane-bits a.shift c.unsigned_max.ensures c.low_bits-2.ensures
+    low-le a.lane_bits a.shift c.unsigned_max.ensures c.low_bits-2.ensures
 
 returns-2 : tie.Need-returns
 returns-2 c =
     let a = c.args in
-    kept-right a.lane-bits a.shift c.if-left.false c.unsigned_max.ensures c.low_bits-2.ensures
+    kept-right a.lane_bits a.shift c.if-left.false c.unsigned_max.ensures c.low_bits-2.ensures
 
 pub kept_bits_spec : {M : Type 1} → statement M
 kept_bits_spec =

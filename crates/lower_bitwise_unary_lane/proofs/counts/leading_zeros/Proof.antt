@@ -32,7 +32,7 @@ zeros-at-requires c κs =
     omega (arith, t.requires, (so_far c.before.before.before).sized, t.loop-i-test.true)
 
 add-i : tie.Need-overflow_add-i invariant-loop-i decreases-loop-i
-add-i c = omega (arith, c.loop-i-test.true, c.fits.bits)
+add-i c = omega (arith, c.loop-i-test.true, c.ranges.bits.fits)
 
 loop-less : tie.Need-loop-i-smaller invariant-loop-i decreases-loop-i
 loop-less c = omega (arith, c.loop-i-test.true)

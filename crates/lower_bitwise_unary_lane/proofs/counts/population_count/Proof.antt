@@ -14,7 +14,7 @@ decreases-loop-i pool₀ count value base lane-bits acc₀ i₀ pool acc i = lan
 
 -- the bits so far, over the pool at entry
 so_far : (c : tie.At-loop-i invariant-loop-i decreases-loop-i) → let a = c.args in
-    BitsTo a.pool.now a.count c.loop-i.pool c.loop-i.acc 3 a.base.0 a.lane-bits a.value (count_to a.lane-bits) c.loop-i.i
+    BitsTo a.pool.now a.count c.loop-i.pool c.loop-i.acc 3 a.base.0 a.lane_bits a.value (count_to a.lane_bits) c.loop-i.i
 so_far c =
     let s = c in
     c.loop-i.invariant.1 _ (bits_none 3 (count_to s.args.lane_bits) 0 s.requires.1.1 s.requires.1.2 (omega arith) (count_none s.args.lane_bits) c.konst-acc.ensures)
@@ -31,7 +31,7 @@ count-at-requires c κs =
     omega (arith, t.requires, (so_far c.before.before.before).sized, t.loop-i-test.true)
 
 add-i : tie.Need-overflow_add-i invariant-loop-i decreases-loop-i
-add-i c = omega (arith, c.loop-i-test.true, c.fits.lane-bits)
+add-i c = omega (arith, c.loop-i-test.true, c.ranges.lane_bits.fits)
 
 loop-less : tie.Need-loop-i-smaller invariant-loop-i decreases-loop-i
 loop-less c = omega (arith, c.loop-i-test.true)

@@ -21,8 +21,8 @@ abbrev decreases-loop-i : tie.decreases-loop-i
 decreases-loop-i pool₀ count value base lane-bits top highest acc₀ i₀ pool acc i = lane-bits - i
 
 -- the bits so far, over the pool at entry
-so_far : (c : tie.At-loop-i invariant-loop-i decreases-loop-i) → let a = c.args in (wa : ℕ) → a.base.0 + a.lane-bits ≤ wa
-    → LanesTo a.pool.now a.count c.loop-i.pool c.loop-i.acc 2 1 unread (read a.value wa) unread (reversed_from a.base.0 a.lane-bits)
+so_far : (c : tie.At-loop-i invariant-loop-i decreases-loop-i) → let a = c.args in (wa : ℕ) → a.base.0 + a.lane_bits ≤ wa
+    → LanesTo a.pool.now a.count c.loop-i.pool c.loop-i.acc 2 1 unread (read a.value wa) unread (reversed_from a.base.0 a.lane_bits)
     (a.value.0 ∷ []) c.loop-i.i
 so_far c wa h =
     let s = c in
@@ -67,7 +67,7 @@ concat-lanes-requires c κs =
     (room-concat b.requires.0 (omega arith) t.loop-i-test.true (sized c.before.before.before.before.before.before.before.before.before) n, (n.under, lt_of_lt_of_le (sized c.before.before.before.before.before.before.before.before.before).under n.more))
 
 add-i : tie.Need-overflow_add-i invariant-loop-i decreases-loop-i
-add-i c = omega (arith, c.loop-i-test.true, c.fits.lane-bits)
+add-i c = omega (arith, c.loop-i-test.true, c.ranges.lane_bits.fits)
 
 loop-less : tie.Need-loop-i-smaller invariant-loop-i decreases-loop-i
 loop-less c = omega (arith, c.loop-i-test.true)
