@@ -47,22 +47,22 @@ add-result-5 : tie.Need-overflow_add-result-in-DoublingMultiplyHigh
 add-result-5 c = search rules
 
 returns : tie.Need-returns-in-AddSub
-returns c = rw c.enum_told-1.given.1 refl
+returns c = rw c.in-AddSub.is refl
 
 returns-2 : tie.Need-returns-in-Halving
-returns-2 c = rw c.enum_told-in-Halving-1.given.1 refl
+returns-2 c = rw c.in-Halving.is refl
 
 returns-3 : tie.Need-returns-in-Narrow
-returns-3 c = rw c.enum_told-in-Narrow-1.given.1 refl
+returns-3 c = rw c.in-Narrow.is refl
 
 returns-4 : tie.Need-returns-in-ShiftNarrow
-returns-4 c = rw c.enum_told-in-ShiftNarrow-1.given.1 refl
+returns-4 c = rw c.in-ShiftNarrow.is refl
 
 returns-5 : tie.Need-returns-in-Unary
-returns-5 c = rw c.enum_told-in-Unary-1.given.1 refl
+returns-5 c = rw c.in-Unary.is refl
 
 returns-6 : tie.Need-returns-in-DoublingMultiplyHigh
-returns-6 c = rw c.enum_told-in-DoublingMultiplyHigh-1.given.1 refl
+returns-6 c = rw c.in-DoublingMultiplyHigh.is refl
 
 pub exact_bits_spec : {M : Type 1} → statement M
 exact_bits_spec =

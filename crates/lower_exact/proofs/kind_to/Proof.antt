@@ -23,22 +23,22 @@ enum-told-3 : tie.Need-enum_told-in-DoublingMultiplyHigh
 enum-told-3 c = search rules
 
 returns : tie.Need-returns-in-AddSub
-returns c = rw c.kind-1.given.1 refl
+returns c = rw c.in-AddSub.is refl
 
 returns-2 : tie.Need-returns-in-Halving
 returns-2 c = search rules
 
 returns-3 : tie.Need-returns-in-Narrow
-returns-3 c = rw c.kind-in-Narrow-1.given.1 refl
+returns-3 c = rw c.in-Narrow.is refl
 
 returns-4 : tie.Need-returns-in-ShiftNarrow
 returns-4 c = search rules
 
 returns-5 : tie.Need-returns-in-Unary
-returns-5 c = rw c.enum_told-in-Unary-1.given.1 refl
+returns-5 c = rw c.in-Unary.is refl
 
 returns-6 : tie.Need-returns-in-DoublingMultiplyHigh
-returns-6 c = rw c.enum_told-in-DoublingMultiplyHigh-1.given.1 refl
+returns-6 c = rw c.in-DoublingMultiplyHigh.is refl
 
 pub kind_to_spec : {M : Type 1} → statement M
 kind_to_spec =

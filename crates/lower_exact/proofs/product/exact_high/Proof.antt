@@ -48,7 +48,7 @@ returns c =
     let down = c in
     let d = c in
     let a = d.args in
-    high a.lane-bits a.rounding d.power-half.ensures d.double-doubled.ensures down.shift_down.ensures
+    high a.lane_bits a.rounding d.power-half.ensures d.double-doubled.ensures down.shift_down.ensures
 
 pub exact_high_spec : {M : Type 1} → statement M
 exact_high_spec =
