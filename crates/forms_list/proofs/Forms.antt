@@ -48,6 +48,7 @@ good-one c h =
 
 good-in : (cs : List Instruction) (c : Instruction) → good cs ≡ true → Memᴰ c cs → Legal c × Chosen c
 unfolding good
+good-in [] c h x = elim x [ ]
 good-in (x ∷ cs) c h (Memᴰ.head e) =
     subst (λ (y : Instruction). Legal y × Chosen y) (sym e) (good-one x (and_both (eqb (record_number x) 0 && chosen x) (good cs) h).0)
 good-in (x ∷ cs) c h (Memᴰ.tail m) = good-in cs c (and_both (eqb (record_number x) 0 && chosen x) (good cs) h).1 m
