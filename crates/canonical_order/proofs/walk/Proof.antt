@@ -47,8 +47,8 @@ returns c =
     let a = c.args in
     let l = c.loop-s in
     let e : l.s.depth ≡ 0 = omega (arith, c.loop-s-test.false) in
-    ended a.pool.now a.class.now a.root.0 l.number l.order l.s.count l.stack-1
-    (subst (λ (x : ℕ). Walking a.pool.now a.class.now a.root.0 l.number l.order l.s.count l.stack-1 x) e l.invariant)
+    ended a.pool.now a.class.now a.root.0 l.number l.order l.s.count l.stack
+    (subst (λ (x : ℕ). Walking a.pool.now a.class.now a.root.0 l.number l.order l.s.count l.stack x) e l.invariant)
 
 pub walk_spec : {M : Type 1} → statement M
 walk_spec =
