@@ -58,7 +58,7 @@ returns c =
     let l = s.requires.1.1.1.0 in
     let e = at-node.node_at-n.ensures.0 in
     let w = new-words ws a.class.now a.root.0 s.requires.0.0 (λ i. omega (arith, known i)) s.requires.1.0 a.number.now a.order.now a.k N a.j.0 l in
-    one_more ws a.root.0 a.j.0 a.out.now at_push.push.new.0 _ _ _ _ (omega (arith, N.count, l)) (omega (arith, l, s.requires.1.1.1.1)) at_push.push.ensures.words (
+    one_more ws a.root.0 a.j.0 a.out.now at_push.push.new.pool _ _ _ _ (omega (arith, N.count, l)) (omega (arith, l, s.requires.1.1.1.1)) at_push.push.ensures.words (
       at-word.kind_word_at.ensures ∙ ap (λ (m : ℕ). get_or ws (4 * m) 0) e ∙ w.0,
       at-operands.new_operands-w1.ensures ∙ ap (new_operands ws a.class.now a.number.now) e ∙ w.1,
       at_low.low.ensures ∙ ap (λ (m : ℕ). word_at ws m 2) e ∙ w.2,
