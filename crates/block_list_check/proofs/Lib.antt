@@ -1,4 +1,2 @@
--- The walk of `block_refusal`, and what it shares with the walks of block_list.
+-- The first record of a list that is refused, for `block_refusal`; block_list cites it too.
 pub mod Listed
-pub mod Locals
-pub mod Six
