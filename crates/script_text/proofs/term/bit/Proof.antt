@@ -1,6 +1,6 @@
 -- `bit` gives the character of bit k of two words, 0 for bit 128.
 use mathlib.Core.Path.{◌≡◌, sym, ap, ◌∙◌}
-use Prim.Native.Nat.{ℕ, ◌+◌, ◌-◌, ◌/◌, ◌%◌, ◌^◌}
+use Prim.Native.Nat.{ℕ, ◌+◌, ◌/◌, ◌%◌, ◌^◌}
 use native.Mathlib.Omega.{arith}
 use Rattle.pool.specs.Node.{wide}
 use Rattle.script_text.proofs.Bits.{low_bit, high_part, top_bit}

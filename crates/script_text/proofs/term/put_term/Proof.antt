@@ -159,12 +159,12 @@ second-requires-2 c κs = search rules
 
 put-two-requires : tie.Need-put_two-requires
 put-two-requires c κs =
-    let two = c in
-    let s = two-entry two in
+    let two = c.before in
+    let s = c in
     let r = s.requires.0.0 in (
       (
         two_from two,
-        kind-below (pool s) (node s) r s.args.k s.requires.0.1,
+        kind-below (pool (two-entry two)) (node (two-entry two)) r s.args.k s.requires.0.1,
         omega (arith, two.first-then-k-lt-ZERO_EXTEND.ensures, (two_is two).less-a, r.inside),
         omega (arith, two.second-then-k-lt-ZERO_EXTEND.ensures, (two_is two).less-b, r.inside),
       ),
