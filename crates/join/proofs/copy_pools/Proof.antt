@@ -64,7 +64,7 @@ loop-again c =
     let more = tested.loop-m-test.true in (
       omega arith,
       omega arith,
-      λ x y. second_at a.first.now a.c a.second.now a.d x y s.requires.1.0.1 s.requires.0.2 _ l.out-1 _ l.m l.invariant.1 more (omega (arith, long c.before.before.before.before.before))
+      λ x y. second_at a.first.now a.c a.second.now a.d x y s.requires.1.0.1 s.requires.0.2 _ l.out _ l.m l.invariant.1 more (omega (arith, long c.before.before.before.before.before))
           (moved-parts a.second.now a.d l.m s.requires.0.0 more a.c) moved.move_one.ensures (l.invariant.2 x y),
     )
 
@@ -78,7 +78,7 @@ returns c x y =
     let a = half.args in
     let l = t.loop-m in
     let e : l.m + a.c - 32 ≡ a.c + a.d - 32 = omega arith in
-    rw e at (from-half a.first.now a.c a.second.now a.d x y a.out.now _ l.out-1 (l.m + a.c - 32) (omega arith) half.copy_first.ensures (l.invariant.2 x y))
+    rw e at (from-half a.first.now a.c a.second.now a.d x y a.out.now _ l.out (l.m + a.c - 32) (omega arith) half.copy_first.ensures (l.invariant.2 x y))
 
 pub copy_pools_spec : {M : Type 1} → statement M
 copy_pools_spec =
