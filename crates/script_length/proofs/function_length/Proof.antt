@@ -5,7 +5,7 @@ use Prim.Native.Nat.{ℕ}
 use lib.ListN.{length}
 use Rattle.pool.specs.Node.{kind_at, kinds}
 use Rattle.script_meaning.specs.Script.{function_of}
-use Rattle.script_text.proofs.Spelling.{above, last-kind}
+use Rattle.script_text.proofs.Spelling.{last-kind}
 use Rattle.script_length.proofs.function_length.Statement.{statement}
 use Rattle.script_length.proofs.function_length.Tie as tie
 
@@ -76,17 +76,7 @@ returns-16 c = (sym (ap (λ (k : ℕ). length (function_of (kind_at k))) {y = 18
 returns-17 : tie.Need-returns-in_default
 unfolding kind_at kinds
 returns-17 c =
-    let st = c in
-    let k = st.args.k in
-    let m = c.match.rest in (
-      sym (ap (λ (k : ℕ). length (function_of (kind_at k))) {x = k} {y = 19} (last-kind k (above k 18 (above k 17 (above k 16 (above k 15 (above k 14 (above k 13
-          (above k 12 (above k 11 (above k 10 (above k 9 (above k 8 (above k 7 (above k 6 (above k 5 (above k 4 (above k 3 st.requires.0
-          m.0.0.0.0.0.0.0.0.0.0.0.0.0.0.0.1) m.0.0.0.0.0.0.0.0.0.0.0.0.0.0.1) m.0.0.0.0.0.0.0.0.0.0.0.0.0.1)
-          m.0.0.0.0.0.0.0.0.0.0.0.0.1) m.0.0.0.0.0.0.0.0.0.0.0.1) m.0.0.0.0.0.0.0.0.0.0.1) m.0.0.0.0.0.0.0.0.0.1)
-          m.0.0.0.0.0.0.0.0.1) m.0.0.0.0.0.0.0.1) m.0.0.0.0.0.0.1) m.0.0.0.0.0.1) m.0.0.0.0.1) m.0.0.0.1)
-          m.0.0.1) m.0.1) m.1) st.requires.1)),
-      omega arith,
-    )
+    (sym (ap (λ (k : ℕ). length (function_of (kind_at k))) {x = c.args.k} {y = 19} (last-kind c.args.k (omega arith) c.requires.1)), omega arith)
 
 pub function_length_spec : {M : Type 1} → statement M
 function_length_spec =
