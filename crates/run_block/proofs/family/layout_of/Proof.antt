@@ -55,28 +55,28 @@ laid-out-requires-8 : tie.Need-laid_out-requires-in-HighNarrow
 laid-out-requires-8 c κs = search rules
 
 returns : tie.Need-returns-in-Shift
-returns c = rw c.enum_told-1.given.1 c.laid_out.ensures
+returns c = rw c.in-Shift.is c.laid_out.ensures
 
 returns-2 : tie.Need-returns-in-ShiftInsert
-returns-2 c = rw c.enum_told-in-ShiftInsert-1.given.1 c.laid_out-in-ShiftInsert.ensures
+returns-2 c = rw c.in-ShiftInsert.is c.laid_out-in-ShiftInsert.ensures
 
 returns-3 : tie.Need-returns-in-MixedSignAdd
-returns-3 c = rw c.enum_told-in-MixedSignAdd-1.given.1 c.laid_out-in-MixedSignAdd.ensures
+returns-3 c = rw c.in-MixedSignAdd.is c.laid_out-in-MixedSignAdd.ensures
 
 returns-4 : tie.Need-returns-in-DoublingLong
-returns-4 c = rw c.op-1.given.1 c.laid_out-in-DoublingLong.ensures
+returns-4 c = rw c.in-DoublingLong.is c.laid_out-in-DoublingLong.ensures
 
 returns-5 : tie.Need-returns-in-Saturating
-returns-5 c = rw c.op-in-Saturating-1.given.1 (rw c.narrowing.ensures at c.laid_out-in-Saturating.ensures)
+returns-5 c = rw c.in-Saturating.is (rw c.narrowing.ensures at c.laid_out-in-Saturating.ensures)
 
 returns-6 : tie.Need-returns-in-BitwiseUnary
-returns-6 c = rw c.enum_told-in-BitwiseUnary-1.given.1 c.laid_out-in-BitwiseUnary.ensures
+returns-6 c = rw c.in-BitwiseUnary.is c.laid_out-in-BitwiseUnary.ensures
 
 returns-7 : tie.Need-returns-in-AbsoluteDifference
-returns-7 c = rw c.enum_told-in-AbsoluteDifference-1.given.1 c.laid_out-in-AbsoluteDifference.ensures
+returns-7 c = rw c.in-AbsoluteDifference.is c.laid_out-in-AbsoluteDifference.ensures
 
 returns-8 : tie.Need-returns-in-HighNarrow
-returns-8 c = rw c.enum_told-in-HighNarrow-1.given.1 c.laid_out-in-HighNarrow.ensures
+returns-8 c = rw c.in-HighNarrow.is c.laid_out-in-HighNarrow.ensures
 
 pub layout_of_spec : {M : Type 1} → statement M
 layout_of_spec =

@@ -20,47 +20,38 @@ invariant-loop-j op n m k skip element index d a b acc₀ saturated₀ j₀ acc 
 abbrev decreases-loop-j : tie.decreases-loop-j
 decreases-loop-j op n m k skip element index d a b acc₀ saturated₀ j₀ acc saturated j = k - j
 
--- ---- a turn: the entry before it, its lane, and where the lane's bits are
+-- ---- a turn: where the lane's bits are
 
 module _ (c : tie.In-loop-j invariant-loop-j decreases-loop-j) where
-  abbrev entry : tie.Start invariant-loop-j decreases-loop-j
-  entry = c.before.before
+  place : c.args.n * c.loop-j.j + c.args.n ≤ 128
+  place = c.requires.4.lane_in c.loop-j.j c.loop-j-test.true
 
-  abbrev j : ℕ
-  j = c.before.loop-j.j
+  first : c.args.m * (c.loop-j.j + c.args.skip) + c.args.m ≤ 128
+  first = c.requires.4.first_in c.loop-j.j c.loop-j-test.true
 
-  place : entry.args.n * j + entry.args.n ≤ 128
-  place = entry.requires.4.lane_in j c.loop-j-test.true
+  near : c.loop-j.j + c.args.skip ≤ 128
+  near = omega (arith, first, le-times c.args.m (c.loop-j.j + c.args.skip) c.requires.1)
 
-  first : entry.args.m * (j + entry.args.skip) + entry.args.m ≤ 128
-  first = entry.requires.4.first_in j c.loop-j-test.true
-
-  near : j + entry.args.skip ≤ 128
-  near = omega (arith, first, le-times entry.args.m (j + entry.args.skip) entry.requires.1)
-
-  n-le : entry.args.n ≤ 64
-  n-le = at_most entry.args.n entry.requires.4.n_word
+  n-le : c.args.n ≤ 64
+  n-le = at_most c.args.n c.requires.4.n_word
 
 -- ---- the turn, from where the second source's lane is known and from the lane that is made
 
-second : (c : tie.After-second_at invariant-loop-j decreases-loop-j) → let a = (entry c).args in a.m * c.second_at.result.0 + a.m ≤ 128
+second : (c : tie.After-second_at invariant-loop-j decreases-loop-j) → let a = c.args in a.m * c.second_at.result.0 + a.m ≤ 128
 second c =
-    let t = c in
-    let a = (entry t).args in
-    subst (λ (k : ℕ). a.m * k + a.m ≤ 128) (sym c.second_at.ensures) ((entry t).requires.4.second_in (j t) t.loop-j-test.true)
+    let a = c.args in
+    subst (λ (k : ℕ). a.m * k + a.m ≤ 128) (sym c.second_at.ensures) (c.requires.4.second_in c.loop-j.j c.loop-j-test.true)
 
 -- the lanes that are read
-lane-is : (c : tie.After-lane_at-l invariant-loop-j decreases-loop-j) → let t = c in let a = (entry t).args in
-    Answers (lane_by a.op a.n a.m a.skip a.element a.index.0 (number a.d) (number a.a) (number a.b) (j t))
-    (beyond_by a.op a.n a.m a.skip a.element a.index.0 (number a.d) (number a.a) (number a.b) (j t))
+lane-is : (c : tie.After-lane_at-l invariant-loop-j decreases-loop-j) → let a = c.args in
+    Answers (lane_by a.op a.n a.m a.skip a.element a.index.0 (number a.d) (number a.a) (number a.b) c.loop-j.j)
+    (beyond_by a.op a.n a.m a.skip a.element a.index.0 (number a.d) (number a.a) (number a.b) c.loop-j.j)
     c.lane_at-l.result.bits c.lane_at-l.result.saturated
 unfolding lane
 lane-is c =
-    let a = (entry c).args in
-    let of-b = c in
-    let of-a = c in
-    answers_at a.op a.n of-a.bits_at.ensures of-a.bits_at-in-loop-j.ensures
-    (c.bits_at-in-loop-j-2.ensures ∙ ap (λ (t : ℕ). number a.b / 2 ^ (a.m * t) % 2 ^ a.m) of-b.second_at.ensures)
+    let a = c.args in
+    answers_at a.op a.n c.bits_at.ensures c.bits_at-in-loop-j.ensures
+    (c.bits_at-in-loop-j-2.ensures ∙ ap (λ (t : ℕ). number a.b / 2 ^ (a.m * t) % 2 ^ a.m) c.second_at.ensures)
     c.lane_at-l.ensures
 
 -- ---- needs
@@ -73,8 +64,8 @@ mul-lane-at c = omega (arith, place c)
 
 bits-at-requires : tie.Need-bits_at-requires invariant-loop-j decreases-loop-j
 bits-at-requires c κs =
-    let s = entry c in
-    (omega (arith, place c, s.requires.0), in-word s.args.n (j c) s.requires.0 s.requires.4.n_word)
+    let s = c in
+    (omega (arith, place c, s.requires.0), in-word s.args.n c.loop-j.j s.requires.0 s.requires.4.n_word)
 
 add-t19 : tie.Need-overflow_add-j invariant-loop-j decreases-loop-j
 add-t19 c = omega (arith, near c.before)
@@ -84,7 +75,7 @@ mul-t20 c = omega (arith, first c.before)
 
 bits-at-requires-2 : tie.Need-bits_at-requires-in-loop-j invariant-loop-j decreases-loop-j
 bits-at-requires-2 c κs =
-    let s = entry c.before in
+    let s = c in
     (omega (arith, first c.before, s.requires.1), in-word s.args.m _ s.requires.1 s.requires.4.m_word)
 
 second-at-requires : tie.Need-second_at-requires invariant-loop-j decreases-loop-j
@@ -95,26 +86,25 @@ mul-t25 c = omega (arith, second c.before)
 
 bits-at-requires-3 : tie.Need-bits_at-requires-in-loop-j-2 invariant-loop-j decreases-loop-j
 bits-at-requires-3 c κs =
-    let s = entry c.before in
+    let s = c in
     (omega (arith, second c.before, s.requires.1), in-word s.args.m _ s.requires.1 s.requires.4.m_word)
 
 lane-at-requires : tie.Need-lane_at-l-requires invariant-loop-j decreases-loop-j
 lane-at-requires c κs =
-    let t = c in
-    let s = entry t in
-    let of-a = c in (
+    let t = c.before.before.before.before.before in
+    let s = c in (
       s.requires.0,
       n-le t,
-      rw of-a.bits_at.ensures (mod-lt _ (pow_pos _)),
-      subst (λ (t : ℕ). of-a.bits_at-in-loop-j.result < 2 ^ t)
-          s.requires.2 (rw of-a.bits_at-in-loop-j.ensures (mod-lt _ (pow_pos _))),
+      rw c.bits_at.ensures (mod-lt _ (pow_pos _)),
+      subst (λ (t : ℕ). c.bits_at-in-loop-j.result < 2 ^ t)
+          s.requires.2 (rw c.bits_at-in-loop-j.ensures (mod-lt _ (pow_pos _))),
       subst (λ (t : ℕ). c.bits_at-in-loop-j-2.result < 2 ^ t) s.requires.2
           (rw c.bits_at-in-loop-j-2.ensures (mod-lt _ (pow_pos _))),
       s.requires.3,
     )
 
 shl-requires : tie.Need-shl-requires invariant-loop-j decreases-loop-j
-shl-requires c κs = omega (arith, place c)
+shl-requires c κs = omega (arith, place c.before.before.before.before.before.before)
 
 add-requires : tie.Need-add-acc-requires invariant-loop-j decreases-loop-j
 add-requires c κs = tt
@@ -127,15 +117,14 @@ loop-less c = omega arith
 
 loop-again : tie.Need-loop-j-preserved invariant-loop-j decreases-loop-j
 loop-again c =
-    let at-shl = c in
-    let l = c in
-    let t = c in
-    let s = entry t in (
+    let made = c.before.before.before in
+    let t = made.before.before.before.before.before.before in
+    let s = c in (
       omega (arith, t.loop-j-test.true),
       one_more s.args.n s.args.k _ _
           (lane-by-lt s.args.op s.args.n s.args.m s.args.skip s.args.element s.args.index.0 _ _ _ s.requires.0 (n-le t)
-          s.requires.2 s.requires.3) (j t) _ _ _ _ _ _ t.loop-j.invariant.1 (place t) (lane-is c.before.before.before).bits_are (lane-is c.before.before.before).saturated_is
-          at-shl.shl.ensures c.add-acc.ensures,
+          s.requires.2 s.requires.3) c.loop-j.j _ _ _ _ _ _ t.loop-j.invariant.1 (place t) (lane-is made).bits_are (lane-is made).saturated_is
+          c.shl.ensures c.add-acc.ensures,
     )
 
 returns : tie.Need-returns invariant-loop-j decreases-loop-j
