@@ -66,7 +66,7 @@ module _ (bs : List ℕ) where
         number_is = sym (ap (λ (x : Refusal). x.number) e);
         position_is = sym (ap (λ (x : Refusal). x.position) e);
         count_is = rw e;
-        list_is = rw e (w.after-is ∙ sets-eq (records_in bs) old 0 (omega arith) ∙ ap (λ (k : ℕ). records_in bs ++ drop k old) (zero-add (length (records_in bs))));
+        list_is = rw e (w.after_is ∙ sets-eq (records_in bs) old 0 (omega arith) ∙ ap (λ (k : ℕ). records_in bs ++ drop k old) (zero-add (length (records_in bs))));
       }
 
 -- ---- writing
@@ -119,5 +119,5 @@ module _ (fs : List ℕ) where
         number_is = sym (ap (λ (x : Refusal). x.number) e);
         position_is = sym (ap (λ (x : Refusal). x.position) e);
         count_is = rw e;
-        list_is = rw e (w.after-is ∙ sets-eq (words_in fs) old 0 (omega arith) ∙ ap (λ (k : ℕ). words_in fs ++ drop k old) (zero-add (length (words_in fs))));
+        list_is = rw e (w.after_is ∙ sets-eq (words_in fs) old 0 (omega arith) ∙ ap (λ (k : ℕ). words_in fs ++ drop k old) (zero-add (length (words_in fs))));
       }

@@ -16,24 +16,24 @@ use Rattle.run_lines.proofs.put_line.Tie as tie
 -- ---- places, and how far the line has come there, in a buffer of the same length
 
 from-digits : (c : tie.After-put_register-a) → let a = c.args in
-    (c.put_register-a.result ≡ a.at + 32) × (length c.put_register-a.new.1.1.0 ≡ length a.buf.now)
+    (c.put_register-a.result ≡ a.at + 32) × (length c.put_register-a.new.buf ≡ length a.buf.now)
 from-digits c =
     let w = c.put_register-a.ensures in
     (omega (arith, w.next_is, digits-length 32 (number c.args.new)), wrote-length w)
 
-from-blank : (c : tie.After-put-b) → let a = c.args in (c.put-b.result ≡ a.at + 34) × (length c.put-b.new.1.0 ≡ length a.buf.now)
+from-blank : (c : tie.After-put-b) → let a = c.args in (c.put-b.result ≡ a.at + 34) × (length c.put-b.new.buf ≡ length a.buf.now)
 from-blank c =
     let w = c.put-b.ensures in
     let f = from-digits c.before.before.before.before.before.before in
     (omega (arith, f.0, w.next_is), omega (arith, f.1, wrote-length w))
 
-from-name : (c : tie.After-put_decimal-c) → let a = c.args in (c.put_decimal-c.result ≤ a.at + 36) × (length c.put_decimal-c.new.1.0 ≡ length a.buf.now)
+from-name : (c : tie.After-put_decimal-c) → let a = c.args in (c.put_decimal-c.result ≤ a.at + 36) × (length c.put_decimal-c.new.buf ≡ length a.buf.now)
 from-name c =
     let w = c.put_decimal-c.ensures in
     let f = from-blank c.before.before.before.before in
     (omega (arith, f.0, w.next_is, register-short c.args.r c.requires.0), omega (arith, f.1, wrote-length w))
 
-from-mark : (c : tie.After-put_mark-e) → let a = c.args in (c.put_mark-e.result ≤ a.at + 38) × (length c.put_mark-e.new.1.0 ≡ length a.buf.now)
+from-mark : (c : tie.After-put_mark-e) → let a = c.args in (c.put_mark-e.result ≤ a.at + 38) × (length c.put_mark-e.new.buf ≡ length a.buf.now)
 from-mark c =
     let w = c.put_mark-e.ensures in
     let f = from-name c.before.before.before.before.before in

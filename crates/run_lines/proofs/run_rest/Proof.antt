@@ -43,7 +43,7 @@ array-share-prefix-records c = omega (arith, fit c.before)
 slice-aggregate-run : tie.Need-slice_bounds-run-end
 slice-aggregate-run c =
     let e = c in
-    omega (arith, fit c.before.before, length-take (6 * e.read_lines-read.result.count) e.read_lines-read.new.1.0)
+    omega (arith, fit c.before.before, length-take (6 * e.read_lines-read.result.count) e.read_lines-read.new.records)
 
 run-requires : tie.Need-run-ran-requires
 run-requires c κs = search rules

@@ -16,11 +16,11 @@ enum-told-2 c = search rules
 
 returns : tie.Need-returns-in-Record
 returns c =
-    sym (ap is_record (sym c.decode_word-r.ensures ∙ c.enum_told-1.given.1))
+    sym (ap is_record (sym c.decode_word-r.ensures ∙ c.in-Record.is))
 
 returns-2 : tie.Need-returns-in_default
 returns-2 c =
-    sym (ap is_record (sym c.decode_word-r.ensures ∙ c.enum_told-in_default-1.given.1))
+    sym (ap is_record (sym c.decode_word-r.ensures ∙ c.in_default.is))
 
 pub is_record_spec : {M : Type 1} → statement M
 is_record_spec = tie.close (tie.spec decode-word-requires enum_told enum-told-2 returns returns-2)

@@ -17,13 +17,13 @@ use Rattle.words_lists.proofs.list_word.Tie as tie
 
 -- ---- the record, which is legal
 
-abbrev form : tie.In-Record-2 → Instruction
-form r = r.r-1.given.0.0
+abbrev form : tie.In-Record → Instruction
+form r = r.in-Record.c
 
-is : (r : tie.In-Record-2) → decode r.args.w ≡ Record (form r)
-is r = sym r.decode_word-r.ensures ∙ r.r-1.given.1
+is : (r : tie.In-Record) → decode r.args.w ≡ Record (form r)
+is r = sym r.decode_word-r.ensures ∙ r.in-Record.is
 
-legal : (r : tie.In-Record-2) → Legal (form r)
+legal : (r : tie.In-Record) → Legal (form r)
 legal r = ((decoded-where r.args.w (form r)).0 (is r)).0
 
 -- ---- needs
@@ -41,14 +41,14 @@ returns : tie.Need-returns-in_default
 returns c =
     let p = c in
     let a = p.args in
-    (wrote_as (ap listed (sym p.decode_word-r.ensures ∙ c.enum_told-1.given.1)) (wrote_none a.out.now a.at), omega arith)
+    (wrote_as (ap listed (sym p.decode_word-r.ensures ∙ c.in_default.is)) (wrote_none a.out.now a.at), omega arith)
 
 put-line-requires : tie.Need-put_line-requires
 put-line-requires c κs =
     let r = c in
-    let s = small (form c.before.before) (legal c.before.before) in (
+    let s = small (form c.before) (legal c.before) in (
       (s.operation-small, s.arrangement-small, s.i-small, s.d_small, s.n-small, s.m-small),
-      record { room = omega (arith, line-length (form c.before.before) (legal c.before.before), r.requires) },
+      record { room = omega (arith, line-length (form c.before) (legal c.before), r.requires) },
     )
 
 same_length : tie.Need-shape_of-out
@@ -59,7 +59,7 @@ returns-2 c =
     let q = c in
     let r = c in
     let w = q.put_line.ensures in
-    (wrote_as (ap listed (is c.before.before.before.before.before)) w, omega (arith, w.next_is, line-length (form c.before.before.before.before.before) (legal c.before.before.before.before.before)))
+    (wrote_as (ap listed (is c.before.before.before.before)) w, omega (arith, w.next_is, line-length (form c.before.before.before.before) (legal c.before.before.before.before)))
 
 pub list_word_spec : {M : Type 1} → statement M
 list_word_spec = tie.close (tie.spec decode-word-requires enum-known-r enum_told returns put-line-requires same_length returns-2)

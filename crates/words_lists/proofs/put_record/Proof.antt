@@ -10,8 +10,8 @@ use Rattle.words_lists.proofs.put_record.Tie as tie
 
 -- ---- places: the decoded word, from its record, and the entry
 
-is : (r : tie.In-Record-2) → decode r.args.w ≡ Record r.r-1.given.0.0
-is r = sym r.decode_word-r.ensures ∙ r.r-1.given.1
+is : (r : tie.In-Record) → decode r.args.w ≡ Record r.in-Record.c
+is r = sym r.decode_word-r.ensures ∙ r.in-Record.is
 
 -- ---- needs
 
@@ -28,12 +28,12 @@ returns : tie.Need-returns-in_default
 returns c =
     let p = c in
     let a = p.args in
-    wrote_as (ap flat (sym p.decode_word-r.ensures ∙ c.enum_told-1.given.1)) (wrote_none a.records.now a.at)
+    wrote_as (ap flat (sym p.decode_word-r.ensures ∙ c.in_default.is)) (wrote_none a.records.now a.at)
 
 put-six-requires : tie.Need-put_six-requires
 put-six-requires c κs =
     let r = c in
-    (room_as (ap flat (is c.before.before)) r.requires).room
+    (room_as (ap flat (is c.before)) r.requires).room
 
 same_length : tie.Need-shape_of-records
 same_length c = search rules
@@ -41,7 +41,7 @@ same_length c = search rules
 returns-2 : tie.Need-returns
 returns-2 c =
     let q = c in
-    wrote_as (ap flat (is c.before.before.before.before.before)) q.put_six.ensures
+    wrote_as (ap flat (is c.before.before.before.before)) q.put_six.ensures
 
 pub put_record_spec : {M : Type 1} → statement M
 put_record_spec =

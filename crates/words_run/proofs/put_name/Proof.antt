@@ -11,11 +11,11 @@ use Rattle.words_run.proofs.put_name.Tie as tie
 
 -- ---- places, and how far the text has come there, in a buffer of the same length
 
-from_front : (c : tie.After-put-a) → let a = c.args in (c.put-a.result ≡ a.at + 12) × (length c.put-a.new.1.0 ≡ length a.out.now)
+from_front : (c : tie.After-put-a) → let a = c.args in (c.put-a.result ≡ a.at + 12) × (length c.put-a.new.buf ≡ length a.out.now)
 from_front c = let w = c.put-a.ensures in (omega (arith, w.next_is), wrote-length w)
 
 from-middle : (c : tie.After-put_decimal-b) → let a = c.args in
-    (c.put_decimal-b.result ≤ a.at + 32) × (length c.put_decimal-b.new.1.0 ≡ length a.out.now)
+    (c.put_decimal-b.result ≤ a.at + 32) × (length c.put_decimal-b.new.buf ≡ length a.out.now)
 from-middle c =
     let w = c.put_decimal-b.ensures in
     let f = from_front c.before.before.before.before in
