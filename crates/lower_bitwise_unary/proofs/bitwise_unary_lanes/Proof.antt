@@ -4,7 +4,7 @@ use Prim.Native.Nat.{◌+◌, ◌*◌, ◌-◌}
 use mathlib.Core.List.{[]}
 use Rattle.lower.specs.Builds.{read, unread}
 use Rattle.lower.proofs.Loop.{Turning, SoFar, begun, so_far, first-asks, lane-asks, concat-asks, again, whole}
-use Rattle.trees.specs.Trees.{bitwise_at, bitwise_unary_lanes}
+use Rattle.trees.specs.Trees.{bitwise_at}
 use Rattle.trees.specs.Arith as Arith
 use Rattle.lower_bitwise_unary.proofs.bitwise_unary_lanes.Statement.{statement}
 use Rattle.lower_bitwise_unary.proofs.bitwise_unary_lanes.Tie as tie

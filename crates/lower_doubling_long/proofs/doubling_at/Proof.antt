@@ -16,8 +16,8 @@ fits c =
     let p = c.requires.1.1 in
     omega (
       arith,
-      factor-fits a.upper a.lane-bits a.lanes p.2 c.source_lane-from.ensures,
-      factor-most a.upper a.lane-bits a.lanes p.3,
+      factor-fits a.upper a.lane_bits a.lanes p.2 c.source_lane-from.ensures,
+      factor-most a.upper a.lane_bits a.lanes p.3,
     )
 
 -- ---- needs

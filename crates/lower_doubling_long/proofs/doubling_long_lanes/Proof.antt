@@ -45,7 +45,7 @@ returns-2 c =
     let l = c in
     let lanes = c in
     let a = lanes.args in
-    by-lane a.lane-bits a.lanes a.element.0 a.combine a.upper a.by-element lanes.if-by_element.false l.doubled_lanes-2.ensures
+    by-lane a.lane_bits a.lanes a.element.0 a.combine a.upper a.by_element lanes.if-by_element.false l.doubled_lanes-2.ensures
 
 pub doubling_long_lanes_spec : {M : Type 1} → statement M
 doubling_long_lanes_spec =

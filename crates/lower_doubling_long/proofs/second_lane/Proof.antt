@@ -17,13 +17,13 @@ extract-lane-requires : tie.Need-extract_lane-requires
 extract-lane-requires c κs =
     let l-second2 = c in
     let st = c in
-    omega (arith, st.requires, rw l-second2.second-in-PerLane-1.given.1 at st.requires.1.0)
+    omega (arith, st.requires, rw l-second2.in-PerLane.is at st.requires.1.0)
 
 returns : tie.Need-returns-in-One
 returns c =
     let l-second = c in
     let st = c in
-    element-one st.args.bits st.args.index.0 l-second.second-1.given.1 (rw l-second.second-1.given.1 at st.requires.1.0) refl refl
+    element-one st.args.bits st.args.index.0 l-second.in-One.is (rw l-second.in-One.is at st.requires.1.0) refl refl
 
 same_length : tie.Need-shape_of-pool
 same_length c = search rules
@@ -32,7 +32,7 @@ returns-2 : tie.Need-returns-in-PerLane
 returns-2 c =
     let l-extract-lane = c in
     let l-second2 = c in
-    element-lane l-second2.second-in-PerLane-1.given.1 l-extract-lane.extract_lane.ensures
+    element-lane l-second2.in-PerLane.is l-extract-lane.extract_lane.ensures
 
 pub second_lane_spec : {M : Type 1} → statement M
 second_lane_spec =

@@ -4,7 +4,7 @@ use Prim.Native.Nat.{◌*◌, ◌-◌}
 use mathlib.Core.List.{[]}
 use Rattle.lower.specs.Builds.{read, unread}
 use Rattle.lower.proofs.Loop.{Turning, SoFar, begun, so_far, first-asks, lane-asks, concat-asks, again, whole}
-use Rattle.trees.specs.Trees.{mixed_at, mixed_sign_add_lanes}
+use Rattle.trees.specs.Trees.{mixed_at}
 use Rattle.trees.specs.Arith as Arith
 use Rattle.lower_mixed_sign_add.proofs.mixed_sign_add_lanes.Statement.{statement}
 use Rattle.lower_mixed_sign_add.proofs.mixed_sign_add_lanes.Tie as tie

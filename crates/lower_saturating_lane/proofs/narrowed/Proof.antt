@@ -27,7 +27,7 @@ returns c =
     let l-extract = c in
     let l-enum-told = c in
     let st = c in
-    narrowed-never st.requires.1.1 st.requires.1.3 l-enum-told.enum_told-1.given.1 l-extract.extract.ensures
+    narrowed-never st.requires.1.1 st.requires.1.3 l-enum-told.in-Never.is l-extract.extract.ensures
 
 same-length-2 : tie.Need-shape_of-pool-in-Into
 same-length-2 c = search rules
@@ -36,7 +36,7 @@ returns-2 : tie.Need-returns-in-Into
 returns-2 c =
     let l-clamp = c in
     let l-to = c in
-    narrowed-into l-to.to-1.given.1 l-clamp.clamp.ensures
+    narrowed-into l-to.in-Into.is l-clamp.clamp.ensures
 
 pub narrowed_spec : {M : Type 1} → statement M
 narrowed_spec =

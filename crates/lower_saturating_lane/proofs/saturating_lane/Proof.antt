@@ -34,7 +34,7 @@ returns c =
     let to = c in
     let bits = c in
     let a = bits.args in
-    saturating a.kind a.lane-bits a.signed-sources bits.exact_bits-wide.ensures to.kind_to-to.ensures
+    saturating a.kind a.lane_bits a.signed_sources bits.exact_bits-wide.ensures to.kind_to-to.ensures
     exact.exact_lane-exact.ensures narrow.narrowed.ensures
 
 pub saturating_lane_spec : {M : Type 1} → statement M

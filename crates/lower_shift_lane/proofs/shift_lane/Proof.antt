@@ -1,18 +1,9 @@
 -- shift_lane builds `shifted_by` for each kind of shift
 use native.Mathlib.Omega.{arith}
 use Rattle.lower_shift_lane.proofs.Shifting.{lane-left, lane-right, lane-register}
-use mathlib.Core.Path.{◌≡◌, subst}
-use Rattle.trees.specs.declared.ShiftKind.{ShiftKind}
-use Rattle.lower_kinds.specs.Sources.{AmountIn}
 use borrow.Author.Rules.{rules}
 use Rattle.lower_shift_lane.proofs.shift_lane.Statement.{statement}
 use Rattle.lower_shift_lane.proofs.shift_lane.Tie as tie
-
--- ---- places: the entry from where an arm's kind is known, and that place from the arm's calls
-
--- what the kind asks of the amount, once it is known to be kind
-amount-in : (s : tie.Start) {kind : ShiftKind} → s.args.kind ≡ kind → AmountIn kind s.args.lane_bits
-amount-in s e = subst (λ (k : ShiftKind). AmountIn k s.args.lane_bits) e s.requires.1.4
 
 -- ---- needs
 
@@ -22,7 +13,7 @@ enum-known-kind c = search rules
 left-immediate-requires : tie.Need-left_immediate-requires
 left-immediate-requires c κs =
     let k = c in
-    omega (arith, k.requires, amount-in k k.kind-1.given.1)
+    omega (arith, k.requires, rw k.in-LeftImmediate.is at k.requires.1.4)
 
 enum-known-kind-2 : tie.Need-enum_known-kind-in-RightImmediate-1
 enum-known-kind-2 c = search rules
@@ -34,7 +25,7 @@ shift-right-requires : tie.Need-shift_right-requires
 shift-right-requires c κs =
     let b = c in
     let s = c in
-    omega (arith, s.requires, b.konst-by.ensures.sized, amount-in s b.kind-in-RightImmediate-1.given.1)
+    omega (arith, s.requires, b.konst-by.ensures.sized, rw b.in-RightImmediate.is at s.requires.1.4)
 
 enum-known-kind-3 : tie.Need-enum_known-kind-in-Register-1
 enum-known-kind-3 c = search rules
@@ -48,7 +39,7 @@ same_length c = search rules
 returns : tie.Need-returns-in-LeftImmediate
 returns c =
     let k = c in
-    lane-left k.args.signed k.kind-1.given.1 c.left_immediate.ensures
+    lane-left k.args.signed k.in-LeftImmediate.is c.left_immediate.ensures
 
 same-length-2 : tie.Need-shape_of-pool-in-RightImmediate
 same-length-2 c = search rules
@@ -59,7 +50,7 @@ returns-2 c =
     let b = c in
     let k = c in
     let s = c in
-    lane-right s.args.signed k.kind-in-RightImmediate-1.given.1 (omega (arith, s.requires)) (amount-in s k.kind-in-RightImmediate-1.given.1).1 s.requires.1.3 b.konst-by.ensures l.shift_right.ensures
+    lane-right s.args.signed k.in-RightImmediate.is (omega (arith, s.requires)) (rw k.in-RightImmediate.is at s.requires.1.4).1 s.requires.1.3 b.konst-by.ensures l.shift_right.ensures
 
 same-length-3 : tie.Need-shape_of-pool-in-Register
 same-length-3 c = search rules
@@ -67,7 +58,7 @@ same-length-3 c = search rules
 returns-3 : tie.Need-returns-in-Register
 returns-3 c =
     let k = c in
-    lane-register k.args.signed k.kind-in-Register-1.given.1 c.shift_register.ensures
+    lane-register k.args.signed k.in-Register.is c.shift_register.ensures
 
 pub shift_lane_spec : {M : Type 1} → statement M
 shift_lane_spec =

@@ -29,7 +29,7 @@ returns c =
     let l-konst = c in
     let l-enum-told = c in
     let st = c in
-    left-wrapping st.args.signed l-enum-told.enum_told-1.given.1 (omega (arith, st.requires)) st.requires.1.1 st.requires.1.2 l-konst.konst-by.ensures l-bv.bv.ensures
+    left-wrapping st.args.signed l-enum-told.in-Never.is (omega (arith, st.requires)) st.requires.1.1 st.requires.1.2 l-konst.konst-by.ensures l-bv.bv.ensures
 
 same-length-2 : tie.Need-shape_of-pool-in-Into
 same-length-2 c = search rules
@@ -39,7 +39,7 @@ returns-2 c =
     let l-saturated-left = c in
     let l-saturate = c in
     let st = c in
-    left-into st.args.shift st.args.signed l-saturate.saturate-1.given.1 l-saturated-left.saturated_left.ensures
+    left-into st.args.shift st.args.signed l-saturate.in-Into.is l-saturated-left.saturated_left.ensures
 
 pub left_immediate_spec : {M : Type 1} → statement M
 left_immediate_spec =

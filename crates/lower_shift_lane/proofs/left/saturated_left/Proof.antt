@@ -1,8 +1,6 @@
 -- saturated_left builds `left_immediate` of a shift that clamps, into each range
 use native.Mathlib.Omega.{arith}
-use Rattle.facts.proofs.Numbers.{not_third}
 use Rattle.lower_shift_lane.proofs.ShiftingLeft.{left-exact, left-clamped}
-use mathlib.Core.Path.{refl}
 use borrow.Author.Rules.{rules}
 use Rattle.lower_shift_lane.proofs.left.saturated_left.Statement.{statement}
 use Rattle.lower_shift_lane.proofs.left.saturated_left.Tie as tie
@@ -21,7 +19,7 @@ returns c =
     let l-exact-shift-left = c in
     let l-enum-told = c in
     let st = c in
-    left-exact st.args.shift st.args.signed l-enum-told.enum_told-1.given.1 l-exact-shift-left.exact_shift_left.ensures
+    left-exact st.args.shift st.args.signed l-enum-told.in-SignedToUnsigned.is l-exact-shift-left.exact_shift_left.ensures
 
 konst-requires : tie.Need-konst-by-requires
 konst-requires c κs = search rules
@@ -36,9 +34,8 @@ returns-2 : tie.Need-returns
 returns-2 c =
     let l-saturating-shift-left = c in
     let l-konst = c in
-    let l-match = c in
     let st = c in
-    left-clamped st.args.to st.args.signed (λ q. not_third _ l-match.in_default.is (rw q refl)) (omega (arith, st.requires)) st.requires.1.1 st.requires.1.2
+    left-clamped st.args.to st.args.signed c.in_default.not-SignedToUnsigned (omega (arith, st.requires)) st.requires.1.1 st.requires.1.2
     l-konst.konst-by.ensures l-saturating-shift-left.saturating_shift_left.ensures
 
 pub saturated_left_spec : {M : Type 1} → statement M

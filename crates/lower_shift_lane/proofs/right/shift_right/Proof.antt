@@ -16,7 +16,7 @@ returns c =
     let l = c in
     let rounds = c in
     let a = rounds.args in
-    right-rounding a.signed a.max-shift rounds.if-rounding.true l.shift_right_rounding.ensures
+    right-rounding a.signed a.max_shift rounds.if-rounding.true l.shift_right_rounding.ensures
 
 shift-op-requires : tie.Need-shift_op-op-requires
 shift-op-requires c κs = search rules
