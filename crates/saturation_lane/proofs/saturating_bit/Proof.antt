@@ -26,7 +26,7 @@ returns c =
     let l-clip = c in
     let lane = c in
     let a = lane.args in
-    saturating a.kind a.to a.lane-bits a.signed-sources lane.exact_bits-wide.ensures lane.requires.1.5
+    saturating a.kind a.to a.lane_bits a.signed_sources lane.exact_bits-wide.ensures lane.requires.1.5
     lane.exact_lane-value.ensures l-clip.clip.ensures
 
 pub saturating_bit_spec : {M : Type 1} → statement M

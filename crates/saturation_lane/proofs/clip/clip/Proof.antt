@@ -75,7 +75,7 @@ returns : tie.Need-returns-in-Signed
 returns c =
     let l-clip-between = c in
     let l-power = c in
-    clip-signed l-power.args.narrow l-power.enum_told-1.given.1 l-power.power.ensures l-power.minus_power-low.ensures refl
+    clip-signed l-power.args.narrow l-power.in-Signed.is l-power.power.ensures l-power.minus_power-low.ensures refl
     l-clip-between.clip_between.ensures
 
 same-length-2 : tie.Need-shape_of-pool-in-Unsigned
@@ -85,7 +85,7 @@ returns-2 : tie.Need-returns-in-Unsigned
 returns-2 c =
     let l-clip-above = c in
     let l-unsigned-max = c in
-    clip-unsigned l-unsigned-max.args.narrow l-unsigned-max.enum_told-in-Unsigned-1.given.1 l-unsigned-max.unsigned_max.ensures refl l-clip-above.clip_above.ensures
+    clip-unsigned l-unsigned-max.args.narrow l-unsigned-max.in-Unsigned.is l-unsigned-max.unsigned_max.ensures refl l-clip-above.clip_above.ensures
 
 same-length-3 : tie.Need-shape_of-pool-in-SignedToUnsigned
 same-length-3 c = search rules
@@ -94,7 +94,7 @@ returns-3 : tie.Need-returns-in-SignedToUnsigned
 returns-3 c =
     let l-clip-between2 = c in
     let l-unsigned-max2 = c in
-    clip-to-unsigned l-unsigned-max2.args.narrow l-unsigned-max2.enum_told-in-SignedToUnsigned-1.given.1 l-unsigned-max2.unsigned_max-in-SignedToUnsigned.ensures refl
+    clip-to-unsigned l-unsigned-max2.args.narrow l-unsigned-max2.in-SignedToUnsigned.is l-unsigned-max2.unsigned_max-in-SignedToUnsigned.ensures refl
     l-clip-between2.clip_between-in-SignedToUnsigned.ensures
 
 pub clip_spec : {M : Type 1} → statement M

@@ -1,6 +1,5 @@
 -- left_bit: SQSHLU by its exact product, the others by what the shift loses.
 use mathlib.Core.Path.{refl}
-use Rattle.facts.proofs.Numbers.{not_third}
 use Rattle.saturation_lane.proofs.Shifts.{left-exact, left-lost}
 use borrow.Author.Rules.{rules}
 use Rattle.saturation_lane.proofs.shift.left_bit.Statement.{statement}
@@ -20,7 +19,7 @@ returns c =
     let l-exact-left-bit = c in
     let l-enum-told = c in
     let st = c in
-    left-exact st.args.shift st.args.lane_bits st.args.signed l-enum-told.enum_told-1.given.1 l-exact-left-bit.exact_left_bit.ensures
+    left-exact st.args.shift st.args.lane_bits st.args.signed l-enum-told.in-SignedToUnsigned.is l-exact-left-bit.exact_left_bit.ensures
 
 konst-requires : tie.Need-konst-by-requires
 konst-requires c κs = search rules
@@ -37,7 +36,7 @@ returns-2 c =
     let l-konst = c in
     let l-match = c in
     let st = c in
-    left-lost {to = st.args.to} st.args.shift st.args.lane_bits st.args.signed st.requires.1.1 st.requires.1.2 (λ q. not_third _ l-match.in_default.is (rw q refl))
+    left-lost {to = st.args.to} st.args.shift st.args.lane_bits st.args.signed st.requires.1.1 st.requires.1.2 l-match.in_default.not-SignedToUnsigned
     l-konst.konst-by.ensures l-lost.lost.ensures
 
 pub left_bit_spec : {M : Type 1} → statement M

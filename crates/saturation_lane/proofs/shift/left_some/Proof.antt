@@ -16,7 +16,7 @@ left-bit-requires c κs = search rules
 returns : tie.Need-returns-in-Never
 returns c =
     let st = c in
-    absurd (not-never st.args.saturate c.enum_told-1.given.1 st.requires.1.3)
+    absurd (not-never st.args.saturate c.in-Never.is st.requires.1.3)
 
 same_length : tie.Need-shape_of-pool
 same_length c = search rules
@@ -28,7 +28,7 @@ returns-2 c =
     let l-saturate = c in
     let l-match = c in
     let st = c in
-    some-into st.args.shift st.args.lane_bits st.args.signed l-saturate.saturate-1.given.1 l-left-bit.left_bit.ensures
+    some-into st.args.shift st.args.lane_bits st.args.signed l-saturate.in-Into.is l-left-bit.left_bit.ensures
 
 pub left_some_spec : {M : Type 1} → statement M
 left_some_spec =

@@ -19,7 +19,7 @@ enum-known-kind c = search rules
 
 left-some-requires : tie.Need-left_some-requires
 left-some-requires c κs =
-    let e = c.kind-1.given.1 in
+    let e = c.in-LeftImmediate.is in
     let st = c in (
       omega (arith, st.requires),
       (
@@ -46,12 +46,12 @@ returns : tie.Need-returns-in-LeftImmediate
 returns c =
     let l-left-some = c in
     let l-known-told = c in
-    is-left l-known-told.args.signed l-known-told.kind-1.given.1 l-left-some.left_some.ensures
+    is-left l-known-told.args.signed l-known-told.in-LeftImmediate.is l-left-some.left_some.ensures
 
 returns-2 : tie.Need-returns-in-RightImmediate
 returns-2 c =
     let st = c in
-    absurd (not_right st.args.kind c.enum_told-1.given.1 st.requires.1.5)
+    absurd (not_right st.args.kind c.in-RightImmediate.is st.requires.1.5)
 
 same-length-2 : tie.Need-shape_of-pool-in-Register
 same-length-2 c = search rules
@@ -61,7 +61,7 @@ returns-3 c =
     let l-register-bit = c in
     let l-kind2 = c in
     let st = c in
-    is-register st.args.signed l-kind2.kind-in-Register-1.given.1 st.requires.1.5 l-register-bit.register_bit.ensures
+    is-register st.args.signed l-kind2.in-Register.is st.requires.1.5 l-register-bit.register_bit.ensures
 
 pub shift_bit_spec : {M : Type 1} → statement M
 shift_bit_spec =
