@@ -5,7 +5,7 @@ use mathlib.Core.List.{[]}
 use Rattle.lower_kinds.specs.Sources.{is_register}
 use Rattle.lower.specs.Builds.{read, read_if, unread}
 use Rattle.lower.proofs.Loop.{Turning, SoFar, begun, so_far, first-asks, lane-asks, concat-asks, again, whole}
-use Rattle.trees.specs.Trees.{shift_at, shift_lanes}
+use Rattle.trees.specs.Trees.{shift_at}
 use Rattle.trees.specs.Arith as Arith
 use Rattle.lower_shift.proofs.shift_lanes.Statement.{statement}
 use Rattle.lower_shift.proofs.shift_lanes.Tie as tie

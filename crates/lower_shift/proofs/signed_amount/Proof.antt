@@ -13,9 +13,8 @@ add-t11 c = omega (arith, c.requires)
 
 extract-collapsing-requires : tie.Need-extract_collapsing-byte-requires
 extract-collapsing-requires c κs =
-    let i = c in
-    let p = i.requires in
-    (omega (arith, p.0), (p.1.0, omega arith, omega (arith, p.1, i.if-lane_bits-gt8.true)))
+    let p = c.requires in
+    (omega (arith, p.0), (p.1.0, omega arith, omega (arith, p.1, c.if-lane_bits-gt8.true)))
 
 sign-ext-requires : tie.Need-sign_ext-requires
 sign-ext-requires c κs = search rules
@@ -23,23 +22,11 @@ sign-ext-requires c κs = search rules
 same_length : tie.Need-shape_of-pool-then-lane_bits-gt8
 same_length c = search rules
 
-returns : tie.Need-returns-then-lane_bits-gt8
-returns c =
-    let e = c in
-    let x = c in
-    let i = c in
-    amount-byte i.if-lane_bits-gt8.true i.requires.1.2 x.extract_collapsing-byte.ensures e.sign_ext.ensures
-
 extract-lane-requires : tie.Need-extract_lane-requires
 extract-lane-requires c κs = search rules
 
 same-length-2 : tie.Need-shape_of-pool
 same-length-2 c = search rules
-
-returns-2 : tie.Need-returns
-returns-2 c =
-    let x = c in
-    amount-whole x.if-lane_bits-gt8.false x.extract_lane.ensures
 
 pub signed_amount_spec : {M : Type 1} → statement M
 signed_amount_spec =
@@ -50,7 +37,7 @@ signed_amount_spec =
     extract-collapsing-requires
     sign-ext-requires
     same_length
-    returns
+    (λ c. amount-byte c.if-lane_bits-gt8.true c.requires.1.2 c.extract_collapsing-byte.ensures c.sign_ext.ensures)
     extract-lane-requires
     same-length-2
-    returns-2)
+    (λ c. amount-whole c.if-lane_bits-gt8.false c.extract_lane.ensures))
