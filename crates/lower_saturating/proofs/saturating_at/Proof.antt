@@ -11,6 +11,7 @@ use Rattle.lower_saturating.proofs.Joining.{Second, Both, both-sized, at-lane}
 use borrow.Author.Rules.{rules}
 use Rattle.lower_saturating.proofs.saturating_at.Statement.{statement}
 use Rattle.lower_saturating.proofs.saturating_at.Tie as tie
+use Rattle.lower_saturating.proofs.saturating_at.Lts.{then-uses_second, else-uses_second}
 
 -- ---- the places, and the bits of a source lane
 
@@ -19,7 +20,7 @@ fits c =
     let a = c.args in
     let p = c.requires.1.1 in
     let e = c.source_bits-bits.ensures in (
-      omega (arith, p.0, source-least a.kind a.lane-bits, e),
+      omega (arith, p.0, source-least a.kind a.lane_bits, e),
       lane-fits c.source_bits-bits.result a.index.0 a.lanes {w = 128} p.3 (subst (λ (x : ℕ). x * a.lanes ≤ 128) (sym e) p.4),
     )
 
@@ -44,13 +45,16 @@ extract-lane-requires-2 c κs =
     omega (arith, s.requires.0, s.requires.1.0.1 (used c.before), u.extract_lane-a.ensures.sized, fits c.before.before.before.before.before.before.before)
 
 second : (c : tie.Joined-uses_second) → let u = c in let s = u.args in let a = u.extract_lane-a in
-    Second a.last.0 a.result c.if1.pool c.if1.b (uses_second s.kind) s.second u.source_bits-bits.result s.index.0
+    Second a.new.pool a.result c.if-uses_second.pool c.if-uses_second.b (uses_second s.kind) s.second u.source_bits-bits.result s.index.0
 second c =
     let e = sym c.uses_second.ensures in
-    ⊎_elim (λ w. inl (e ∙ w.0.taken, rw (w.5, w.6) w.2.ensures)) (λ w. inr (e ∙ w.0.left, w.1, w.2)) c.if-uses_second.branch
+    elim c.if-uses_second.branch [
+      | then-uses_second w ↦ inl (e ∙ w.if-uses_second.true, rw (w.pool-is, w.b-is) w.extract_lane-b.ensures)
+      | else-uses_second w ↦ inr (e ∙ w.if-uses_second.false, w.pool-is, w.b-is)
+    ]
 
 -- what both take
-taken : (c : tie.Joined-uses_second) → let u = c in let s = u.args in Both s.pool.now s.count c.if1.pool u.extract_lane-a.result c.if1.b
+taken : (c : tie.Joined-uses_second) → let u = c in let s = u.args in Both s.pool.now s.count c.if-uses_second.pool u.extract_lane-a.result c.if-uses_second.b
 taken c = both-sized c.extract_lane-a.ensures (second c)
 
 -- ---- the lane

@@ -28,7 +28,7 @@ returns c =
     let i = c in
     let m = c in
     let a = m.args in
-    with-lower a.kind a.signed-sources a.lane-bits a.lanes i.if-upper.true m.made_lanes-new.ensures l.keep_lower.ensures
+    with-lower a.kind a.signed_sources a.lane_bits a.lanes i.if-upper.true m.made_lanes-new.ensures l.keep_lower.ensures
 
 same-length-2 : tie.Need-shape_of-pool
 same-length-2 c = search rules
