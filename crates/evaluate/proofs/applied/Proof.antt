@@ -14,35 +14,32 @@ use Rattle.evaluate.proofs.applied.Tie as tie
 
 -- all is read but the width of a second operand
 module _ (c : tie.After-is_single) where
-  abbrev entry : tie.Start
-  entry = c.before.before.before.before.before.before.before
-
   abbrev ws : List ℕ
-  ws = entry.args.p.now
+  ws = c.args.p.now
 
   abbrev n : ℕ
-  n = entry.args.n.0
+  n = c.args.n.0
 
-  first_width : c.before.before.before.before.width_of-wa.result ≡ width_at ws (op_a ws n)
-  first_width = let w = c.before.before.before.before in rw w.before.first.ensures at w.width_of-wa.ensures.0
+  first_width : c.width_of-wa.result ≡ width_at ws (op_a ws n)
+  first_width = rw c.first.ensures at c.width_of-wa.ensures.0
 
-  own-width : c.before.before.before.width_of-w.result ≡ width_at ws n
-  own-width = c.before.before.before.width_of-w.ensures.0
+  own-width : c.width_of-w.result ≡ width_at ws n
+  own-width = c.width_of-w.ensures.0
 
-  low_word : c.before.before.low-x.result ≡ word_at ws n 2
-  low_word = c.before.before.low-x.ensures
+  low_word : c.low-x.result ≡ word_at ws n 2
+  low_word = c.low-x.ensures
 
-  high_word : c.before.high-y.result ≡ word_at ws n 3
-  high_word = c.before.high-y.ensures
+  high_word : c.high-y.result ≡ word_at ws n 3
+  high_word = c.high-y.ensures
 
-  nineteen : entry.args.k < 20
-  nineteen = to-nineteen ws n entry.requires.0.0 _ entry.requires.0.1
+  nineteen : c.args.k < 20
+  nineteen = to-nineteen ws n c.requires.0.0 _ c.requires.0.1
 
 -- the kind has one operand, or two
-one-is : (c : tie.Then-is_single) → single (entry c.before).args.k ≡ true
+one-is : (c : tie.Then-is_single) → single c.args.k ≡ true
 one-is c = sym c.is_single.ensures ∙ c.if-is_single.true
 
-two_is : (c : tie.Else-is_single) → single (entry c.before).args.k ≡ false
+two_is : (c : tie.Else-is_single) → single c.args.k ≡ false
 two_is c = sym c.is_single.ensures ∙ c.if-is_single.false
 
 -- the width of the second is read
@@ -54,7 +51,7 @@ module _ (c : tie.After-width_of-wb) where
   read = two.before
 
   second-width : c.width_of-wb.result ≡ width_at (ws read) (op_b (ws read) (n read))
-  second-width = rw c.before.second.ensures at c.width_of-wb.ensures.0
+  second-width = rw c.second.ensures at c.width_of-wb.ensures.0
 
 first-requires : tie.Need-first-requires
 first-requires c κs = search rules
@@ -76,44 +73,39 @@ is-single-requires c κs = search rules
 
 apply-requires : tie.Need-apply-requires
 apply-requires c κs =
-    let r = c in
-    let s = entry r in (
-      one-asks (ws r) (n r) _ s.requires.0.1 (first_width r) (own-width r) (low_word r) (high_word r) _ _ (one-is c) s.requires.1,
-      s.requires.0.2,
+    let r = c.before in (
+      one-asks (ws r) (n r) _ c.requires.0.1 (first_width r) (own-width r) (low_word r) (high_word r) _ _ (one-is c) c.requires.1,
+      c.requires.0.2,
       nineteen r,
-      s.requires.0.3,
+      c.requires.0.3,
     )
 
 returns : tie.Need-returns-then-is_single
 returns c =
-    let o = c in
-    let r = c in
-    c.apply.ensures ∙ one-gives (ws r) (n r) _ (entry r).requires.0.1 (first_width r) (own-width r) (low_word r) (high_word r) _ _ (one-is c.before)
+    let r = c.before.before in
+    c.apply.ensures ∙ one-gives (ws r) (n r) _ c.requires.0.1 (first_width r) (own-width r) (low_word r) (high_word r) _ _ (one-is c.before)
 
 second-requires : tie.Need-second-requires
 second-requires c κs = search rules
 
 width-of-requires-3 : tie.Need-width_of-wb-requires
 width-of-requires-3 c κs =
-    let e = c in
-    let s = entry e.before in
-    rw c.second.ensures (pair-b _ _ s.requires.0.0 _ s.requires.0.1 (is-pair _ s.requires.0.2 s.requires.0.3 (two_is c.before))).ready.inside
+    rw c.second.ensures (pair-b _ _ c.requires.0.0 _ c.requires.0.1 (is-pair _ c.requires.0.2 c.requires.0.3 (two_is c.before))).ready.inside
 
 apply-requires-2 : tie.Need-apply-requires-2
 apply-requires-2 c κs =
-    let r = read c in
-    let s = entry r in (
-      two-asks (ws r) (n r) _ s.requires.0.1 (first_width r) (own-width r) (low_word r) (high_word r) _ _ (second-width c) (two_is (two c)) s.requires.1,
-      s.requires.0.2,
+    let r = read c in (
+      two-asks (ws r) (n r) _ c.requires.0.1 (first_width r) (own-width r) (low_word r) (high_word r) _ _ (second-width c) (two_is (two c)) c.requires.1,
+      c.requires.0.2,
       nineteen r,
-      s.requires.0.3,
+      c.requires.0.3,
     )
 
 returns-2 : tie.Need-returns
 returns-2 c =
-    let b = c in
+    let b = c.before in
     let r = read b in
-    c.apply-2.ensures ∙ two-gives (ws r) (n r) _ (entry r).requires.0.1 (first_width r) (own-width r) (low_word r) (high_word r) _ _ (second-width b) (two_is (two b))
+    c.apply-2.ensures ∙ two-gives (ws r) (n r) _ c.requires.0.1 (first_width r) (own-width r) (low_word r) (high_word r) _ _ (second-width b) (two_is (two b))
 
 pub applied_spec : {M : Type 1} → statement M
 applied_spec =

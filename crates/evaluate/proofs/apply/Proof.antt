@@ -17,7 +17,7 @@ next n l h = omega arith
 last : (c : tie.In_default) → c.args.k ≡ 19
 last c =
     let k = c.args.k in
-    let r = c.match.rest in
+    let r = c.in_default.in_default-own.rest in
     let r8 : 9 ≤ k =
     next 8 (next 7 (next 6 (next 5 (next 4 (next 3 c.requires.1 r.0.0.0.0.0.0.0.0.0.0.0.0.0.0.1) r.0.0.0.0.0.0.0.0.0.0.0.0.0.1)
     r.0.0.0.0.0.0.0.0.0.0.0.0.1) r.0.0.0.0.0.0.0.0.0.0.0.1) r.0.0.0.0.0.0.0.0.0.0.1) r.0.0.0.0.0.0.0.0.0.1 in

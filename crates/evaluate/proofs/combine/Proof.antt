@@ -9,17 +9,14 @@ use Rattle.evaluate.proofs.combine.Tie as tie
 
 -- past the test: a node with operands
 module _ (c : tie.Else-k-lt-ADD) where
-  abbrev entry : tie.Start
-  entry = c.before.before.before
+  is-k : c.kind_of-k.result ≡ kind_number c.args.p.now.now c.args.n.0
+  is-k = c.kind_of-k.ensures
 
-  is-k : c.before.kind_of-k.result ≡ kind_number entry.args.p.now.now entry.args.n.0
-  is-k = c.before.kind_of-k.ensures
-
-  from-three : 3 ≤ kind_number entry.args.p.now.now entry.args.n.0
+  from-three : 3 ≤ kind_number c.args.p.now.now c.args.n.0
   from-three = rw (← is-k) c.if-k-lt-ADD.false
 
-  no-ite : c.before.kind_of-k.result ≡ 15 → ⊥
-  no-ite q = entry.requires.0.1 (sym is-k ∙ q)
+  no-ite : c.kind_of-k.result ≡ 15 → ⊥
+  no-ite q = c.requires.0.1 (sym is-k ∙ q)
 
 kind-of-requires : tie.Need-kind_of-k-requires
 kind-of-requires c κs = search rules
@@ -42,8 +39,8 @@ load-requires-2 c κs = search rules
 applied-requires : tie.Need-applied-requires
 applied-requires c κs =
     let a = c in
-    let e = c in
-    let s = entry e in (
+    let e : tie.Else-k-lt-ADD = c.before.before.before.before in
+    let s = c in (
       (s.requires.0.0, is-k e, e.if-k-lt-ADD.false, no-ite e),
       held-ok _ _ _ s.requires.0.0 _ (is-k e) s.requires.0.2 e.if-k-lt-ADD.false (no-ite e) (a.load.ensures ∙ s.requires.1.0 (from-three e))
           (λ q. c.load-2.ensures ∙ s.requires.1.1 (from-three e) (rw (← is-k e) q)),
@@ -57,8 +54,8 @@ returns-2 c =
     let d = c in
     let b = c in
     let a = c in
-    let e = c in
-    let s = entry e in
+    let e : tie.Else-k-lt-ADD = c.before.before.before.before.before.before in
+    let s = c in
     c.store-2.ensures ∙ d.applied.ensures
     ∙ held-is _ _ _ s.requires.0.0 _ (is-k e) s.requires.0.2 e.if-k-lt-ADD.false (no-ite e) (a.load.ensures ∙ s.requires.1.0 (from-three e))
     (λ q. b.load-2.ensures ∙ s.requires.1.1 (from-three e) (rw (← is-k e) q))

@@ -20,29 +20,26 @@ use Rattle.evaluate.proofs.evaluate.Tie as tie
 zero : (c : tie.Else-number-gt0) → c.node_number-number.result ≡ 0
 zero c = omega (arith, c.if-number-gt0.false)
 
-good : (c : tie.Else-number-gt0) → let a = c.args in (pool_ok a.t1.now a.count ≡ true) × (a.node < a.count)
+good : (c : tie.Else-number-gt0) → let a = c.args in (pool_ok a.pool.now a.count ≡ true) × (a.node < a.count)
 good c =
     let a = c.args in
-    let k = accepted a.t1.now a.count a.node 0 (sym c.node_number-number.ensures ∙ zero c) in (k.0, k.1)
+    let k = accepted a.pool.now a.count a.node 0 (sym c.node_number-number.ensures ∙ zero c) in (k.0, k.1)
 
-ready_at : (c : tie.Else-number-gt0) → Ready c.args.t1.now c.args.node
+ready_at : (c : tie.Else-number-gt0) → Ready c.args.pool.now c.args.node
 ready_at c =
     let a = c.args in
-    ready_of a.t1.now a.count a.node (keeps a.t1.now a.count (good c).0) (good c).1 (words-for a.t1.now a.count (good c).0)
+    ready_of a.pool.now a.count a.node (keeps a.pool.now a.count (good c).0) (good c).1 (words-for a.pool.now a.count (good c).0)
 
 -- the node has been visited
 module _ (c : tie.After-visit-left) where
   abbrev passed : tie.Else-number-gt0
   passed = c.before.before.before.before.before
 
-  abbrev start : tie.Start
-  start = entry passed
-
-  visited : Visited start.args.t1.now start.args.start.now start.args.node start.args.allowance c.visit-left.new.1.1.1.0 c.visit-left.result
+  visited : Visited c.args.pool.now c.args.start.now c.args.node c.args.allowance c.visit-left.new.out c.visit-left.result
   visited = c.visit-left.ensures
 
-  count-some : 1 ≤ visits_at start.args.t1.now start.args.start.now start.args.node
-  count-some = some start.args.t1.now start.args.start.now start.args.node (ready_at passed) _ refl
+  count-some : 1 ≤ visits_at c.args.pool.now c.args.start.now c.args.node
+  count-some = some c.args.pool.now c.args.start.now c.args.node (ready_at passed) _ refl
 
 node-number-requires : tie.Need-node_number-number-requires
 node-number-requires c κs = search rules
@@ -64,7 +61,7 @@ refused-requires-2 c κs = search rules
 
 returns-2 : tie.Need-returns-then-left-eq0
 returns-2 c =
-    let v = c in
+    let v : tie.After-visit-left = c.before.before in
     let g = good (passed v) in rw c.refused-then-left-eq0.ensures (too_many _ _ _ _ _ g.0 g.1 (visited v) c.if-left-eq0.true)
 
 array-read-t13 : tie.Need-bounds-out-0
@@ -84,7 +81,7 @@ add-t27 c = search rules
 
 returns-3 : tie.Need-returns
 returns-3 c =
-    let v = c in
+    let v : tie.After-visit-left = c.before in
     let g = good (passed v) in rw (zero (passed v)) (given _ _ _ _ _ g.0 g.1 (visited v) c.if-left-eq0.false (count-some v))
 
 pub evaluate_spec : {M : Type 1} → statement M
