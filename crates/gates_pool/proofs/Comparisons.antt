@@ -3,9 +3,9 @@ use mathlib.Core.Path.{◌≡◌, refl, sym, ap, ◌∙◌, subst}
 use mathlib.Core.Bool.{Bool, true, false}
 use mathlib.Core.List.{List}
 use mathlib.Core.Logic.{inl}
-use Prim.Native.Nat.{ℕ, zero, suc, ◌+◌, ◌*◌, ◌^◌, ◌≤◌, ◌<◌}
+use Prim.Native.Nat.{ℕ, ◌+◌, ◌*◌, ◌≤◌, ◌<◌}
 use native.Mathlib.Omega.{arith}
-use lib.ListN.{length, get_or, set, length-set}
+use lib.ListN.{get_or, set, length-set}
 use lib.Seq.{get_or-set_same, get_or-set_other}
 use Rattle.terms.specs.Expr.{Expr, width}
 use Rattle.terms.specs.Value.{value, bit, ite}
@@ -17,9 +17,9 @@ use Rattle.text_parts.specs.Text as nodes
 use Rattle.gates.specs.Graph.{truth}
 use Rattle.gates.specs.Grow.{Room, Builds, Under}
 use Rattle.gates_words.specs.Number.{number, sum, bit_at}
-use Rattle.gates_words.specs.Words.{Writes, Low, Reads, Operand}
+use Rattle.gates_words.specs.Words.{Writes, Reads, Operand}
 use Rattle.gates_words.specs.Bitwise.{ite_of}
-use Rattle.gates_pool.specs.Bits.{Start, literals, number_at, Held}
+use Rattle.gates_pool.specs.Bits.{Start, literals}
 use Rattle.gates_pool.specs.Gates.{gates_for, work_width, gates_at, compare_holds, Ready, Made}
 use Rattle.gates_pool.proofs.Rules.{most, compare-facts, ite-facts}
 use Rattle.gates_pool.proofs.Values.{literals-wide, tree, operand-tree, operand-width, operand_low, operand-number, under}

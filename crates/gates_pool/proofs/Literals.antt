@@ -1,17 +1,15 @@
 -- The literals of nodes that need no gates, by kind. Assumes nothing.
 use mathlib.Core.Path.{◌≡◌, refl, sym, ap, ◌∙◌}
-use mathlib.Core.Bool.{Bool, true, false, cond}
 use mathlib.Core.List.{List}
 use mathlib.Core.Logic.{◌⊎◌, inl, inr, ⊎_elim}
 use Prim.Native.Nat.{ℕ, ◌+◌, ◌-◌, ◌*◌, ◌/◌, ◌%◌, ◌^◌, ◌≤◌, ◌<◌}
 use native.Mathlib.Omega.{arith}
 use native.Mathlib.Nat.{div-eq_of_lt, add-mul-div_left, mul_assoc}
-use lib.Dec.{ltb}
 use lib.ListN.{get_or}
 use lib.Pow.{pow-add, pow_pos, shr-shr}
 use borrow.Author.Tests.{lt-ltb, le-ltb, ltb-true}
 use Rattle.facts.proofs.Numbers.{before-or-from}
-use Rattle.pool.specs.Node.{Kind, zext, sext, kinds, kind_at, cell_at, width_at, word_at, kind_number, wide}
+use Rattle.pool.specs.Node.{Kind, kinds, kind_at, cell_at, width_at, word_at, kind_number, wide}
 use Rattle.pool_fields.specs.Fields.{op_a, op_b}
 use Rattle.pool_rules.proofs.Numbers.{within}
 use Rattle.pool_rules.proofs.Words.{always}

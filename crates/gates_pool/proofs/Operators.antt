@@ -1,6 +1,5 @@
 -- Nodes of operators: their gates, their values, and what their circuits make. Assumes nothing.
 use mathlib.Core.Path.{◌≡◌, refl, sym, ap, ◌∙◌, subst}
-use mathlib.Core.Bool.{Bool, true, false}
 use mathlib.Core.List.{List}
 use Prim.Native.Nat.{ℕ, ◌+◌, ◌*◌, ◌≤◌, ◌<◌}
 use native.Mathlib.Omega.{arith}
@@ -13,11 +12,11 @@ use Rattle.pool_fields.specs.Fields.{op_a, op_b, op_c}
 use Rattle.pool_rules.proofs.Numbers.{within}
 use Rattle.text_parts.specs.Text as nodes
 use Rattle.gates.specs.Grow.{Room}
-use Rattle.gates_words.specs.Number.{number, sum, bit_at}
-use Rattle.gates_words.specs.Words.{Writes, Low}
+use Rattle.gates_words.specs.Number.{number}
+use Rattle.gates_words.specs.Words.{Writes}
 use Rattle.gates_circuits.specs.Makes.{Makes, Two}
 use Rattle.gates_circuits.proofs.Laws.{run-from, writes-word}
-use Rattle.gates_pool.specs.Bits.{Start, literals, number_at, Held}
+use Rattle.gates_pool.specs.Bits.{Start}
 use Rattle.gates_pool.specs.Gates.{gates_for, work_width, gates_at, bv_value, Ready, Made}
 use Rattle.gates_pool.proofs.Rules.{most, bv-facts}
 use Rattle.gates_pool.proofs.Values.{literals-wide, tree, operand-tree, operand-width, operand_low, operand-number, under}

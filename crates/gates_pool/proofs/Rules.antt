@@ -1,20 +1,19 @@
 -- What the rules of a valid pool say of a node and its operands, by the number of its kind. Assumes nothing.
-use mathlib.Core.Path.{◌≡◌, refl, sym, ap, ◌∙◌, subst}
-use mathlib.Core.Bool.{Bool, true, false}
+use mathlib.Core.Path.{◌≡◌, refl, sym, ◌∙◌, subst}
 use mathlib.Core.List.{List}
-use Prim.Native.Nat.{ℕ, ◌+◌, ◌-◌, ◌*◌, ◌^◌, ◌≤◌, ◌<◌}
+use Prim.Native.Nat.{ℕ, ◌+◌, ◌-◌, ◌^◌, ◌≤◌, ◌<◌}
 use native.Mathlib.Omega.{arith}
 use borrow.Author.Tests.{lt-ltb}
 use Rattle.terms.specs.declared.BinOp.TheVariants.{Add, Sub, Mul, And, Or, Xor, Shl, LShr, AShr}
 use Rattle.terms.specs.declared.CmpOp.TheVariants.{Eq, Ult, Slt}
-use Rattle.pool.specs.Node.{Kind, bad, var, const, bv, compare, ite, extract, concat, zext, sext, kinds, kind_at, Cell, cell_at, width_at, word_at, kind_number}
+use Rattle.pool.specs.Node.{Kind, bv, compare, zext, kinds, kind_at, cell_at, width_at, word_at, kind_number}
 use Rattle.pool.specs.Node.{wide}
 use Rattle.pool.specs.Rules.{width_before}
 use Rattle.pool.proofs.Facts.{valid-node, good-wide}
 use Rattle.pool_check.proofs.Sound.{sound}
 use Rattle.pool_fields.specs.Fields.{op_a, op_b, op_c}
 use Rattle.pool_rules.proofs.Numbers.{within}
-use Rattle.pool_rules.proofs.Kept.{Ok, wide-one, wide-most, register, var-wide, const-wide, const_fits, bv-tests, compare-tests, ite-tests, extract-tests}
+use Rattle.pool_rules.proofs.Kept.{Ok, wide-one, register, var-wide, const-wide, const_fits, bv-tests, compare-tests, ite-tests, extract-tests}
 use Rattle.pool_rules.proofs.Kept.{concat-tests, zext-tests}
 use Rattle.text_parts.specs.Text.{Ready}
 

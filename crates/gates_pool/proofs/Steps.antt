@@ -1,20 +1,18 @@
 -- One node more: what its literals must be, and what the nodes before it keep. Assumes nothing.
-use mathlib.Core.Path.{◌≡◌, refl, sym, ap, ◌∙◌, subst}
-use mathlib.Core.Bool.{Bool, true, false}
+use mathlib.Core.Path.{◌≡◌, sym, ap, ◌∙◌, subst}
 use mathlib.Core.List.{List}
 use mathlib.Core.Logic.{◌⊎◌, inl, inr, ⊎_elim}
-use Prim.Native.Nat.{ℕ, zero, suc, ◌+◌, ◌-◌, ◌*◌, ◌^◌, ◌≤◌, ◌<◌}
+use Prim.Native.Nat.{ℕ, zero, suc, ◌+◌, ◌*◌, ◌≤◌, ◌<◌}
 use native.Mathlib.Omega.{arith}
 use lib.ListN.{length, get_or}
 use Rattle.facts.proofs.Numbers.{before-or-from}
 use Rattle.terms.specs.Value.{value}
 use Rattle.pool.specs.Node.{width_at}
 use Rattle.pool.specs.Unfold.{unfold_at}
-use Rattle.text_parts.specs.Text as nodes
 use Rattle.gates.specs.Graph.{truth}
 use Rattle.gates.specs.Grow.{Grown}
 use Rattle.gates.proofs.Laws.{grown-same}
-use Rattle.gates_words.specs.Number.{sum, bit_at, number}
+use Rattle.gates_words.specs.Number.{bit_at, number}
 use Rattle.gates_words.specs.Words.{Low, Puts}
 use Rattle.gates_words.proofs.Sums.{sum_same}
 use Rattle.gates_words.proofs.Loops.{number-kept, low-kept}

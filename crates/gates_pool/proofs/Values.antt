@@ -1,13 +1,13 @@
 -- The literals of a node that needs no gates are literals of the graph, and their number is the node's value. Assumes nothing.
-use mathlib.Core.Path.{◌≡◌, refl, sym, ap, ◌∙◌, subst}
-use mathlib.Core.Bool.{Bool, true, false, cond}
+use mathlib.Core.Path.{◌≡◌, refl, sym, ap, ◌∙◌}
+use mathlib.Core.Bool.{Bool, true, false}
 use mathlib.Core.List.{List}
-use mathlib.Core.Logic.{◌⊎◌, inl, inr, ⊎_elim}
+use mathlib.Core.Logic.{⊎_elim}
 use Prim.Native.Nat.{ℕ, zero, suc, ◌+◌, ◌-◌, ◌*◌, ◌/◌, ◌%◌, ◌^◌, ◌≤◌, ◌<◌}
 use native.Mathlib.Nat.{mod-eq_of_lt, mod-lt, pow-suc, not-suc-le-zero}
 use native.Mathlib.Omega.{arith}
 use lib.Dec.{ltb, eqb}
-use lib.ListN.{length, get_or}
+use lib.ListN.{get_or}
 use lib.Pow.{pow_pos}
 use borrow.Author.Tests.{lt-ltb, ne_eqb, eqb-true, eqb-false}
 use Rattle.facts.proofs.Numbers.{before-or-from}
@@ -23,10 +23,10 @@ use Rattle.text_parts.proofs.Operands.{to-nineteen, is-const}
 use Rattle.gates.specs.Graph.{inputs, variable, inverted, input_truth, variable_to, variable_truth, truth}
 use Rattle.gates.specs.Grow.{Under}
 use Rattle.gates.proofs.Truth.{false-truth, true-truth}
-use Rattle.gates_words.specs.Number.{sum, bit_at, number}
-use Rattle.gates_words.proofs.Sums.{sum_same, sum-parts, sum-high, sum_low, sum-none, sum_top, sum_number}
-use Rattle.gates_pool.specs.Bits.{Start, literals, number_at, Held, wire_at, NoGates}
-use Rattle.gates_pool.proofs.Rules.{most, var-facts, const-facts, extract-facts, concat-facts, extend-facts}
+use Rattle.gates_words.specs.Number.{sum, bit_at}
+use Rattle.gates_words.proofs.Sums.{sum_same, sum-parts, sum-high, sum_low, sum_top, sum_number}
+use Rattle.gates_pool.specs.Bits.{Start, literals, Held, wire_at, NoGates}
+use Rattle.gates_pool.proofs.Rules.{var-facts, const-facts, extract-facts, concat-facts, extend-facts}
 use Rattle.gates_pool.proofs.Literals.{var-wire, const-wire, extract-wire, concat-low, concat-high, extend-low, zext-high, sext-high}
 
 -- ---- the truth of a register's bit and of a constant

@@ -1,11 +1,10 @@
 -- The bits of a pool's nodes as literals of a graph: those of node n are at the places from 129 n on, the lowest first; a condition has one.
-use Rattle.std.specs.Prelude.{Bool, cond, List, ◌≡◌, ℕ, zero, suc, ◌+◌, ◌-◌, ◌*◌, ◌/◌, ◌%◌, ◌^◌, ◌≤◌, ◌<◌, ltb, length, get_or}
+use Rattle.std.specs.Prelude.{cond, List, ◌≡◌, ℕ, zero, suc, ◌+◌, ◌-◌, ◌*◌, ◌/◌, ◌%◌, ◌^◌, ◌≤◌, ◌<◌, ltb, length, get_or}
 use Rattle.terms.specs.Value.{value}
 use Rattle.pool.specs.Node.{Kind, bad, var, const, bv, compare, ite, extract, concat, zext, sext, Cell, cell_at, kind_at, kind_number, width_at, wide}
 use Rattle.pool.specs.Unfold.{unfold_at}
 use Rattle.pool_fields.specs.Fields.{op_a, op_b}
 use Rattle.text_parts.specs.Text as nodes
-use Rattle.gates.specs.Grow.{Grown, Room}
 use Rattle.gates_words.specs.Number.{number}
 use Rattle.gates_words.specs.Words.{Low}
 

@@ -1,8 +1,7 @@
 -- `node` makes the literals of a node by its kind.
 use native.Mathlib.Omega.{arith}
-use mathlib.Core.List.{List}
-use mathlib.Core.Path.{◌≡◌, sym, ap, ◌∙◌, subst}
-use Prim.Native.Nat.{ℕ, ◌+◌, ◌*◌, ◌≤◌, ◌<◌}
+use mathlib.Core.Path.{◌≡◌, sym, ◌∙◌}
+use Prim.Native.Nat.{ℕ}
 use Rattle.pool.specs.Node.{kind_number}
 use Rattle.gates_pool.specs.Bits.{NoGates}
 use Rattle.gates_pool.proofs.Steps.{wired}
@@ -30,29 +29,29 @@ kind-of-requires : tie.Need-kind_of-kind-requires
 kind-of-requires c κs = search rules
 
 wires-requires : tie.Need-wires-requires
-wires-requires c κs = let t = c in ((entry t.before).requires.placed, low-plain c.before)
+wires-requires c κs = let t = c.before.before in ((entry t).requires.placed, low-plain c.before)
 
 same_length : tie.Need-shape_of-bits-then-kind-lt-ADD
 same_length c = c.wires.ensures.size
 
 returns : tie.Need-returns-then-kind-lt-ADD
-returns c = let t = c in wired (entry t.before).requires (low-plain c.before.before.before.before) c.wires.ensures
+returns c = let t = c.before.before.before.before.before in wired (entry t).requires (low-plain c.before.before.before.before) c.wires.ensures
 
 wires-requires-2 : tie.Need-wires-requires-then-kind-ge-EXTRACT
-wires-requires-2 c κs = let t = c in ((entry t.before.before).requires.placed, high-plain c.before)
+wires-requires-2 c κs = let t = c.before.before.before in ((entry t).requires.placed, high-plain c.before)
 
 same-length-2 : tie.Need-shape_of-bits-then-kind-ge-EXTRACT
 same-length-2 c = c.wires-then-kind-ge-EXTRACT.ensures.size
 
 returns-2 : tie.Need-returns-then-kind-ge-EXTRACT
-returns-2 c = let t = c in wired (entry t.before.before).requires (high-plain c.before.before.before.before) c.wires-then-kind-ge-EXTRACT.ensures
+returns-2 c = let t = c.before.before.before.before.before.before in wired (entry t).requires (high-plain c.before.before.before.before) c.wires-then-kind-ge-EXTRACT.ensures
 
 operator-node-requires : tie.Need-operator_node-requires
 operator-node-requires c κs =
     let t = c in
     let e2 = c in
     let e1 = c in
-    let k = c in
+    let k = c.before.before.before.before.before.before in
     let s = entry k in
     (s.requires, is-kind k, e1.if-kind-lt-ADD.false, t.if-kind-lt-EQ.true)
 
@@ -71,7 +70,7 @@ returns-3 c = c.operator_node.ensures
 choice-node-requires : tie.Need-choice_node-requires
 choice-node-requires c κs =
     let t = c in
-    let k = c in
+    let k = c.before.before.before.before.before.before.before in
     ((entry k).requires, sym (is-kind k) ∙ t.if-kind-eq-ITE.true)
 
 same-length-6 : tie.Need-shape_of-graph-then-kind-eq-ITE
@@ -91,7 +90,7 @@ compare-node-requires c κs =
     let e4 = c in
     let e3 = c in
     let e2 = c in
-    let k = c in
+    let k = c.before.before.before.before.before.before.before in
     ((entry k).requires, is-kind k, e3.if-kind-lt-EQ.false, omega (arith, e2.if-kind-ge-EXTRACT.false, e4.if-kind-eq-ITE.false))
 
 same-length-9 : tie.Need-shape_of-graph

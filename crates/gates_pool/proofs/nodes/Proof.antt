@@ -1,8 +1,7 @@
 -- `nodes` makes a node a turn.
 use native.Mathlib.Omega.{arith}
-use mathlib.Core.List.{List}
-use mathlib.Core.Path.{◌≡◌, refl, sym, ap, ◌∙◌}
-use Prim.Native.Nat.{ℕ, ◌+◌, ◌-◌, ◌*◌, ◌≤◌, ◌<◌}
+use mathlib.Core.Path.{◌≡◌, refl}
+use Prim.Native.Nat.{◌-◌, ◌≤◌}
 use lib.ListN.{length}
 use Rattle.gates_pool.specs.Gates.{Nodes}
 use Rattle.gates_pool.proofs.Pools.{nodes-none, node-ready, nodes-more}
@@ -30,7 +29,7 @@ node-requires c κs =
     node-ready l.loop-n.invariant.2 k t.loop-n-test.true p.0 p.1 p.2 s.requires.1
 
 add-n : tie.Need-overflow_add-n invariant-loop-n decreases-loop-n
-add-n c = let t = c in omega (arith, t.loop-n-test.true, t.fits.count)
+add-n c = let t = c in omega (arith, t.loop-n-test.true, t.ranges.count.fits)
 
 loop-less : tie.Need-loop-n-smaller invariant-loop-n decreases-loop-n
 loop-less c = let t = c in omega (arith, t.loop-n-test.true)

@@ -1,9 +1,9 @@
 -- `choice_node` chooses between the second and the third operand by the first one's literal.
 use native.Mathlib.Omega.{arith}
 use mathlib.Core.List.{List}
-use mathlib.Core.Path.{◌≡◌, sym, ap, ◌∙◌}
-use Prim.Native.Nat.{ℕ, ◌+◌, ◌*◌, ◌≤◌, ◌<◌}
-use Rattle.pool.specs.Node.{kind_number, width_at}
+use mathlib.Core.Path.{◌≡◌}
+use Prim.Native.Nat.{ℕ, ◌+◌, ◌*◌, ◌<◌}
+use Rattle.pool.specs.Node.{width_at}
 use Rattle.pool_fields.specs.Fields.{op_a, op_b, op_c}
 use Rattle.text_parts.specs.Text as nodes
 use Rattle.gates_pool.proofs.Rules.{most, Choice, ite-facts}
@@ -61,24 +61,24 @@ width-of-requires : tie.Need-width_of-w-requires
 width-of-requires c κs = search rules
 
 mul-c : tie.Need-overflow_mul-c
-mul-c c = let w = c in omega (arith, c-is w, (facts w).a, (entry w).requires.0.placed.places)
+mul-c c = let w = c.before in omega (arith, c-is w, (facts w).a, (entry w).requires.0.placed.places)
 
 mul-c-2 : tie.Need-offset_bounds-bits-condition
-mul-c-2 c = let w = c in omega (arith, c-is w, (facts w).a, (entry w).requires.0.placed.places)
+mul-c-2 c = let w = c.before in omega (arith, c-is w, (facts w).a, (entry w).requires.0.placed.places)
 
 slice-read-c : tie.Need-bounds-bits-condition
-slice-read-c c = let w = c in omega (arith, c-is w, (facts w).a, (entry w).requires.0.placed.places)
+slice-read-c c = let w = c.before.before in omega (arith, c-is w, (facts w).a, (entry w).requires.0.placed.places)
 
 -- four records later
 mul-mux : tie.Need-overflow_mul-a
-mul-mux c = let w = c in omega (arith, a-is w, (facts w).b, (entry w).requires.0.placed.places)
+mul-mux c = let w = c.before.before.before.before.before.before in omega (arith, a-is w, (facts w).b, (entry w).requires.0.placed.places)
 
 mul-mux-2 : tie.Need-overflow_mul-b
-mul-mux-2 c = let w = c in omega (arith, b-is w, (facts w).c, small c.before.before.before.before.before.before.before.before.before.before.before.before)
+mul-mux-2 c = let w = c.before.before.before.before.before.before.before in omega (arith, b-is w, (facts w).c, small c.before.before.before.before.before.before.before.before.before.before.before.before)
 
 mux-requires : tie.Need-mux-requires
 mux-requires c κs =
-    let w = c in
+    let w = c.before.before.before.before.before.before.before in
     let s = entry w in
     let m = most (ws w) (n w) (node w) (n w) (omega arith) in (
       room-choice (ws w) (n w) (node w) s.requires.0 s.requires.1 (c-is w) (a-is w) (b-is w) (w-is w),
@@ -100,7 +100,7 @@ same-length-3 c = c.mux.ensures.run.size
 returns : tie.Need-returns
 returns c =
     let call = c in
-    let w = c in
+    let w = c.before.before.before.before.before.before.before.before.before.before.before.before.before.before in
     let s = entry w in
     chosen-read (ws w) (n w) (node w) s.requires.0 s.requires.1 (c-is w) (a-is w) (b-is w) (w-is w) call.mux.ensures
 

@@ -1,6 +1,5 @@
 -- `compare` builds the comparison of the kind, by the contract of its circuit.
 use native.Mathlib.Omega.{arith}
-use Prim.Native.Nat.{ℕ, ◌+◌, ◌≤◌, ◌<◌}
 use mathlib.Core.Path.{◌≡◌}
 use Rattle.pool.specs.Node.{kinds, kind_at}
 use Rattle.gates_pool.proofs.Operators.{room_as}
@@ -10,7 +9,7 @@ use Rattle.gates_pool.proofs.circuits.compare.Statement.{statement}
 use Rattle.gates_pool.proofs.circuits.compare.Tie as tie
 
 last-is : (c : tie.In_default) → c.args.kind ≡ 14
-last-is c = let s = c in omega (arith, s.requires.1, c.match.rest)
+last-is c = omega arith
 
 equal-requires : tie.Need-equal-requires
 unfolding kind_at kinds

@@ -1,7 +1,7 @@
 -- `compare_node` puts the comparison of the node's operands at the node's place.
 use native.Mathlib.Omega.{arith}
 use mathlib.Core.List.{List}
-use mathlib.Core.Path.{◌≡◌, sym, ap, ◌∙◌}
+use mathlib.Core.Path.{◌≡◌}
 use Prim.Native.Nat.{ℕ, ◌+◌, ◌*◌, ◌≤◌, ◌<◌}
 use lib.ListN.{length-set}
 use Rattle.pool.specs.Node.{kind_number, width_at}
@@ -62,15 +62,15 @@ width-of-requires : tie.Need-width_of-w-requires
 width-of-requires c κs = omega (arith, a-is c, (facts c).a, (node c).inside)
 
 mul-compare : tie.Need-overflow_mul-a
-mul-compare c = let w = c in omega (arith, a-is w, (facts w).a, (entry w).requires.0.placed.places)
+mul-compare c = let w = c.before.before.before.before in omega (arith, a-is w, (facts w).a, (entry w).requires.0.placed.places)
 
 mul-compare-2 : tie.Need-overflow_mul-b
-mul-compare-2 c = let w = c in omega (arith, b-is w, (facts w).b, (entry w).requires.0.placed.places)
+mul-compare-2 c = let w = c.before.before.before.before.before in omega (arith, b-is w, (facts w).b, (entry w).requires.0.placed.places)
 
 compare-requires : tie.Need-compare-made-requires
 compare-requires c κs =
     let v = c in
-    let w = c in
+    let w = c.before.before.before.before.before in
     let s = entry w in
     let k = s.requires.1 in (
       (
@@ -86,7 +86,7 @@ mul-bits : tie.Need-offset_bounds-bits-at
 mul-bits c = let w = c in omega (arith, small c.before.before.before.before.before.before.before.before.before.before.before.before.before)
 
 slice-write-bits : tie.Need-bounds-bits-at
-slice-write-bits c = let w = c in omega (arith, (entry w).requires.0.placed.places)
+slice-write-bits c = let w = c.before.before.before.before.before.before.before.before.before.before in omega (arith, (entry w).requires.0.placed.places)
 
 same_length : tie.Need-shape_of-graph
 same_length c = c.compare-made.ensures.grown.long
@@ -100,7 +100,7 @@ same-length-3 c = simp length-set
 returns : tie.Need-returns
 returns c =
     let v = c in
-    let w = c in
+    let w = c.before.before.before.before.before.before.before.before.before.before in
     let s = entry w in
     compared-read (ws w) (n w) (node w) s.requires.0 (from-twelve w) (below-fifteen w) s.requires.1 (a-is w) (b-is w) (w-is c.before.before.before.before.before.before.before.before.before) c.compare-made.ensures
 

@@ -1,22 +1,17 @@
 -- `operate` makes the operator of the kind, by the contract of its circuit.
 use native.Mathlib.Omega.{arith}
-use Prim.Native.Nat.{ℕ, ◌+◌, ◌≤◌, ◌<◌}
+use Prim.Native.Nat.{◌+◌, ◌≤◌}
 use mathlib.Core.Path.{◌≡◌}
 use lib.ListN.{length}
 use Rattle.pool.specs.Node.{kinds, kind_at}
 use Rattle.gates_circuits.proofs.Laws.{first_of, second-of}
-use Rattle.gates_pool.proofs.Operators.{up, eleven, room_as, made_as, writes-makes}
+use Rattle.gates_pool.proofs.Operators.{room_as, made_as, writes-makes}
 use borrow.Author.Rules.{rules}
 use Rattle.gates_pool.proofs.circuits.operate.Statement.{statement}
 use Rattle.gates_pool.proofs.circuits.operate.Tie as tie
 
 last-is : (c : tie.In_default) → c.args.kind ≡ 11
-last-is c =
-    let s = c in
-    let r = c.match.rest in
-    let six = up 5 _ (up 4 _ (up 3 _ s.requires.1.0 r.0.0.0.0.0.0.0.1) r.0.0.0.0.0.0.1) r.0.0.0.0.0.1 in
-    let nine = up 8 _ (up 7 _ (up 6 _ six r.0.0.0.0.1) r.0.0.0.1) r.0.0.1 in
-    eleven _ (up 10 _ (up 9 _ nine r.0.1) r.1) s.requires.1.1
+last-is c = omega arith
 
 sum-requires : tie.Need-sum-requires
 unfolding kind_at kinds
@@ -72,18 +67,16 @@ by-bit-requires-3 c κs =
 shift-left-requires : tie.Need-shift_left-requires
 unfolding kind_at kinds
 shift-left-requires c κs =
-    let m = c in
     let s = c in
     let p = s.requires.0 in
-    (room_as s.args.w _ 9 m.in-9.is p.0, p.1, p.3, p.4)
+    (room_as s.args.w s.args.kind 9 (omega arith) p.0, p.1, p.3, p.4)
 
 shift-right-requires : tie.Need-shift_right-requires
 unfolding kind_at kinds
 shift-right-requires c κs =
-    let m = c in
     let s = c in
     let p = s.requires.0 in
-    (room_as s.args.w _ 10 m.in-10.is p.0, p.1, p.3, p.4)
+    (room_as s.args.w s.args.kind 10 (omega arith) p.0, p.1, p.3, p.4)
 
 shift-right-signed-requires : tie.Need-shift_right_signed-requires
 unfolding kind_at kinds

@@ -1,9 +1,9 @@
 -- `operator_node` makes the operator of the node's kind over its operands' literals.
 use native.Mathlib.Omega.{arith}
 use mathlib.Core.List.{List}
-use mathlib.Core.Path.{◌≡◌, sym, ap, ◌∙◌, subst}
-use Prim.Native.Nat.{ℕ, ◌+◌, ◌*◌, ◌≤◌, ◌<◌}
-use Rattle.pool.specs.Node.{kind_at, kind_number, width_at}
+use mathlib.Core.Path.{◌≡◌, sym}
+use Prim.Native.Nat.{ℕ, ◌≤◌, ◌<◌}
+use Rattle.pool.specs.Node.{kind_number, width_at}
 use Rattle.pool_fields.specs.Fields.{op_a, op_b}
 use Rattle.text_parts.specs.Text as nodes
 use Rattle.gates_pool.proofs.Rules.{most, Two, bv-facts}
@@ -60,14 +60,14 @@ width-of-requires : tie.Need-width_of-w-requires
 width-of-requires c κs = search rules
 
 mul-operate : tie.Need-overflow_mul-a
-mul-operate c = let w = c in omega (arith, a-is w, (facts w).a, (entry w).requires.0.placed.places)
+mul-operate c = let w = c.before.before.before.before in omega (arith, a-is w, (facts w).a, (entry w).requires.0.placed.places)
 
 mul-operate-2 : tie.Need-overflow_mul-b
-mul-operate-2 c = let w = c in omega (arith, b-is w, (facts w).b, (entry w).requires.0.placed.places)
+mul-operate-2 c = let w = c.before.before.before.before.before in omega (arith, b-is w, (facts w).b, (entry w).requires.0.placed.places)
 
 operate-requires : tie.Need-operate-requires
 operate-requires c κs =
-    let w = c in
+    let w = c.before.before.before.before.before in
     let s = entry w in
     let m = most (ws w) (n w) (node w) (n w) (omega arith) in (
       (
@@ -92,7 +92,7 @@ same-length-3 c = c.operate.ensures.goes.size
 returns : tie.Need-returns
 returns c =
     let call = c in
-    let w = c in
+    let w = c.before.before.before.before.before.before.before.before.before.before.before.before in
     let s = entry w in
     operated-read (ws w) (n w) (node w) s.requires.0 (from-three w) (below_twelve w) s.requires.1 (a-is w) (b-is w) (w-is w) call.operate.ensures
 

@@ -1,7 +1,7 @@
 -- `operator_gates`: the bound of each operator.
 use native.Mathlib.Omega.{arith}
-use Prim.Native.Nat.{ℕ, ◌+◌, ◌*◌, ◌≤◌, ◌<◌}
-use mathlib.Core.Path.{◌≡◌, refl, sym, ◌∙◌}
+use Prim.Native.Nat.{◌*◌}
+use mathlib.Core.Path.{◌≡◌, refl}
 use Rattle.pool.specs.Node.{kinds}
 use Rattle.pool_rules.proofs.Numbers.{within}
 use Rattle.gates_pool.specs.Gates.{gates_for}

@@ -1,7 +1,7 @@
 -- `joined_wire` reads the operand's literal that the kind names.
 use mathlib.Core.List.{List}
 use mathlib.Core.Path.{◌≡◌, sym, ◌∙◌}
-use Prim.Native.Nat.{ℕ, ◌+◌, ◌*◌, ◌≤◌, ◌<◌}
+use Prim.Native.Nat.{ℕ, ◌≤◌}
 use native.Mathlib.Omega.{arith}
 use Rattle.pool.specs.Node.{width_at, kind_number}
 use Rattle.pool_fields.specs.Fields.{op_a, op_b}
@@ -35,9 +35,9 @@ module _ (c : tie.After-struct_known-1) where
 
 -- a Concat, and the width of its lower part
 concat : (c : tie.Then-kind-eq-CONCAT) → Concat (ws c.before) (n c.before) (node c.before)
-concat c = let k = c in concat-facts (ws k) (n k) (node k) (sym (entry k).requires.1 ∙ c.if-kind-eq-CONCAT.true)
+concat c = let k = c.before in concat-facts (ws k) (n k) (node k) (sym (entry k).requires.1 ∙ c.if-kind-eq-CONCAT.true)
 
-below-is : (c : tie.After-width_of-below) → let k = c in c.width_of-below.result ≡ width_at (ws k) (op_b (ws k) (n k))
+below-is : (c : tie.After-width_of-below) → let k = c.before.before.before in c.width_of-below.result ≡ width_at (ws k) (op_b (ws k) (n k))
 below-is c = rw c.second-b.ensures at c.width_of-below.ensures.0
 
 -- an extension, and the width of its operand
@@ -46,11 +46,11 @@ kind-of-extension c = let l = (entry c.before).requires.2 in let h = c.if-kind-e
 
 extension : (c : tie.Else-kind-eq-CONCAT) → Extend (ws c.before) (n c.before) (node c.before)
 extension c =
-    let k = c in
+    let k = c.before in
     let e = (entry k).requires.1 in
     extend-facts (ws k) (n k) (node k) (omega (arith, e, kind-of-extension c)) (omega (arith, e, to-nineteen (ws k) (n k) (node k) _ e))
 
-own_is : (c : tie.After-width_of-own) → let k = c in c.width_of-own.result ≡ width_at (ws k) (op_a (ws k) (n k))
+own_is : (c : tie.After-width_of-own) → let k = c.before.before in c.width_of-own.result ≡ width_at (ws k) (op_a (ws k) (n k))
 own_is c = rw (first-is c.before.before) at c.width_of-own.ensures.0
 
 first-requires : tie.Need-first-a-requires
@@ -63,7 +63,7 @@ second-requires : tie.Need-second-b-requires
 second-requires c κs = search rules
 
 width-of-requires : tie.Need-width_of-below-requires
-width-of-requires c κs = let k = c in omega (arith, c.second-b.ensures, (concat c.before).b, (node k).inside)
+width-of-requires c κs = let k = c.before.before in omega (arith, c.second-b.ensures, (concat c.before).b, (node k).inside)
 
 mul-result : tie.Need-overflow_mul-result
 mul-result c = search rules
@@ -78,7 +78,7 @@ shared-slice-read-result : tie.Need-bounds-bits-b
 shared-slice-read-result c =
     let w = c in
     let t = c in
-    let k = c in
+    let k = c.before.before.before.before.before.before in
     let f = concat c.before.before.before.before.before in
     omega (
       arith,
@@ -95,7 +95,7 @@ returns : tie.Need-returns-then-j-below
 returns c =
     let w = c in
     let t = c in
-    let k = c in
+    let k = c.before.before.before.before.before.before in
     rw w.second-b.ensures
     (sym (concat-low (ws k) (n k) (bits k) (entry k).args.j (sym (entry k).requires.1 ∙ t.if-kind-eq-CONCAT.true)
     (omega (arith, below-is c.before.before.before, c.if-j-below.true))))
@@ -110,7 +110,7 @@ shared-slice-read-result-2 : tie.Need-bounds-bits-at
 shared-slice-read-result-2 c =
     let w = c in
     let t = c in
-    let k = c in
+    let k = c.before.before.before.before.before in
     let f = concat c.before.before.before.before in
     omega (
       arith,
@@ -128,12 +128,12 @@ returns-2 : tie.Need-returns-then-kind-eq-CONCAT
 returns-2 c =
     let w = c in
     let t = c in
-    let k = c in
+    let k = c.before.before.before.before.before in
     rw (first-is k, below-is c.before.before)
     (sym (concat-high (ws k) (n k) (bits k) (entry k).args.j (sym (entry k).requires.1 ∙ t.if-kind-eq-CONCAT.true) (omega (arith, below-is c.before.before, c.if-j-below.false))))
 
 width-of-requires-2 : tie.Need-width_of-own-requires
-width-of-requires-2 c κs = let k = c in omega (arith, first-is k, (extension c).a, (node k).inside)
+width-of-requires-2 c κs = let k = c.before in omega (arith, first-is k, (extension c).a, (node k).inside)
 
 add-result-3 : tie.Need-overflow_add-result-then-j-own
 add-result-3 c = search rules
@@ -145,7 +145,7 @@ shared-slice-read-result-3 : tie.Need-bounds-bits-at-then-j-own
 shared-slice-read-result-3 c =
     let w = c in
     let t = c in
-    let k = c in
+    let k = c.before.before.before.before in
     let f = extension c.before.before.before in
     omega (
       arith,
@@ -162,7 +162,7 @@ returns-3 : tie.Need-returns-then-j-own
 returns-3 c =
     let w = c in
     let t = c in
-    let k = c in
+    let k = c.before.before.before.before in
     let e = (entry k).requires.1 in
     rw (first-is k)
     (sym (extend-low (ws k) (n k) (bits k) (entry k).args.j (omega (arith, e, kind-of-extension c.before.before.before)) (omega (arith, e, to-nineteen (ws k) (n k) (node k) _ e))
@@ -181,14 +181,14 @@ shared-slice-read-result-4 : tie.Need-bounds-bits-at-then-kind-eq-SIGN_EXTEND
 shared-slice-read-result-4 c =
     let w = c in
     let t = c in
-    let k = c in
+    let k = c.before.before.before.before.before in
     let f = extension c.before.before.before.before in
     omega (arith, first-is k, f.a, f.wide-a, (entry k).requires.0.places, own_is c.before.before.before, most (ws k) (n k) (node k) (op_a (ws k) (n k)) (omega (arith, f.a)))
 
 returns-4 : tie.Need-returns-then-kind-eq-SIGN_EXTEND
 returns-4 c =
     let w = c in
-    let k = c in
+    let k = c.before.before.before.before.before in
     rw (first-is k, own_is c.before.before.before)
     (sym (sext-high (ws k) (n k) (bits k) (entry k).args.j (sym (entry k).requires.1 ∙ c.if-kind-eq-SIGN_EXTEND.true)
     (omega (arith, own_is c.before.before.before, c.if-j-own.false))))
@@ -197,7 +197,7 @@ returns-5 : tie.Need-returns
 returns-5 c =
     let w = c in
     let t = c in
-    let k = c in
+    let k = c.before.before.before.before in
     let e = (entry k).requires.1 in
     let z : kind_number (ws k) (n k) ≡ 18 = let h = c.if-kind-eq-SIGN_EXTEND.false in omega (arith, e, kind-of-extension c.before.before.before, to-nineteen (ws k) (n k) (node k) _ e) in
     sym (zext-high (ws k) (n k) (bits k) (entry k).args.j z (omega (arith, own_is c.before.before, c.if-j-own.false)))

@@ -2,11 +2,11 @@
 use mathlib.Core.List.{List}
 use mathlib.Core.Logic.{⊎_elim}
 use mathlib.Core.Path.{◌≡◌, sym, ◌∙◌}
-use Prim.Native.Nat.{ℕ, ◌+◌, ◌*◌, ◌≤◌, ◌<◌}
+use Prim.Native.Nat.{ℕ, ◌+◌, ◌≤◌, ◌<◌}
 use native.Mathlib.Omega.{arith}
 use Rattle.facts.proofs.Numbers.{before-or-from}
-use Rattle.pool.specs.Node.{width_at, word_at, kind_number}
-use Rattle.pool_fields.specs.Fields.{op_a, op_b}
+use Rattle.pool.specs.Node.{kind_number}
+use Rattle.pool_fields.specs.Fields.{op_a}
 use Rattle.text_parts.specs.Text as nodes
 use Rattle.text_parts.proofs.Operands.{is-const}
 use Rattle.gates_pool.proofs.Rules.{most, var-facts, Extract, extract-facts}
@@ -41,13 +41,13 @@ module _ (c : tie.After-kind_of-kind) where
 -- a register's number, and the bit's
 variable : (c : tie.After-low) → (c.low.result < 32) × (j c.before.before < 128)
 variable c =
-    let k = c in
+    let k = c.before.before in
     let f = var-facts (ws k) (n k) (node k) (kind-is k c.if-kind-eq-VAR.true) in
     (omega (arith, c.low.ensures, f.0), omega (arith, (entry k).requires.2, f.1))
 
 -- an Extract
-extract : (c : tie.Then-kind-eq-EXTRACT) → let k = c in Extract (ws k) (n k) (node k)
-extract c = let k = c in extract-facts (ws k) (n k) (node k) (kind-is k c.if-kind-eq-EXTRACT.true)
+extract : (c : tie.Then-kind-eq-EXTRACT) → let k = c.before.before.before in Extract (ws k) (n k) (node k)
+extract c = let k = c.before.before.before in extract-facts (ws k) (n k) (node k) (kind-is k c.if-kind-eq-EXTRACT.true)
 
 -- its literal's place
 record Cut (c : tie.After-struct_known-1) : Type 0 where
@@ -59,7 +59,7 @@ record Cut (c : tie.After-struct_known-1) : Type 0 where
 cut : (c : tie.After-struct_known-1) → Cut c
 cut c =
     let t = c in
-    let k = c in
+    let k = c.before.before.before.before.before.before in
     let f = extract c.before.before.before in
     let m = most (ws k) (n k) (node k) (op_a (ws k) (n k)) (omega (arith, f.a)) in
     record {
@@ -87,7 +87,7 @@ mul-result-2 : tie.Need-overflow_mul-result-then-kind-eq-VAR
 mul-result-2 c = omega (arith, variable c)
 
 returns : tie.Need-returns-then-kind-eq-VAR
-returns c = let k = c in rw c.low.ensures (sym (var-wire (ws k) (n k) (bits k) (j k) (kind-is k c.if-kind-eq-VAR.true)))
+returns c = let k = c.before.before in rw c.low.ensures (sym (var-wire (ws k) (n k) (bits k) (j k) (kind-is k c.if-kind-eq-VAR.true)))
 
 low-requires-2 : tie.Need-low-requires-then-kind-eq-CONST
 low-requires-2 c κs = search rules
@@ -102,7 +102,7 @@ returns-2 : tie.Need-returns-then-kind-eq-CONST
 returns-2 c =
     let h = c in
     let t = c in
-    let k = c in
+    let k = c.before.before.before.before.before in
     c.constant_bit.ensures ∙ rw (h.low-then-kind-eq-CONST.ensures, h.high.ensures) (sym (const-wire (ws k) (n k) (bits k) (j k) (kind-is k t.if-kind-eq-CONST.true)))
 
 first-requires : tie.Need-first-a-requires
@@ -118,33 +118,33 @@ add-result-3 : tie.Need-overflow_add-result-then-kind-eq-EXTRACT
 add-result-3 c = omega (arith, (cut c).inside)
 
 add-result-4 : tie.Need-overflow_add-result-then-kind-eq-EXTRACT-2
-add-result-4 c = let k = c in omega (arith, (cut c).inside, (cut c).before-n, (entry k).requires.0.places)
+add-result-4 c = let k = c.before.before.before.before.before.before in omega (arith, (cut c).inside, (cut c).before-n, (entry k).requires.0.places)
 
 mul-result-4 : tie.Need-offset_bounds-bits-a
-mul-result-4 c = let k = c in omega (arith, (cut c).inside, (cut c).before-n, (entry k).requires.0.places)
+mul-result-4 c = let k = c.before.before.before.before.before.before in omega (arith, (cut c).inside, (cut c).before-n, (entry k).requires.0.places)
 
 shared-slice-read-result : tie.Need-bounds-bits-a
 shared-slice-read-result c =
     let d = c in
-    let k = c in
+    let k = c.before.before.before.before.before.before.before in
     omega (arith, (cut c.before).inside, (cut c.before).before-n, (entry k).requires.0.places)
 
 returns-3 : tie.Need-returns-then-kind-eq-EXTRACT
 returns-3 c =
     let d = c in
     let t = c in
-    let k = c in
+    let k = c.before.before.before.before.before.before.before in
     rw ((cut c.before).first-is, d.high-lo.ensures) (sym (extract-wire (ws k) (n k) (bits k) (j k) (kind-is k t.if-kind-eq-EXTRACT.true)))
 
 joined-wire-requires : tie.Need-joined_wire-requires
 joined-wire-requires c κs =
     let e2 = c in
     let e1 = c in
-    let k = c in
+    let k = c.before.before.before in
     let s = entry k in
-    let q = k.kind_of-kind.ensures in
-    let from-three : 3 ≤ k.kind_of-kind.result =
-    ⊎_elim (λ l. absurd (e2.if-kind-eq-CONST.false (is-const (ws k) (n k) (node k) _ q l e1.if-kind-eq-VAR.false))) (λ l. l) (before-or-from k.kind_of-kind.result 3) in
+    let q = c.kind_of-kind.ensures in
+    let from-three : 3 ≤ c.kind_of-kind.result =
+    ⊎_elim (λ l. absurd (e2.if-kind-eq-CONST.false (is-const (ws k) (n k) (node k) _ q l e1.if-kind-eq-VAR.false))) (λ l. l) (before-or-from c.kind_of-kind.result 3) in
     let high = s.requires.1 (omega (arith, q, from-three)) in
     (s.requires.0, q, omega (arith, high, q, c.if-kind-eq-EXTRACT.false), s.requires.2)
 

@@ -1,13 +1,13 @@
 -- `wires` puts one literal per turn; what it reads comes before what it writes.
 use Prim.Native.Nat.{ℕ, ◌+◌, ◌-◌, ◌*◌, ◌≤◌, ◌<◌}
 use mathlib.Core.List.{List}
-use mathlib.Core.Path.{◌≡◌, refl, sym, ap, ◌∙◌}
+use mathlib.Core.Path.{◌≡◌, ◌∙◌}
 use native.Mathlib.Omega.{arith}
-use lib.ListN.{length, get_or}
+use lib.ListN.{length}
 use Rattle.pool.specs.Node.{width_at}
 use Rattle.gates_words.specs.Words.{Puts}
 use Rattle.gates_words.proofs.Loops.{puts_none, puts-more}
-use Rattle.gates_pool.specs.Bits.{wire_at, Placed}
+use Rattle.gates_pool.specs.Bits.{wire_at}
 use Rattle.gates_pool.proofs.Rules.{most}
 use Rattle.gates_pool.proofs.Literals.{wire-kept}
 use borrow.Author.Rules.{rules}
@@ -40,7 +40,7 @@ module _ (c : tie.After-struct_known-1 invariant-loop-j decreases-loop-j) where
 -- a turn: what is read is what stood there at first
 module _ (c : tie.After-wire-literal invariant-loop-j decreases-loop-j) where
   abbrev turn : tie.In-loop-j invariant-loop-j decreases-loop-j
-  turn = c.before.before
+  turn = c.before
 
   abbrev loop : tie.At-loop-j invariant-loop-j decreases-loop-j
   loop = turn.before
@@ -60,11 +60,11 @@ loop-holds c = (omega arith, puts_none _ _ _)
 wire-requires : tie.Need-wire-literal-requires invariant-loop-j decreases-loop-j
 wire-requires c κs =
     let t = c in
-    let l = c in
-    let s = entry l.before in (
-      record { node = s.requires.0.node; places = omega (arith, l.loop-j.invariant.1.size, s.requires.0.places) },
+    let l = c.before.before in
+    let s = entry l in (
+      record { node = s.requires.0.node; places = omega (arith, c.loop-j.invariant.1.size, s.requires.0.places) },
       s.requires.1,
-      omega (arith, t.loop-j-test.true, width_is l.before),
+      omega (arith, t.loop-j-test.true, width_is l),
     )
 
 add-bits : tie.Need-overflow_add-bits invariant-loop-j decreases-loop-j
@@ -100,7 +100,7 @@ same_length c = c.loop-j.invariant.1.size
 
 returns : tie.Need-returns invariant-loop-j decreases-loop-j
 returns c =
-    let k = c in
+    let k = c.before.before in
     let e : c.loop-j.j ≡ width_at (ws k) (n k) = omega (arith, c.loop-j.invariant.0, c.loop-j-test.false, width_is k) in
     rw e at c.loop-j.invariant.1
 
