@@ -1,5 +1,4 @@
 -- left_bit: SQSHLU by its exact product, the others by what the shift loses.
-use mathlib.Core.Path.{refl}
 use Rattle.saturation_lane.proofs.Shifts.{left-exact, left-lost}
 use borrow.Author.Rules.{rules}
 use Rattle.saturation_lane.proofs.shift.left_bit.Statement.{statement}
