@@ -17,7 +17,7 @@ fits c =
     let a = c.args in
     let p = c.requires.1.1 in
     let e = c.source_bits-bits.ensures in
-    (omega (arith, p.0, source-least a.kind a.lane-bits, e), subst (λ (x : ℕ). x * a.index.0 + x ≤ 128) (sym e) p.4)
+    (omega (arith, p.0, source-least a.kind a.lane_bits, e), subst (λ (x : ℕ). x * a.index.0 + x ≤ 128) (sym e) p.4)
 
 used : (c : tie.Then-uses_second) → uses_second c.args.kind ≡ true
 used c = sym c.uses_second.ensures ∙ c.if-uses_second.true

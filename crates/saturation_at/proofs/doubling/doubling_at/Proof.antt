@@ -22,8 +22,8 @@ first_run c = next (start-run c.before.before.before) c.extract_lane-a.ensures.s
 second_run : (c : tie.After-extract_lane-b) → Next (first_run c.before.before.before.before) c.extract_lane-b.ensures.sized
 second_run c = next (first_run c.before.before.before.before) c.extract_lane-b.ensures.sized
 
-third-run : (c : tie.After-extract_lane-prior) → Next (second_run c.before.before.before.before.before.before.before) c.extract_lane-prior.ensures.sized
-third-run c = next (second_run c.before.before.before.before.before.before.before) c.extract_lane-prior.ensures.sized
+third-run : (c : tie.After-extract_lane-prior) → Next (second_run c.before.before.before.before.before) c.extract_lane-prior.ensures.sized
+third-run c = next (second_run c.before.before.before.before.before) c.extract_lane-prior.ensures.sized
 
 -- ---- needs
 
@@ -48,8 +48,8 @@ extract-lane-requires-3 c κs =
     let s = c in
     omega (
       arith,
-      second_run c.before.before.before.before.before.before,
-      subst (λ (k : Combine). Below (read_if (accumulates k) s.args.d 0) s.args.count) o.combine-1.given.1 s.requires.1.0.2 refl,
+      second_run c.before.before.before.before,
+      subst (λ (k : Combine). Below (read_if (accumulates k) s.args.d 0) s.args.count) o.in-With.is s.requires.1.0.2 refl,
     )
 
 either-bit-requires : tie.Need-either_bit-requires
@@ -64,7 +64,7 @@ returns c =
     let told = c in
     let second = c in
     let st = c in
-    at-nothing st.args.lane_bits st.args.from.0 st.args.with.0 st.args.index.0 st.requires.1.1.2 st.requires.1.1.3 told.enum_told-1.given.1
+    at-nothing st.args.lane_bits st.args.from.0 st.args.with.0 st.args.index.0 st.requires.1.1.2 st.requires.1.1.3 told.in-Nothing.is
     second.extract_lane-a.ensures second.extract_lane-b.ensures l-product-bit.product_bit.ensures
 
 same-length-2 : tie.Need-shape_of-pool-in-With
@@ -77,7 +77,7 @@ returns-2 c =
     let second = c in
     let st = c in
     at_with st.args.lane_bits st.args.from.0 st.args.with.0 st.args.index.0 st.requires.1.1.2 st.requires.1.1.3 st.requires.1.1.4
-    third.combine-1.given.1 second.extract_lane-a.ensures second.extract_lane-b.ensures third.extract_lane-prior.ensures l-either-bit.either_bit.ensures
+    third.in-With.is second.extract_lane-a.ensures second.extract_lane-b.ensures third.extract_lane-prior.ensures l-either-bit.either_bit.ensures
 
 pub doubling_at_spec : {M : Type 1} → statement M
 doubling_at_spec =

@@ -58,7 +58,7 @@ returns c =
     let l-clip = c in
     let l-double = c in
     let a = l-double.args in
-    either a.op a.lane-bits l-double.double-value.ensures l-clip.clip-first.ensures l-clamp.clamp-product.ensures l-sum-bit.sum_bit-second.ensures l-bv.bv.ensures
+    either a.op a.lane_bits l-double.double-value.ensures l-clip.clip-first.ensures l-clamp.clamp-product.ensures l-sum-bit.sum_bit-second.ensures l-bv.bv.ensures
 
 pub either_bit_spec : {M : Type 1} → statement M
 either_bit_spec =
