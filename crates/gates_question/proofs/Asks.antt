@@ -1,27 +1,25 @@
 -- The literals of a node of each pool, and the literal that is true if bits of them differ. Assumes nothing.
-use mathlib.Core.Bool.{Bool, true, not, ◌&&◌}
+use mathlib.Core.Bool.{not}
 use mathlib.Core.List.{List}
 use mathlib.Core.Path.{◌≡◌, refl, sym, ap, ◌∙◌}
 use Prim.Native.Nat.{ℕ, suc, ◌+◌, ◌-◌, ◌*◌, ◌/◌, ◌%◌, ◌^◌, ◌≤◌, ◌<◌}
 use native.Mathlib.Numerals.{add-one}
 use native.Mathlib.Omega.{arith}
-use lib.Dec.{eqb, ltb}
+use lib.Dec.{eqb}
 use lib.ListN.{length, get_or, drop}
 use lib.Seq.{get_or-drop}
 use borrow.Author.Tests.{lt-ltb}
 use Rattle.terms.specs.Value.{value}
-use Rattle.pool.specs.Node.{width_at}
 use Rattle.pool.specs.Unfold.{unfold_at}
 use Rattle.gates.specs.Graph.{truth, gates_ok, graph_ok}
-use Rattle.gates.specs.Grow.{Grown, Builds, Room, Under, negated}
+use Rattle.gates.specs.Grow.{Grown, Builds, Room, negated}
 use Rattle.gates.proofs.Laws.{grown-same, grown-trans, is_made, is-not}
 use Rattle.gates_words.specs.Number.{sum, bit_at, number}
 use Rattle.gates_words.specs.Words.{Low, Reads}
 use Rattle.gates_words.proofs.Sums.{sum_same, sum-high, sum_low}
 use Rattle.gates_words.proofs.Loops.{number-kept, low-kept}
-use Rattle.gates_pool.specs.Bits.{Start, literals, Held}
-use Rattle.gates_pool.specs.Gates.{gates_in}
-use Rattle.gates_question.specs.Question.{gates_of_two, most_gates, question_number, bits_of, differ_at, Asks}
+use Rattle.gates_pool.specs.Bits.{Start}
+use Rattle.gates_question.specs.Question.{gates_of_two, Asks}
 use Rattle.gates_question.specs.Build.{Ready, Both, words_differ}
 use Rattle.gates_question.proofs.Refusals.{Passed}
 

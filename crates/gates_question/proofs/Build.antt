@@ -1,14 +1,12 @@
 -- Two pools in one graph: what the second leaves of the first, and if the literals of both are. Assumes nothing.
-use mathlib.Core.Path.{◌≡◌, refl, sym, ap, ◌∙◌}
+use mathlib.Core.Path.{◌≡◌, sym, ap, ◌∙◌}
 use mathlib.Core.List.{List, ◌++◌}
 use Prim.Native.Nat.{ℕ, zero, suc, ◌+◌, ◌-◌, ◌*◌, ◌≤◌, ◌<◌}
 use native.Mathlib.Omega.{arith}
 use lib.ListN.{length, get_or, take, drop, length-drop, get_or-append}
 use lib.Seq.{get_or-append-add, get_or-take, get_or-drop, length-take-le}
 use borrow.Rule.Slice.PartMut.{put_mid, post_of, same_len_mid}
-use Rattle.terms.specs.Value.{value}
 use Rattle.pool.specs.Node.{width_at}
-use Rattle.pool.specs.Unfold.{unfold_at}
 use Rattle.text_parts.proofs.Operands.{ready_of}
 use Rattle.gates.specs.Grow.{Grown, Room}
 use Rattle.gates.proofs.Laws.{grown-same, grown-trans}

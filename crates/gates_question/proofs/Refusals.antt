@@ -11,7 +11,6 @@ use Rattle.facts.proofs.Tests.{and_both, passed}
 use Rattle.pool.specs.Node.{width_at}
 use Rattle.pool.specs.Rules.{pool_ok, of_width}
 use Rattle.pool_check.proofs.Passed.{words-for, few, keeps, below, has_width}
-use Rattle.gates.specs.Grow.{Room}
 use Rattle.gates_question.specs.Question.{gates_of_two, places_of_two, most_gates, pools_number, question_number}
 use Rattle.gates_question.specs.Build.{Pool}
 

@@ -1,5 +1,5 @@
 -- Two pools in one graph, the literals of the second after those of the first; and whether bits of two words of 128 literals differ.
-use Rattle.std.specs.Prelude.{Bool, true, not, List, ◌≡◌, ℕ, ◌+◌, ◌*◌, ◌/◌, ◌%◌, ◌^◌, ◌≤◌, eqb, length, drop}
+use Rattle.std.specs.Prelude.{Bool, not, List, ◌≡◌, ℕ, ◌+◌, ◌*◌, ◌/◌, ◌%◌, ◌^◌, ◌≤◌, eqb, length, drop}
 use Rattle.pool.specs.Rules.{Valid}
 use Rattle.gates.specs.Grow.{Grown, Room}
 use Rattle.gates_words.specs.Number.{number}

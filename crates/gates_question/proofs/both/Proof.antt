@@ -1,6 +1,6 @@
 -- `both` makes the nodes of the first pool, and after them those of the second.
 use native.Mathlib.Omega.{arith}
-use Rattle.gates_question.proofs.Build.{first-room, at-inside, second-room, second-places, both-made}
+use Rattle.gates_question.proofs.Build.{first-room, second-room, second-places, both-made}
 use borrow.Author.Rules.{rules}
 use Rattle.gates_question.proofs.both.Statement.{statement}
 use Rattle.gates_question.proofs.both.Tie as tie

@@ -1,7 +1,6 @@
 -- `gates_of_two` adds the gates of both pools, and 512.
-use mathlib.Core.Path.{◌≡◌, refl, sym, ap, ◌∙◌}
 use native.Mathlib.Omega.{arith}
-use Prim.Native.Nat.{ℕ, ◌+◌, ◌-◌, ◌*◌, ◌≤◌, ◌<◌}
+use Prim.Native.Nat.{◌≤◌}
 use Rattle.gates_question.proofs.Build.{gates-bound}
 use borrow.Author.Rules.{rules}
 use Rattle.gates_question.proofs.gates_of_two.Statement.{statement}

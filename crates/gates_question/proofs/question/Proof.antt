@@ -1,8 +1,6 @@
 -- `question`: a refusal, or the graph of both pools and the literal.
-use mathlib.Core.Path.{◌≡◌, refl, sym, ap, ◌∙◌}
+use mathlib.Core.Path.{refl, sym, ◌∙◌}
 use native.Mathlib.Omega.{arith}
-use Prim.Native.Nat.{ℕ, ◌+◌, ◌-◌, ◌*◌, ◌≤◌, ◌<◌}
-use mathlib.Core.List.{List}
 use lib.ListN.{length}
 use Rattle.gates_question.proofs.Refusals.{Passed, all-passed}
 use Rattle.gates_question.proofs.Asks.{ready, first_reads, second_reads, room, few, asks, graph_size}
@@ -44,18 +42,18 @@ mul-here c =
 
 sub-differ : tie.Need-overflow_sub-hi
 sub-differ c =
-    let p = passed c.before.before.before.before.before.before.before.before.before.before.before.before.before.before.before in omega
+    let p = passed c.before.before.before.before.before.before.before.before.before.before.before.before.before.before in omega
     (arith, p.ordered)
 
 add-differ : tie.Need-overflow_add-hi
 add-differ c =
-    let p = passed c.before.before.before.before.before.before.before.before.before.before.before.before.before.before.before in omega
+    let p = passed c.before.before.before.before.before.before.before.before.before.before.before.before.before.before in omega
     (arith, p.inside-128)
 
 differ-requires : tie.Need-differ-found-requires
 differ-requires c κs =
     let d = c in
-    let p = passed c.before.before.before.before.before.before.before.before.before.before.before.before.before.before.before in
+    let p = passed c.before.before.before.before.before.before.before.before.before.before.before.before.before.before in
     (room p d.both-made.ensures, omega (arith, p.ordered, p.inside-128), first_reads p d.both-made.ensures, second_reads p d.both-made.ensures)
 
 same_length : tie.Need-shape_of-graph
@@ -69,10 +67,10 @@ same-length-3 c = search rules
 
 returns-2 : tie.Need-returns
 returns-2 c =
-    let e = c in
+    let e = c.before.before.before.before.before.before.before.before.before.before.before.before.before.before.before.before.before.before.before in
     let d = c in
-    let p = passed e.before.before.before.before.before.before.before.before.before.before.before.before.before.before.before.before in
-    let made = e.differ-found.ensures in
+    let p = passed e in
+    let made = c.differ-found.ensures in
     record {
       number_is = sym d.if-number-ne0.false ∙ d.refusal-number.ensures;
       refused = λ h. absurd (h refl);

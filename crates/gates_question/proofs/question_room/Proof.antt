@@ -1,7 +1,7 @@
 -- `question_room`: the numbers of both pools, and 0 beside a refusal.
-use mathlib.Core.Path.{◌≡◌, refl, sym, ap, ◌∙◌}
+use mathlib.Core.Path.{◌≡◌, sym, ◌∙◌}
 use native.Mathlib.Omega.{arith}
-use Prim.Native.Nat.{ℕ, ◌+◌, ◌-◌, ◌*◌, ◌≤◌, ◌<◌}
+use Prim.Native.Nat.{ℕ, ◌<◌}
 use Rattle.facts.proofs.Refused.{zero-beside}
 use Rattle.gates_question.specs.Build.{Pool}
 use Rattle.gates_question.proofs.Refusals.{pool-of, both_ok}
