@@ -27,8 +27,6 @@ can s e = sym (ap saturable e) ∙ s.requires.1.1.5
 fits : (s : tie.Start) → let a = s.args in a.shape.lane_bits * a.index.0 + a.shape.lane_bits ≤ 128
 fits s = let a = s.args in lane-fits a.shape.lane_bits a.index.0 a.shape.lanes s.requires.1.1.2 s.requires.1.1.3
 
--- ---- the arms that build a bit: where the operation is known, and the entry from there
-
 -- ---- needs
 
 enum-known-op : tie.Need-enum_known-op
@@ -36,10 +34,9 @@ enum-known-op c = search rules
 
 shift-at-requires : tie.Need-shift_at-requires
 shift-at-requires c κs =
-    let l-op = c in
-    let st = c in
-    let q = asked st l-op.op-1.given.1 in
-    (omega (arith, st.requires.0), ((st.requires.1.0.0, q.0), (st.requires.1.1.0, st.requires.1.1.1, q.2, can st l-op.op-1.given.1, fits c.before.before.before.before.before)))
+    let st : tie.Start = c.before.before.before in
+    let q = asked st c.in-Shift.is in
+    (omega (arith, st.requires.0), ((st.requires.1.0.0, q.0), (st.requires.1.1.0, st.requires.1.1.1, q.2, can st c.in-Shift.is, fits st)))
 
 enum_told : tie.Need-enum_told-1
 enum_told c = search rules
@@ -49,10 +46,9 @@ enum-known-op-2 c = search rules
 
 mixed-at-requires : tie.Need-mixed_at-requires
 mixed-at-requires c κs =
-    let l-op2 = c in
-    let st = c in
-    let q = asked st l-op2.op-in-MixedSignAdd-1.given.1 in
-    (omega (arith, st.requires.0), ((st.requires.1.0.0, q.1 refl), (omega (arith, st.requires.1.1.0), st.requires.1.1.1, fits c.before.before.before.before.before)))
+    let st : tie.Start = c.before.before.before in
+    let q = asked st c.in-MixedSignAdd.is in
+    (omega (arith, st.requires.0), ((st.requires.1.0.0, q.1 refl), (omega (arith, st.requires.1.1.0), st.requires.1.1.1, fits st)))
 
 enum-known-op-3 : tie.Need-enum_known-op-in-DoublingLong-1
 enum-known-op-3 c = search rules
@@ -67,12 +63,10 @@ second-factor-requires c κs = tt
 
 doubling-at-requires : tie.Need-doubling_at-requires
 doubling-at-requires c κs =
-    let l-second-factor = c in
-    let l-source-lane = c in
-    let e = l-source-lane.op-in-DoublingLong-1.given.1 in
-    let st = c in
+    let e = c.in-DoublingLong.is in
+    let st : tie.Start = c.before.before.before.before.before.before in
     let q = asked st e in
-    let f = from-fits e st.args.shape.lane_bits st.args.shape.lanes st.requires.1.1.2 st.requires.1.1.3 l-source-lane.source_lane-from.ensures in (
+    let f = from-fits e st.args.shape.lane_bits st.args.shape.lanes st.requires.1.1.2 st.requires.1.1.3 c.source_lane-from.ensures in (
       st.requires.0,
       (
         (st.requires.1.0.0, q.0 refl, q.1),
@@ -80,9 +74,9 @@ doubling-at-requires c κs =
           omega (arith, st.requires.1.1.0),
           st.requires.1.1.1,
           f,
-          with-fits e st.args.shape.lane_bits st.args.shape.source_index.0 l-source-lane.source_lane-from.result.0
-              l-second-factor.second_factor-with.ensures q.2 f,
-          fits c.before.before.before.before.before.before.before.before,
+          with-fits e st.args.shape.lane_bits st.args.shape.source_index.0 c.source_lane-from.result.0
+              c.second_factor-with.ensures q.2 f,
+          fits st,
         ),
       ),
     )
@@ -92,9 +86,8 @@ enum-known-op-4 c = search rules
 
 saturating-some-requires : tie.Need-saturating_some-requires
 saturating-some-requires c κs =
-    let l-op4 = c in
-    let st = c in
-    let q = asked st l-op4.op-in-Saturating-1.given.1 in (
+    let st : tie.Start = c.before.before.before in
+    let q = asked st c.in-Saturating.is in (
       omega (arith, st.requires.0),
       (
         (st.requires.1.0.0, q.0),
@@ -102,7 +95,7 @@ saturating-some-requires c κs =
           omega (arith, st.requires.1.1.0),
           st.requires.1.1.1,
           q.2.0,
-          can st l-op4.op-in-Saturating-1.given.1,
+          can st c.in-Saturating.is,
           lane-fits _ st.args.index.0 st.args.shape.lanes st.requires.1.1.2 q.2.1,
         ),
       ),
@@ -124,10 +117,10 @@ returns : tie.Need-returns-in-Shift
 returns c =
     let l-shift-at = c in
     let o = c in
-    rw o.op-1.given.1 (within (omega arith) (not-read o.args.d _) (as_is _) (as_is _) l-shift-at.shift_at.ensures)
+    rw o.in-Shift.is (within (omega arith) (not-read o.args.d _) (as_is _) (as_is _) l-shift-at.shift_at.ensures)
 
 returns-2 : tie.Need-returns-in-ShiftInsert
-returns-2 c = absurd (not_op c.enum_told-1.given.1 refl c.requires.1.1.5)
+returns-2 c = absurd (not_op c.in-ShiftInsert.is refl c.requires.1.1.5)
 
 same-length-2 : tie.Need-shape_of-pool-in-MixedSignAdd
 same-length-2 c = search rules
@@ -136,7 +129,7 @@ returns-3 : tie.Need-returns-in-MixedSignAdd
 returns-3 c =
     let l-mixed-at = c in
     let o = c in
-    rw o.op-in-MixedSignAdd-1.given.1 (within (omega arith) (as_is _) (as_is _) (not-read o.args.second _) l-mixed-at.mixed_at.ensures)
+    rw o.in-MixedSignAdd.is (within (omega arith) (as_is _) (as_is _) (not-read o.args.second _) l-mixed-at.mixed_at.ensures)
 
 same-length-3 : tie.Need-shape_of-pool-in-DoublingLong
 same-length-3 c = search rules
@@ -147,7 +140,7 @@ returns-4 c =
     let l-second-factor = c in
     let o = c in
     let a = o.args in
-    doubled a.shape.lane_bits a.shape.lanes a.shape.source_index.0 a.index.0 o.op-in-DoublingLong-1.given.1
+    doubled a.shape.lane_bits a.shape.lanes a.shape.source_index.0 a.index.0 o.in-DoublingLong.is
     l-second-factor.source_lane-from.ensures l-second-factor.second_factor-with.ensures l-doubling-at.doubling_at.ensures
 
 same-length-4 : tie.Need-shape_of-pool-in-Saturating
@@ -156,16 +149,16 @@ same-length-4 c = search rules
 returns-5 : tie.Need-returns-in-Saturating
 returns-5 c =
     let l-saturating-some = c in
-    rw l-saturating-some.op-in-Saturating-1.given.1 (within (omega arith) (any-source _) (as_is _) (as_is _) l-saturating-some.saturating_some.ensures)
+    rw l-saturating-some.in-Saturating.is (within (omega arith) (any-source _) (as_is _) (as_is _) l-saturating-some.saturating_some.ensures)
 
 returns-6 : tie.Need-returns-in-BitwiseUnary
-returns-6 c = absurd (not_op c.enum_told-in-BitwiseUnary-1.given.1 refl c.requires.1.1.5)
+returns-6 c = absurd (not_op c.in-BitwiseUnary.is refl c.requires.1.1.5)
 
 returns-7 : tie.Need-returns-in-AbsoluteDifference
-returns-7 c = absurd (not_op c.enum_told-in-AbsoluteDifference-1.given.1 refl c.requires.1.1.5)
+returns-7 c = absurd (not_op c.in-AbsoluteDifference.is refl c.requires.1.1.5)
 
 returns-8 : tie.Need-returns-in-HighNarrow
-returns-8 c = absurd (not_op c.enum_told-in-HighNarrow-1.given.1 refl c.requires.1.1.5)
+returns-8 c = absurd (not_op c.in-HighNarrow.is refl c.requires.1.1.5)
 
 pub bit_at_spec : {M : Type 1} → statement M
 bit_at_spec =

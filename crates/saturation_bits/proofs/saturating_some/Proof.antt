@@ -19,13 +19,13 @@ saturating-at-requires c κs =
     let l-range = c in
     let l-kind-to = c in
     let st = c in
-    (st.requires.0, (st.requires.1.0, (st.requires.1.1.0, st.requires.1.1.1, st.requires.1.1.2, sym l-kind-to.kind_to-range.ensures ∙ l-range.range-1.given.1, st.requires.1.1.4)))
+    (st.requires.0, (st.requires.1.0, (st.requires.1.1.0, st.requires.1.1.1, st.requires.1.1.2, sym l-kind-to.kind_to-range.ensures ∙ l-range.in-Into.is, st.requires.1.1.4)))
 
 returns : tie.Need-returns-in-Never
 returns c =
     let to = c in
     let st = c in
-    absurd (not-never st.args.kind to.kind_to-range.ensures c.enum_told-1.given.1 st.requires.1.1.3)
+    absurd (not-never st.args.kind to.kind_to-range.ensures c.in-Never.is st.requires.1.1.3)
 
 same_length : tie.Need-shape_of-pool
 same_length c = search rules
