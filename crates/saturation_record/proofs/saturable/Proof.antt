@@ -48,13 +48,7 @@ returns-4 : tie.Need-returns-in-DoublingLong
 returns-4 c = search rules
 
 returns-5 : tie.Need-returns-in-Saturating
-returns-5 c =
-    let l-saturable-kind = c in
-    let l-known-told2 = l-saturable-kind.before in
-    let l-op2 = l-known-told2.before in
-    let l-match = l-op2.before in
-    let st = l-match.before in
-    l-saturable-kind.saturable_kind.ensures ∙ ap saturable (sym l-op2.op-in-Saturating-1.given.1)
+returns-5 c = c.saturable_kind.ensures ∙ ap saturable (sym c.in-Saturating.is)
 
 returns-6 : tie.Need-returns-in-BitwiseUnary
 returns-6 c = search rules
