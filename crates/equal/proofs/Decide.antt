@@ -2,7 +2,7 @@
 use mathlib.Core.Path.{◌≡◌, refl, sym, ap, ◌∙◌}
 use mathlib.Core.Bool.{Bool, true, false, cond, not, ◌&&◌, ◌||◌, false≢true}
 use mathlib.Core.List.{List}
-use Prim.Native.Nat.{ℕ, ◌+◌, ◌/◌, ◌<◌}
+use Prim.Native.Nat.{ℕ, ◌+◌, ◌/◌}
 use native.Mathlib.Omega.{arith}
 use lib.Dec.{eqb, leb, ltb}
 use lib.ListN.{length}
@@ -19,7 +19,7 @@ use Rattle.refutation.specs.Refutation.{refused_step}
 use Rattle.refutation_check.specs.declared.Checked.{Checked}
 use Rattle.refutation_check.specs.Answer as check
 use Rattle.refutation_check.proofs.Answers.{accepted-is-false}
-use Rattle.equal.specs.Equal.{EqualBits, decision, Decided, Answered}
+use Rattle.equal.specs.Equal.{EqualBits, Decided, Answered}
 
 -- the answer without the rule for an empty refutation is the answer, unless it is 14 and the rule applies
 same_answer : (x z s : Bool) {k : ℕ} → k ≡ unless x 6 (unless s 14 0) → (z ≡ true → k ≡ 14 → ⊥) → k ≡ unless x 6 (unless (z || s) 14 0)

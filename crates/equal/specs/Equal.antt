@@ -1,5 +1,5 @@
 -- What the check of a refutation says of two pools: with 0, the bits of the two nodes are equal at every start.
-use Rattle.std.specs.Prelude.{Bool, cond, ◌&&◌, ◌||◌, List, ◌≡◌, ℕ, ◌/◌, eqb, leb, ltb, length}
+use Rattle.std.specs.Prelude.{cond, ◌&&◌, ◌||◌, List, ◌≡◌, ℕ, ◌/◌, eqb, leb, ltb, length}
 use Rattle.facts.specs.Refuse.{unless}
 use Rattle.terms.specs.Value.{value}
 use Rattle.pool.specs.Unfold.{unfold_at}

@@ -1,8 +1,7 @@
 -- `equal`: a refused question, the answer of the check, or 0 for literal 0 and an empty refutation.
-use mathlib.Core.Bool.{true, false, false≢true}
-use mathlib.Core.Path.{◌≡◌, sym, ◌∙◌}
+use mathlib.Core.Bool.{false≢true}
+use mathlib.Core.Path.{sym, ◌∙◌}
 use lib.ListN.{length}
-use borrow.Author.Tests.{not-true}
 use Rattle.equal.proofs.Decide.{not-asked, as-checked, as-empty}
 use borrow.Author.Rules.{rules}
 use Rattle.equal.proofs.equal.Statement.{statement}

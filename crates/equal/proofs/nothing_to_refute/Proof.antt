@@ -1,5 +1,5 @@
 -- `nothing_to_refute` tests the literal, and then the length.
-use mathlib.Core.Path.{◌≡◌, sym}
+use mathlib.Core.Path.{sym}
 use borrow.Author.Tests.{eq-eqb, ne_eqb}
 use Rattle.equal.proofs.nothing_to_refute.Statement.{statement}
 use Rattle.equal.proofs.nothing_to_refute.Tie as tie
