@@ -21,20 +21,18 @@ invariant-loop-next pool₀ held₀ line input from out₀ len₀ output₀ next
 abbrev decreases-loop-next : tie.decreases-loop-next
 decreases-loop-next pool₀ held₀ line input from out₀ len₀ output₀ next₀ pool held out len output next = length input - next
 
--- ---- places of the code: its entry, the loop's test, the turn's gathering, the answer to a line that ended
-
 -- ---- what a turn gathers
 
 module _ (g : tie.After-gather-g invariant-loop-next decreases-loop-next) where
   -- a byte is taken, and what is held has room
-  more : (top g).loop-next.next < g.gather-g.result.taken
-  more = taken_more (entry (top g)).args.input.now (test g).loop-next-test.true g.gather-g.ensures
+  more : g.loop-next.next < g.gather-g.result.taken
+  more = taken_more g.args.input.now g.loop-next-test.true g.gather-g.ensures
 
-  fits : g.gather-g.result.len ≤ length (top g).loop-next.held
-  fits = held_fits (top g).loop-next.invariant.0 g.gather-g.ensures
+  fits : g.gather-g.result.len ≤ length g.loop-next.held
+  fits = held_fits g.loop-next.invariant.0 g.gather-g.ensures
 
-  holds-25 : 25 ≤ length (top g).loop-next.held
-  holds-25 = omega (arith, (entry (top g)).requires.0.held_room, (top g).loop-next.invariant.3)
+  holds-25 : 25 ≤ length g.loop-next.held
+  holds-25 = omega (arith, g.requires.0.held_room, g.loop-next.invariant.3)
 
 loop-holds : tie.Need-loop-next-init invariant-loop-next decreases-loop-next
 loop-holds c =
@@ -71,13 +69,13 @@ gather-requires c κs = tt
 
 slice-reshare-prefix-answer-line : tie.Need-slice_bounds-answer_line-end invariant-loop-next decreases-loop-next
 slice-reshare-prefix-answer-line c =
-    let g = c in
-    omega (arith, fits g, g.gather.kept.0)
+    let g = c.before.before.before.before in
+    omega (arith, fits g, g.gather-g.auto.held)
 
 slice-aggregate-answer-line : tie.Need-slice_bounds-answer_line-end-then-g invariant-loop-next decreases-loop-next
 slice-aggregate-answer-line c =
-    let g = c in
-    sym (length-take-le _ _ (omega (arith, fits g, g.gather.kept.0)))
+    let g = c.before.before.before.before in
+    sym (length-take-le _ _ (omega (arith, fits g, g.gather-g.auto.held)))
 
 answer-line-requires : tie.Need-answer_line-output-requires invariant-loop-next decreases-loop-next
 answer-line-requires c κs = tt
@@ -85,14 +83,14 @@ answer-line-requires c κs = tt
 -- a line ended
 loop-less : tie.Need-loop-next-smaller-then-g invariant-loop-next decreases-loop-next
 loop-less c =
-    let g = c in
+    let g = c.before.before.before.before.before.before.before.before.before.before in
     omega (arith, more g, g.loop-next-test.true)
 
 loop-again : tie.Need-loop-next-preserved-then-g invariant-loop-next decreases-loop-next
 loop-again c =
     let a = c in
     let t = c in
-    let g = c in
+    let g = c.before.before.before.before.before.before.before.before.before.before in
     let l = c in
     let i = l.loop-next.invariant in
     let p = places l.loop-next.pool in
@@ -101,11 +99,11 @@ loop-again c =
     turn-ended p l.loop-next.held l.args.input.now l.loop-next.len l.loop-next.next g.gather-g.result _ (holds-25 g) g.gather-g.ensures
     t.if-g.true i.1 (omega (arith, g.if-out-output-lt-ANSWER_ROOM.false)) a.answer_line-output.ensures.0
     in (
-      omega (arith, fits g, g.gather.kept.0),
+      omega (arith, fits g, g.gather-g.auto.held),
       a.answer_line-output.ensures.1.1 i.1,
-      a.answer_line.kept.0 ∙ i.2,
-      g.gather.kept.0 ∙ i.3,
-      a.answer_line.kept.1.1.0 ∙ i.4,
+      a.answer_line-output.auto.pool ∙ i.2,
+      g.gather-g.auto.held ∙ i.3,
+      a.answer_line-output.auto.out ∙ i.4,
       omega (arith, i.5, more g),
       λ e. absurd (omega (arith, i.5, more g, e)),
       λ rest. rw (sym same-places) (turned rest) ∙ i.7 rest,
@@ -114,22 +112,22 @@ loop-again c =
 -- the piece ended first
 loop-less-2 : tie.Need-loop-next-smaller invariant-loop-next decreases-loop-next
 loop-less-2 c =
-    let g = c in
+    let g = c.before.before.before in
     omega (arith, more g, g.loop-next-test.true)
 
 loop-again-2 : tie.Need-loop-next-preserved invariant-loop-next decreases-loop-next
 loop-again-2 c =
-    let g = c in
+    let g = c.before.before.before in
     let l = c in
     let i = l.loop-next.invariant in
     let p = places l.args.pool.now in
     let turned =
     turn-open p l.loop-next.held l.args.input.now l.loop-next.len l.loop-next.next g.gather-g.result _ (holds-25 g) g.gather-g.ensures c.if-g.false
     in (
-      omega (arith, fits g, g.gather.kept.0),
+      omega (arith, fits g, g.gather-g.auto.held),
       i.1,
       i.2,
-      g.gather.kept.0 ∙ i.3,
+      g.gather-g.auto.held ∙ i.3,
       i.4,
       omega (arith, i.5, more g),
       λ e. absurd (omega (arith, i.5, more g, e)),
