@@ -4,8 +4,7 @@
 // and what is to be written.
 #![tactic(auto)]
 
-ghost use Rattle.std.specs.Prelude.{◌≡◌, ◌<◌, ◌≤◌, length};
-ghost use Rattle.io.specs.Counts.{IsPrefixLen};
+ghost use Rattle.std.specs.Prelude.{◌≡◌, ◌<◌, ◌≤◌, length, take};
 
 use instruction::Lowering;
 use pool::{Bit, Node};
@@ -92,7 +91,7 @@ fn show(rt: &impl Print, pool: &[u64], lowered: Lowering) -> io::Result<()> {
 
 // The words of so many places, or of as many as there are.
 fn words_of(pool: &[u64], places: u64) -> usize
-    ensures { IsPrefixLen result pool.now }
+    ensures { (result ≤ length pool.now) × (result ≡ length (take result pool.now)) }
 {
     if places < 65536 {
         let words = 4 * (places as usize);

@@ -3,8 +3,7 @@
 // and so is a last word that is broken. What a word means is the library's, `words_lists`.
 #![tactic(auto)]
 
-ghost use Rattle.std.specs.Prelude.{◌+◌, ◌*◌, ◌/◌, ◌≤◌, length};
-ghost use Rattle.io.specs.Counts.{IsPrefixLen};
+ghost use Rattle.std.specs.Prelude.{◌≡◌, ◌+◌, ◌*◌, ◌/◌, ◌≤◌, length, take};
 
 use line_input::say_failure;
 
@@ -20,7 +19,7 @@ fn name_broken(rt: &impl Eprint, position: u64, bytes: u64) {
 
 // Fills the buffer from standard input, and answers how many bytes there are: fewer only where the input ends or cannot be read.
 fn fill(rt: &(impl Input + Eprint + AllocGlobal), input: &mut [u8]) -> usize
-    ensures { IsPrefixLen result input.new }
+    ensures { (result ≤ length input.new) × (result ≡ length (take result input.new)) }
 {
     let filled = line_input::fill(&mut rt.reader(), input, 0);
     if let Some(error) = filled.error {
@@ -32,7 +31,7 @@ fn fill(rt: &(impl Input + Eprint + AllocGlobal), input: &mut [u8]) -> usize
 // Writes the lines of the words to `out`, and names those that have none. The first word has the position `first`.
 fn list(rt: &impl Eprint, bytes: &[u8], first: u64, out: &mut [u8]) -> usize
     requires { 25 * (length bytes.now / 4) ≤ length out.old }
-    ensures { IsPrefixLen result out.new }
+    ensures { (result ≤ length out.new) × (result ≡ length (take result out.new)) }
 {
     let mut end = 0;
     for j in 0..bytes.len() / 4 {
