@@ -1,5 +1,5 @@
 // The texts of chains of 65,535 nodes, each in buffers of 0 and 1 byte, of just enough, of one less, of 65,536 bytes and
-// of 1 MB. It runs on a stack of 8 MB: the pool takes 2 MB, the buffer 1.4 MB, and the deepest text 4.2 MB.
+// of 1 MB. It runs on a stack of 8 MB, of which the deepest text takes up to 7.4 MB: pool and buffer are on the heap.
 // A chain is a line on standard input, of eight numbers in columns: how many nodes are left out at the end; 1 if
 // nodes 1 and 2 are a condition and a register; then kind, width and operands of the nodes of even number, and of
 // those of odd number. `tests/programs/extremes` makes the lines and what is to be written.
@@ -162,11 +162,13 @@ fn turn(
 }
 
 fn main(rt: HostRuntime) -> io::Result<()> {
-    let mut pool = [0u64; 262140];
-    let mut buffer = [0u8; 1441792];
+    let mut words = vec![in rt.alloc(); 0u64; 262140]?;
+    let mut bytes = vec![in rt.alloc(); 0u8; 1441792]?;
+    let pool = words.as_mut_slice().as_mut_array().unwrap();
+    let buffer = bytes.as_mut_slice().as_mut_array().unwrap();
     // at most so many chains, so that the loop ends
     for _ in 0..1000 {
-        if !turn(&rt, &mut pool, &mut buffer)? {
+        if !turn(&rt, pool, buffer)? {
             break;
         }
     }
