@@ -1,5 +1,5 @@
 // The texts of chains of 65,535 nodes, each in buffers of 0 and 1 byte, of just enough, of one less, of 65,536 bytes and
-// of 1 MB. It runs on a stack of 8 MB, of which the deepest text takes up to 7.4 MB: pool and buffer are on the heap.
+// of 1 MB. It runs on a stack of 8 MB: the deepest text takes 4.2 MB as LLVM builds it, and 5 MB as Rattle's own compiler does.
 // A chain is a line on standard input, of eight numbers in columns: how many nodes are left out at the end; 1 if
 // nodes 1 and 2 are a condition and a register; then kind, width and operands of the nodes of even number, and of
 // those of odd number. `tests/programs/extremes` makes the lines and what is to be written.
