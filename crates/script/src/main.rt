@@ -1,17 +1,12 @@
-// The script that asks whether two registers can differ after a routine (document 02, S-1): `script A B` takes the routine, in document
-// 01's columns, from standard input, and writes to standard output. It only reads and writes: what is written for the bytes that are read
-// is the library's, `script_lines`. A refusal is said on standard error, and so is the first read or write that fails.
+// The script that asks whether two registers can differ after a routine: `script A B` takes the routine, in columns, from standard input,
+// and writes to standard output. It only reads and writes: what is written for the bytes that are read is the library's, `script_lines`. A
+// refusal is said on standard error, and so is the first read or write that fails.
 #![tactic(auto)]
 
 ghost use Rattle.std.specs.Prelude.{◌≤◌, length};
 
-use line_input::fill;
-
-const INPUT: i32 = 0;
-
-const OUTPUT: i32 = 1;
-
-const ERRORS: i32 = 2;
+use line_input::{fill, say_failure};
+use std::env::{Env, FillError};
 
 // Room for the scripts of such pools, and little enough for a stack of 8 MB with the pool.
 const SCRIPT_BYTES: usize = 5242880;
@@ -54,9 +49,11 @@ fn number(name: &[u8]) -> u64 {
 }
 
 // The register that argument i names, as 7 or v7; 32 for none.
-fn register(i: usize) -> u64 {
-    let mut name = io::buffer();
-    let n = os::arg(i, &mut name);
+fn register(rt: &impl Env, i: usize) -> u64 {
+    let mut name = [0u8; 4096];
+    let Ok(n) = rt.arg(i, &mut name) else {
+        return 32;
+    };
     if n == 0 {
         return 32;
     }
@@ -67,71 +64,82 @@ fn register(i: usize) -> u64 {
     number(text)
 }
 
+// Whether there is an argument of this number; the first has number 1.
+fn has_argument(rt: &impl Env, number: usize) -> bool {
+    !matches!(rt.arg(number, &mut []), Err(FillError::NotPresent))
+}
+
 // The word of a number, as README has it.
-fn say_word(number: u64) {
-    match number {
-        2 => io::write_all(ERRORS, b"no such operation\n"),
-        3 => io::write_all(ERRORS, b"no such form\n"),
-        4 => io::write_all(ERRORS, b"immediate\n"),
-        7 => io::write_all(ERRORS, b"register\n"),
-        8 => io::write_all(ERRORS, b"long block\n"),
-        9 => io::write_all(ERRORS, b"short buffer\n"),
-        _ => io::write_all(ERRORS, b"line not in columns\n"),
+fn say_word(rt: &impl Eprint, number: u64) {
+    let word = match number {
+        2 => "no such operation",
+        3 => "no such form",
+        4 => "immediate",
+        7 => "register",
+        8 => "long block",
+        9 => "short buffer",
+        _ => "line not in columns",
     };
+    let _ = eprintln!(rt; "{word}");
 }
 
 // What refuses a line or a record of the routine; its length and the script's are of no record.
-fn say(number: u64, position: u64) {
-    io::write_all(ERRORS, b"script: ");
-    if (number != 8) & (number != 9) {
-        io::write_all(ERRORS, b"record ");
-        io::print_decimal(ERRORS, position);
-        io::write_all(ERRORS, b": ");
-    }
-    io::print_decimal(ERRORS, number);
-    io::write_all(ERRORS, b", ");
-    say_word(number);
+fn say(rt: &impl Eprint, number: u64, position: u64) {
+    let _ = if (number == 8) | (number == 9) {
+        eprint!(rt; "script: {number}, ")
+    } else {
+        eprint!(rt; "script: record {position}: {number}, ")
+    };
+    say_word(rt, number);
 }
 
-fn write(out: &[u8], end: usize)
+fn write(rt: &(impl Print + Eprint + AllocGlobal), out: &[u8], end: usize)
     requires { end ≤ length out.now }
 {
-    if !io::write_all(OUTPUT, &out[..end]) {
-        os::fail(b"script: standard output");
+    if let Err(error) = rt.write_all(&out[..end]) {
+        say_failure(rt, "script: standard output", error);
     }
 }
 
 // Answers the first bytes of the buffer.
-fn answer(input: &[u8], end: usize, a: u64, b: u64, pool: &mut [u64], out: &mut [u8; SCRIPT_BYTES])
+fn answer(
+    rt: &(impl Print + Eprint + AllocGlobal),
+    input: &[u8],
+    end: usize,
+    a: u64,
+    b: u64,
+    pool: &mut [u64],
+    out: &mut [u8; SCRIPT_BYTES],
+)
     requires { end ≤ length input.now }
 {
     let w = script_lines::script_text(&input[..end], a, b, pool, out);
     if w.number == 0 {
-        write(out, w.length);
+        write(rt, out, w.length);
     } else {
-        say(w.number, w.position as u64);
+        say(rt, w.number, w.position as u64);
     }
 }
 
 // The buffer has one byte more than the longest input that is taken, so that a longer one is seen.
-fn ask(a: u64, b: u64) {
+fn ask(rt: &(impl Input + Print + Eprint + AllocGlobal), a: u64, b: u64) {
     let mut input = [0u8; script_lines::MOST_BYTES + 1];
     let mut pool = [0u64; script_lines::POOL_WORDS];
     let mut out = [0u8; SCRIPT_BYTES];
-    let f = fill(INPUT, &mut input, 0);
-    if f.good {
-        answer(&input, f.end, a, b, &mut pool, &mut out);
+    let f = fill(&mut rt.reader(), &mut input, 0);
+    if let Some(error) = f.error {
+        say_failure(rt, "script: standard input", error);
     } else {
-        os::fail(b"script: standard input");
+        answer(rt, &input, f.end, a, b, &mut pool, &mut out);
     }
 }
 
-fn main() {
-    let a = register(1);
-    let b = register(2);
-    if (os::arg_count() == 3) & (a < 32) & (b < 32) {
-        ask(a, b);
+fn main(rt: HostRuntime) {
+    let a = register(&rt, 1);
+    let b = register(&rt, 2);
+    if !has_argument(&rt, 3) & (a < 32) & (b < 32) {
+        ask(&rt, a, b);
     } else {
-        io::write_all(ERRORS, b"usage: script A B, two registers from 0 to 31\n");
+        let _ = eprintln!(rt; "usage: script A B, two registers from 0 to 31");
     }
 }

@@ -4,11 +4,11 @@
 // and what is to be written.
 #![tactic(auto)]
 
-ghost use Rattle.std.specs.Prelude.{◌≡◌, ◌<◌, ◌≤◌, length};
-ghost use Rattle.io.specs.Counts.{IsPrefixLen};
+ghost use Rattle.std.specs.Prelude.{◌≡◌, ◌<◌, ◌≤◌, length, take};
 
 use instruction::Lowering;
 use pool::{Bit, Node};
+use std::io;
 
 // Whether the input had one more case, and the nodes that it added.
 #[derive(Clone, Copy)]
@@ -39,7 +39,7 @@ fn times_prime(x: u64) -> u64 {
     let low = x % 4294967296 * 435;
     let high = x / 4294967296 * 435 % 4294967296 * 4294967296;
     let top = x % 16777216 * 1099511627776;
-    std::num::wrapping_add_u64(top, std::num::wrapping_add_u64(low, high))
+    top.wrapping_add(low.wrapping_add(high))
 }
 
 // 64-bit FNV-1a of the first bytes of a buffer.
@@ -71,30 +71,27 @@ fn registers(pool: &mut [u64])
     pool_nodes::extract(pool, 34, Node(2), Bit(63), Bit(0));
 }
 
-fn print(number: u64, end: &[u8]) {
-    io::print_decimal(1, number);
-    io::write_all(1, end);
+fn print(rt: &impl Print, number: u64, end: &str) -> io::Result<()> {
+    print!(rt; "{number}{end}")
 }
 
 // A refusal with its node and count; else the length and the hash of the text.
-fn show(pool: &[u64], lowered: Lowering) {
-    print(lowered.number, b" ");
+fn show(rt: &impl Print, pool: &[u64], lowered: Lowering) -> io::Result<()> {
+    print(rt, lowered.number, " ")?;
     if lowered.number != 0 {
-        print(lowered.node as u64, b" ");
-        print(lowered.count as u64, b"\n");
-        return;
+        print(rt, lowered.node as u64, " ")?;
+        return print(rt, lowered.count as u64, "\n");
     }
     let asked = text_length::text_length(pool, lowered.count, lowered.node, 65536);
-    let mut text = io::large_buffer();
+    let mut text = [0u8; 65536];
     let written = text::write_text(pool, lowered.count, lowered.node, &mut text);
-    print(asked.length, b" ");
-    io::print_hex(1, hash(&text, written.length), 16);
-    io::write_all(1, b"\n");
+    print(rt, asked.length, " ")?;
+    println!(rt; "{:016x}", hash(&text, written.length))
 }
 
 // The words of so many places, or of as many as there are.
 fn words_of(pool: &[u64], places: u64) -> usize
-    ensures { IsPrefixLen result pool.now }
+    ensures { (result ≤ length pool.now) × (result ≡ length (take result pool.now)) }
 {
     if places < 65536 {
         let words = 4 * (places as usize);
@@ -109,7 +106,7 @@ fn words_of(pool: &[u64], places: u64) -> usize
 const POOL_WORDS: usize = 4 * (35 + pool::Node::RESERVE);
 
 // One case in a pool of its own. The nodes added.
-fn run(case: &[u8; 48]) -> usize {
+fn run(rt: &impl Print, case: &[u8; 48]) -> io::Result<usize> {
     let mut words = [0u64; POOL_WORDS];
     registers(&mut words);
     let count = column(case, 1) as usize;
@@ -125,42 +122,37 @@ fn run(case: &[u8; 48]) -> usize {
         column(case, 6) as usize,
         column(case, 7) as usize,
     );
-    show(pool, lowered);
+    show(rt, pool, lowered)?;
     if lowered.count < count {
-        return 0;
+        return Ok(0);
     }
-    lowered.count - count
+    Ok(lowered.count - count)
 }
 
-fn next() -> Turn {
+fn next(rt: &(impl Input + Print)) -> io::Result<Turn> {
     let mut case = [0u8; 48];
-    let n = io::read_full(0, &mut case);
-    if n < 48 {
-        return Turn {
+    if line_input::fill(&mut rt.reader(), &mut case, 0).end < 48 {
+        return Ok(Turn {
             more: false,
             added: 0,
-        };
+        });
     }
-    Turn {
+    Ok(Turn {
         more: true,
-        added: run(&case),
-    }
+        added: run(rt, &case)?,
+    })
 }
 
-fn main() {
+fn main(rt: HostRuntime) -> io::Result<()> {
     let mut most = 0;
     // a loop has to end: no list of cases is as long as this
-    let mut left: u64 = 100000;
-    while left > 0 {
-        let t = next();
+    for _ in 0..100000 {
+        let t = next(&rt)?;
         if !t.more {
             break;
         }
-        if most < t.added {
-            most = t.added;
-        }
-        left -= 1;
+        most = most.max(t.added);
     }
-    io::write_all(1, b"most nodes added ");
-    print(most as u64, b"\n");
+    print!(rt; "most nodes added ")?;
+    print(&rt, most as u64, "\n")
 }

@@ -1,5 +1,5 @@
 // The texts of chains of 65,535 nodes, each in buffers of 0 and 1 byte, of just enough, of one less, of 65,536 bytes and
-// of 1 MB. It runs on a stack of 8 MB: the pool takes 2 MB, the buffer 1.4 MB, and the deepest text 4.2 MB.
+// of 1 MB. It runs on a stack of 8 MB: the deepest text takes 4.2 MB as LLVM builds it, and 5 MB as Rattle's own compiler does.
 // A chain is a line on standard input, of eight numbers in columns: how many nodes are left out at the end; 1 if
 // nodes 1 and 2 are a condition and a register; then kind, width and operands of the nodes of even number, and of
 // those of odd number. `tests/programs/extremes` makes the lines and what is to be written.
@@ -10,6 +10,7 @@ ghost use Rattle.std.specs.Prelude.{◌<◌};
 use line_columns::field;
 use pool::words::{Kind, kind_word, operands_word};
 use pool::{Node, push};
+use std::io;
 
 const NODES: usize = 65535;
 
@@ -87,19 +88,21 @@ fn fill(buffer: &mut [u8]) {
     }
 }
 
-fn print(x: u64, end: &[u8]) {
-    io::print_decimal(1, x);
-    io::write_all(1, end);
+fn print(rt: &impl Print, x: u64, end: &str) -> io::Result<()> {
+    print!(rt; "{x}{end}")
 }
 
 // One buffer: its bytes, the number, the length, and a sum over all of it.
-fn attempt(pool: &[u64], node: Node, buffer: &mut [u8]) {
+fn attempt(rt: &impl Print, pool: &[u64], node: Node, buffer: &mut [u8]) -> io::Result<()> {
     fill(buffer);
     let w = text::write_text(pool, NODES, node.0, buffer);
-    print(buffer.len() as u64, b" ");
-    print(w.number, b" ");
-    print(w.length as u64, b" ");
-    print(sum(buffer), b"\n");
+    println!(rt;
+        "{} {} {} {}",
+        buffer.len(),
+        w.number,
+        w.length,
+        sum(buffer)
+    )
 }
 
 fn one_less(x: usize) -> usize {
@@ -118,20 +121,20 @@ fn size(i: usize, exact: usize) -> usize {
     }
 }
 
-fn sized(pool: &[u64], node: Node, buffer: &mut [u8], n: usize) {
+fn sized(rt: &impl Print, pool: &[u64], node: Node, buffer: &mut [u8], n: usize) -> io::Result<()> {
     if n <= buffer.len() {
-        attempt(pool, node, &mut buffer[..n]);
+        attempt(rt, pool, node, &mut buffer[..n])?;
     }
+    Ok(())
 }
 
 // A chain in each buffer that there is room for.
-fn buffers(pool: &[u64], node: Node, buffer: &mut [u8]) {
+fn buffers(rt: &impl Print, pool: &[u64], node: Node, buffer: &mut [u8]) -> io::Result<()> {
     let exact = text_length::text_length(pool, NODES, node.0, 1441792).length as usize;
-    let mut i = 0;
-    while i < 6 {
-        sized(pool, node, buffer, size(i, exact));
-        i += 1;
+    for i in 0..6 {
+        sized(rt, pool, node, buffer, size(i, exact))?;
     }
+    Ok(())
 }
 
 // The last node of a chain.
@@ -143,26 +146,31 @@ fn last(case: &[u8]) -> Node {
 }
 
 // One chain, if the input has one more.
-fn turn(pool: &mut [u64; 262140], buffer: &mut [u8; 1441792]) -> bool {
+fn turn(
+    rt: &(impl Input + Print),
+    pool: &mut [u64; 262140],
+    buffer: &mut [u8; 1441792],
+) -> io::Result<bool> {
     let mut case = [0u8; 33];
-    if io::read_full(0, &mut case) < 33 {
-        return false;
+    if line_input::fill(&mut rt.reader(), &mut case, 0).end < 33 {
+        return Ok(false);
     }
-    io::write_all(1, &case);
+    rt.write_all(&case)?;
     build(pool, &case);
-    buffers(&pool[..], last(&case), &mut buffer[..]);
-    true
+    buffers(rt, &pool[..], last(&case), &mut buffer[..])?;
+    Ok(true)
 }
 
-fn main() {
-    let mut pool = [0u64; 262140];
-    let mut buffer = [0u8; 1441792];
+fn main(rt: HostRuntime) -> io::Result<()> {
+    let mut words = vec![in rt.alloc(); 0u64; 262140]?;
+    let mut bytes = vec![in rt.alloc(); 0u8; 1441792]?;
+    let pool = words.as_mut_slice().as_mut_array().unwrap();
+    let buffer = bytes.as_mut_slice().as_mut_array().unwrap();
     // at most so many chains, so that the loop ends
-    let mut left: u64 = 1000;
-    while left > 0 {
-        if !turn(&mut pool, &mut buffer) {
-            return;
+    for _ in 0..1000 {
+        if !turn(&rt, pool, buffer)? {
+            break;
         }
-        left -= 1;
     }
+    Ok(())
 }

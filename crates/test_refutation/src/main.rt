@@ -3,6 +3,7 @@
 #![tactic(auto)]
 
 use gates::Literal;
+use std::io;
 
 const MITER: Literal = Literal(8210);
 
@@ -31,18 +32,25 @@ const STEPS: [u32; 62] = [
 ];
 
 // The first `used` words, with so many marks and starts.
-fn attempt(l: Literal, words: &[u32], used: usize, marks: usize, starts: usize) {
+fn attempt(
+    rt: &impl Print,
+    l: Literal,
+    words: &[u32],
+    used: usize,
+    marks: usize,
+    starts: usize,
+) -> io::Result<()> {
     let graph = GRAPH;
     let mut m = [7u64; 8212];
     let mut s = [7u64; 100];
     if words.len() < used {
-        return;
+        return Ok(());
     }
     if 8212 < marks {
-        return;
+        return Ok(());
     }
     if 100 < starts {
-        return;
+        return Ok(());
     }
     let c = refutation_check::check_refutation(
         &graph,
@@ -52,35 +60,32 @@ fn attempt(l: Literal, words: &[u32], used: usize, marks: usize, starts: usize) 
         &mut m[..marks],
         &mut s[..starts],
     );
-    io::print_decimal(1, c.number);
-    io::write_all(1, b" ");
-    io::print_decimal(1, c.step as u64);
-    io::write_all(1, b"\n");
+    println!(rt; "{} {}", c.number, c.step)
 }
 
 // The same words but for one.
-fn changed(at: usize, word: u32) {
+fn changed(rt: &impl Print, at: usize, word: u32) -> io::Result<()> {
     let mut words = STEPS;
     words[at % 62] = word;
-    attempt(MITER, &words, 62, 8212, 32);
+    attempt(rt, MITER, &words, 62, 8212, 32)
 }
 
-fn main() {
+fn main(rt: HostRuntime) -> io::Result<()> {
     let words = STEPS;
-    attempt(MITER, &words, 62, 8212, 32);
+    attempt(&rt, MITER, &words, 62, 8212, 32)?;
     // the opposite literal; a literal of no gate
-    attempt(Literal(8211), &words, 62, 8212, 32);
-    attempt(Literal(8212), &words, 62, 8212, 32);
+    attempt(&rt, Literal(8211), &words, 62, 8212, 32)?;
+    attempt(&rt, Literal(8212), &words, 62, 8212, 32)?;
     // without the last word; without the last step
-    attempt(MITER, &words, 61, 8212, 32);
-    attempt(MITER, &words, 58, 8212, 32);
+    attempt(&rt, MITER, &words, 61, 8212, 32)?;
+    attempt(&rt, MITER, &words, 58, 8212, 32)?;
     // a mark too few; a start too few
-    attempt(MITER, &words, 62, 8211, 32);
-    attempt(MITER, &words, 62, 8212, 31);
+    attempt(&rt, MITER, &words, 62, 8211, 32)?;
+    attempt(&rt, MITER, &words, 62, 8212, 31)?;
     // a literal that is not of the graph; a length past the end; a hint of the step itself; of no gate; a clause that leaves two
-    changed(1, 8212);
-    changed(11, 4294967295);
-    changed(27, 15);
-    changed(5, 36);
-    changed(4, 0);
+    changed(&rt, 1, 8212)?;
+    changed(&rt, 11, 4294967295)?;
+    changed(&rt, 27, 15)?;
+    changed(&rt, 5, 36)?;
+    changed(&rt, 4, 0)
 }
