@@ -27,7 +27,7 @@ in-columns c = sym c.in_columns.ensures ∙ not-false _ c.if-not-in_columns.fals
 
 -- the block of one is answered
 one : (c : tie.After-lower_block-answer) → let a = c.args in
-    Answered a.pool.now (record_of a.line.now ∷ []) c.lower_block-answer.new.0 c.lower_block-answer.result
+    Answered a.pool.now (record_of a.line.now ∷ []) c.lower_block-answer.new.pool c.lower_block-answer.result
 one c = answered-one c.args.line.now c.fields_of-numbers.ensures c.lower_block-answer.ensures
 
 -- it is refused
