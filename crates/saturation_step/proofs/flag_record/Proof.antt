@@ -12,10 +12,6 @@ use Rattle.saturation_step.proofs.flag_record.Tie as tie
 abbrev the : tie.Start → Instruction
 the s = let a = s.args in instruction a.operation a.arrangement a.i a.d a.n a.m
 
--- ---- from the place after a call back to the one before it, and to the entry
-
--- ---- needs
-
 get-requires : tie.Need-get-old-requires
 get-requires c κs =
     let st = c in
@@ -33,14 +29,12 @@ get-requires-3 c κs =
 
 record-bit-requires : tie.Need-record_bit-flag-requires
 record-bit-requires c κs =
-    let l-get3 = c.before in
-    let l-get2 = to-n l-get3 in
-    let st = nodes-entry l-get3 in
+    let st : tie.Start = c.before.before.before.before.before in
     let q = nodes-in st.args.map st.requires.1.0 (the st) st.requires.1.1.1 in (
       omega (arith, st.requires.0),
       (
         form-legal (the st) st.requires.1.1.1,
-        (omega (arith, (to-d l-get2).get-old.ensures, q.0), omega (arith, l-get2.get-first.ensures, q.1), omega (arith, l-get3.get-second.ensures, q.2), st.requires.1.1.0),
+        (omega (arith, c.get-old.ensures, q.0), omega (arith, c.get-first.ensures, q.1), omega (arith, c.get-second.ensures, q.2), st.requires.1.1.0),
       ),
     )
 
