@@ -1,6 +1,3 @@
--- The walks of `lower_record_in`, `run_instructions` and `lower_instructions`, and what they share; `lower_instructions` leaves what `lower_block` leaves.
-pub mod Again
-pub mod Called
-pub mod Walking
+-- What `run_instructions` and `lower_instructions` leave, record by record; `lower_instructions` leaves what `lower_block` leaves.
 pub mod Listed
 pub mod Equal

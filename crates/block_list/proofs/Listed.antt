@@ -1,5 +1,5 @@
 -- The records of a list in order: a run of them, and the answer of the whole. Assumes nothing.
-use mathlib.Core.Path.{◌≡◌, refl, ap, subst}
+use mathlib.Core.Path.{◌≡◌, ap, subst}
 use mathlib.Core.List.{List, [], ◌∷◌}
 use Prim.Native.Nat.{ℕ, zero, suc, ◌+◌, ◌*◌, ◌/◌, ◌≤◌, ◌<◌}
 use native.Mathlib.Omega.{arith}
@@ -12,7 +12,7 @@ use Rattle.neon.specs.Refusal.{reserve, Legal, AllLegal, block_refusal}
 use Rattle.pool.specs.Node.{none as no_node, places, places_in}
 use Rattle.pool.specs.Growth.{Room}
 use Rattle.block_map.specs.declared.RegisterMap.{RegisterMap}
-use Rattle.block_map.specs.Map.{first_map, no_map}
+use Rattle.block_map.specs.Map.{first_map}
 use Rattle.block_check.specs.declared.Checked.{Checked}
 use Rattle.block_check.specs.Records.{Refuses}
 use Rattle.block_check.proofs.Refusals.{block-legal}
@@ -54,9 +54,6 @@ module _ (w0 : List ℕ) (m0 : RegisterMap) (cs : List Instruction) where
 -- ---- the whole
 
 module _ (w0 : List ℕ) (cs : List Instruction) (r : Checked) (e : Refuses r (block_refusal (places_in (length w0)) cs)) where
-  pub all-refused : (m : RegisterMap) → 0 < r.number → m ≡ no_map → Answered w0 cs w0 (answer r m)
-  all-refused m h q = record { number = e.0; position = e.1; refused = λ _. (q, refl); accepted = λ z. absurd (omega (arith, h, z)) }
-
   -- a pool and records that are accepted
   pub start-room : r.number ≤ 0 → Room w0 0 32
   start-room h =
