@@ -1,7 +1,7 @@
 #!/usr/bin/env python3
 """Brings the names that this repository defines in specs/ and proofs/ to the spelling of today's Rattle.
 
-usage: tools/respell.py        at the top of the repository, once, after /opt/rattle/port/port.py
+usage: tools/respell.py        at the top of the repository, once, after the port.py of the kit
 
 A word in camel case, such as armRun, is in snake case afterwards: arm_run. So is a word of specs/ that had dashes. In a name of several parts,
 joined by dashes, each part is turned. Types, modules, functions of src/ and names of the library stay. Where a file has the new spelling

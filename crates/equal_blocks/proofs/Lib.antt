@@ -1,2 +1,0 @@
--- The theorems of specs/Demand.antt.
-pub mod Equal

@@ -1,3 +1,0 @@
-pub mod Results
-pub mod Demand
-pub mod Version
