@@ -1,0 +1,2 @@
+-- The theorems of specs/Demand.antt.
+pub mod Equal
