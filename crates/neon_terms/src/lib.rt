@@ -1,4 +1,4 @@
-// The public operations for C and Rust to link, by `rt staticlib neon_terms`; include/neon_terms.h declares them. A slice is a
+// The public operations for C and Rust to link, by `rt lib` in this folder; include/neon_terms.h declares them. A slice is a
 // pointer and a length. No call requires anything of its numbers: what it cannot do it refuses by number.
 #![tactic(auto)]
 
