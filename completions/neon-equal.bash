@@ -5,16 +5,14 @@ _neon_equal() {
     case $before in
     --lanes) mapfile -t COMPREPLY < <(compgen -W '8 16 32 64' -- "$word") ;;
     --solver) mapfile -t COMPREPLY < <(compgen -W 'z3 cvc5 z3,cvc5 none' -- "$word") ;;
-    --trust) mapfile -t COMPREPLY < <(compgen -W 'proofs solvers' -- "$word") ;;
-    --certificate | --check) mapfile -t COMPREPLY < <(compgen -d -- "$word") ;;
     --result) mapfile -t COMPREPLY < <(compgen -W 'v0 d0 v0-v1 v0-v2 v0-v3' -- "$word") ;;
     --registers) mapfile -t COMPREPLY < <(compgen -W "$(printf 'v%s d%s ' {0..31}{,})" -- "$word") ;;
-    --function | --from | --to | --seconds | --effort | --memory | -j) ;;
+    --function | --from | --to | --seconds | -j) ;;
     *)
         case $word in
         -*)
-            mapfile -t COMPREPLY < <(compgen -W '--function --from --to --words --records --result --registers --lanes --effort --memory --seconds
-                --solver --agree --trust --explain --replay --json --report --certificate --check --list -j --help -h --version -V' -- "$word")
+            mapfile -t COMPREPLY < <(compgen -W '--function --from --to --words --records --result --registers --lanes --seconds --solver --explain
+                --replay --json --report --list -j --help -h --version -V' -- "$word")
             ;;
         *) mapfile -t COMPREPLY < <(compgen -f -- "$word") ;;
         esac

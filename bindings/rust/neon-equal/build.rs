@@ -1,5 +1,5 @@
-//! What `--version` tells: the commit, by git if there is one, and the kit that proved the library, by `rt version` if there is one. NEON_EQUAL_COMMIT
-//! and NEON_EQUAL_KIT name them if neither is available.
+//! What `--version` of neon-equal and of neon-prove tells: the commit, by git if there is one, and the kit that proved the library, by `rt version` if
+//! there is one. NEON_EQUAL_COMMIT and NEON_EQUAL_KIT name them if neither is available.
 use std::process::Command;
 
 /// The first line that a program writes.
@@ -17,7 +17,6 @@ fn main() {
     for name in ["NEON_EQUAL_COMMIT", "NEON_EQUAL_KIT"] {
         println!("cargo::rerun-if-env-changed={name}");
     }
-    println!("cargo::rerun-if-changed=build.rs");
     // a new commit is detected if git keeps its head in a file
     for file in ["HEAD", "logs/HEAD"] {
         if let Some(path) = line("git", &["rev-parse", "--git-path", file]).filter(|path| std::path::Path::new(path).exists()) {

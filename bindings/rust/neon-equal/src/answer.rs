@@ -3,8 +3,6 @@ use std::fmt;
 
 use neon_terms::Registers;
 
-use crate::progress::grouped;
-
 /// A start at which a register differs, and what each routine leaves in it. The proved runner gave both.
 #[derive(Debug, Clone)]
 pub struct Difference {
@@ -15,34 +13,12 @@ pub struct Difference {
     pub new: u128,
 }
 
-/// What a theorem was applied to.
-#[derive(Debug, Clone)]
-pub enum Proof {
-    /// One tree.
-    CanonicalPools,
-    /// One literal for each bit of both.
-    Folding,
-    /// A refutation that the proved checker accepted, and its words.
-    Refutation { steps: usize, words: Vec<u32> },
-}
-
-impl fmt::Display for Proof {
-    fn fmt(&self, f: &mut fmt::Formatter<'_>) -> fmt::Result {
-        match self {
-            Self::CanonicalPools => f.write_str("canonical pools"),
-            Self::Folding => f.write_str("folding"),
-            Self::Refutation { steps: 1, .. } => f.write_str("a refutation of 1 step"),
-            Self::Refutation { steps, .. } => write!(f, "a refutation of {} steps", grouped(*steps as u64)),
-        }
-    }
-}
-
 #[derive(Debug, Clone)]
 pub enum Answer {
-    /// A theorem.
-    Proved(Proof),
-    /// A solver's word for each lane: which solvers.
-    Believed(String),
+    /// One tree: a theorem.
+    Same,
+    /// A solver's word for each lane: which solvers, for how many lanes.
+    Unsat(String),
     Differs(Box<Difference>),
     /// What is left, and why.
     Left(String),
@@ -51,7 +27,7 @@ pub enum Answer {
 impl Answer {
     pub fn verdict(&self) -> Verdict {
         match self {
-            Self::Proved(_) | Self::Believed(_) => Verdict::Equal,
+            Self::Same | Self::Unsat(_) => Verdict::Equal,
             Self::Differs(_) => Verdict::Differs,
             Self::Left(_) => Verdict::NotDecided,
         }
@@ -60,20 +36,20 @@ impl Answer {
     /// What an answer rests on, in a word.
     pub fn rests_on(&self) -> &'static str {
         match self {
-            Self::Proved(_) => "theorem",
-            Self::Believed(_) => "solver",
+            Self::Same => "theorem",
+            Self::Unsat(_) => "solver",
             Self::Differs(_) => "run",
             Self::Left(_) => "nothing",
         }
     }
 
     /// By what it was found.
-    pub fn by(&self) -> String {
+    pub fn by(&self) -> &str {
         match self {
-            Self::Proved(proof) => proof.to_string(),
-            Self::Believed(by) => format!("{by} (believed)"),
-            Self::Differs(_) => "runs".to_string(),
-            Self::Left(why) => why.clone(),
+            Self::Same => "canonical pools",
+            Self::Unsat(by) => by,
+            Self::Differs(_) => "runs",
+            Self::Left(why) => why,
         }
     }
 }

@@ -3,23 +3,16 @@ use std::ffi::OsString;
 use std::path::PathBuf;
 
 use crate::input::Format;
-use crate::values::{effort, lane, memory, number, offsets, registers, result, seconds, solvers, trust, words};
 use crate::pair::{Lane, Register};
 use crate::solver::Solver;
-use crate::stages::{Settings, Trust};
+use crate::stages::Settings;
 
 pub const HELP: &str = include_str!("../help.txt");
-
-/// Conflicts of a search that come to nothing, and megabytes for a register, unless others are asked for.
-pub const EFFORT: u64 = 100_000;
-const MEMORY: u64 = 4096;
 
 pub enum Wanted {
     Help,
     Version,
     Run(Box<Run>),
-    /// Certificates in a folder, checked again.
-    Check(PathBuf),
 }
 
 /// A call that compares.
@@ -29,7 +22,6 @@ pub struct Run {
     pub explain: bool,
     pub replay: Option<PathBuf>,
     pub report: Option<PathBuf>,
-    pub certificate: Option<PathBuf>,
 }
 
 pub enum Pairs {
@@ -70,10 +62,6 @@ pub struct Given {
     registers: Option<Vec<Register>>,
     lane: Option<Lane>,
     seconds: Option<u64>,
-    effort: Option<u64>,
-    memory: Option<u64>,
-    trust: Option<Trust>,
-    agree: Option<()>,
     solvers: Option<Vec<Solver>>,
     /// Not of a call: tests make fewer runs.
     pub starts: Option<usize>,
@@ -86,14 +74,12 @@ struct Whole {
     explain: Option<()>,
     replay: Option<PathBuf>,
     report: Option<PathBuf>,
-    certificate: Option<PathBuf>,
-    check: Option<PathBuf>,
     list: Option<PathBuf>,
     jobs: Option<usize>,
 }
 
 /// Options without a value.
-const PLAIN: [&str; 5] = ["--json", "--explain", "--agree", "--words", "--records"];
+const PLAIN: [&str; 4] = ["--json", "--explain", "--words", "--records"];
 
 /// Options and files, one after the other.
 enum Item {
@@ -135,7 +121,6 @@ pub fn parse(args: impl Iterator<Item = OsString>, starts: Option<usize>) -> Res
         return Ok(Wanted::Version);
     }
     let (mut given, mut whole) = (Given { starts, ..Given::default() }, Whole::default());
-    let alone = items.len() == 1;
     for item in items {
         match item {
             Item::File(file) => given.files.push(file.into()),
@@ -146,9 +131,6 @@ pub fn parse(args: impl Iterator<Item = OsString>, starts: Option<usize>) -> Res
             }
             Item::Help | Item::Version => {}
         }
-    }
-    if let Some(folder) = whole.check {
-        return if alone { Ok(Wanted::Check(folder)) } else { Err("--check goes with no file and no other option".to_string()) };
     }
     whole.finish(given).map(|run| Wanted::Run(Box::new(run)))
 }
@@ -163,11 +145,6 @@ fn file(name: &str, value: Option<&OsString>) -> Result<PathBuf, String> {
     value.filter(|value| !value.is_empty()).map(PathBuf::from).ok_or_else(|| wrong(name, "a file", value))
 }
 
-/// The value of an option that names a folder.
-fn folder(name: &str, value: Option<&OsString>) -> Result<PathBuf, String> {
-    value.filter(|value| !value.is_empty()).map(PathBuf::from).ok_or_else(|| wrong(name, "a folder", value))
-}
-
 impl Whole {
     /// Whether it is one of these options.
     fn option(&mut self, name: &str, value: Option<&OsString>) -> Result<bool, String> {
@@ -176,8 +153,6 @@ impl Whole {
             ("--explain", None) => once(name, &mut self.explain, ())?,
             ("--replay", _) => once(name, &mut self.replay, file(name, value)?)?,
             ("--report", _) => once(name, &mut self.report, file(name, value)?)?,
-            ("--certificate", _) => once(name, &mut self.certificate, folder(name, value)?)?,
-            ("--check", _) => once(name, &mut self.check, folder(name, value)?)?,
             ("--list", _) => once(name, &mut self.list, file(name, value)?)?,
             ("-j", _) => {
                 let jobs = value.and_then(|value| value.to_str()).and_then(number).filter(|n| (1..=1024).contains(n));
@@ -199,8 +174,7 @@ impl Whole {
             None if self.jobs.is_some() => return Err("-j is for a list".to_string()),
             None => Pairs::One(given.finish()?),
         };
-        let (json, explain) = (self.json.is_some(), self.explain.is_some());
-        Ok(Run { pairs, json, explain, replay: self.replay, report: self.report, certificate: self.certificate })
+        Ok(Run { pairs, json: self.json.is_some(), explain: self.explain.is_some(), replay: self.replay, report: self.report })
     }
 }
 
@@ -218,10 +192,6 @@ impl Given {
             "--registers" => once(name, &mut self.registers, text.and_then(registers).ok_or_else(|| wrong("registers, as v0,d1 or v0-v3"))?),
             "--lanes" => once(name, &mut self.lane, text.and_then(lane).ok_or_else(|| wrong("8, 16, 32 or 64"))?),
             "--seconds" => once(name, &mut self.seconds, text.and_then(seconds).ok_or_else(|| wrong("a number from 1 to 86400"))?),
-            "--effort" => once(name, &mut self.effort, text.and_then(effort).ok_or_else(|| wrong("a number from 0 to 1000000000"))?),
-            "--memory" => once(name, &mut self.memory, text.and_then(memory).ok_or_else(|| wrong("a number of MB from 1 to 1048576"))?),
-            "--trust" => once(name, &mut self.trust, text.and_then(trust).ok_or_else(|| wrong("proofs or solvers"))?),
-            "--agree" if value.is_none() => once(name, &mut self.agree, ()),
             "--solver" => once(name, &mut self.solvers, text.and_then(solvers).ok_or_else(|| wrong("z3, cvc5, z3,cvc5 or none"))?),
             _ => Err(format!("there is no option {name}{}", if PLAIN.contains(&name) { "=" } else { "" })),
         }
@@ -236,34 +206,18 @@ impl Given {
                 return Err("--from has to be before --to".to_string());
             }
         }
-        let solvers = self.solvers.as_ref().map_or(0, Vec::len);
-        if self.agree.is_some() && solvers < 2 {
-            return Err("--agree needs two solvers (--solver z3,cvc5)".to_string());
-        }
-        if self.trust == Some(Trust::Solvers) && solvers == 0 {
-            return Err("--trust solvers needs a solver (--solver z3,cvc5)".to_string());
-        }
         Ok(())
-    }
-
-    fn settings(&self) -> Settings {
-        let solvers = self.solvers.clone().unwrap_or_default();
-        Settings {
-            lane: self.lane,
-            seconds: self.seconds,
-            effort: self.effort.unwrap_or(EFFORT),
-            memory: self.memory.unwrap_or(MEMORY),
-            trust: self.trust.unwrap_or(if solvers.is_empty() { Trust::Proofs } else { Trust::Solvers }),
-            solvers,
-            agree: self.agree.is_some(),
-            starts: self.starts,
-        }
     }
 
     fn finish(self) -> Result<Entry, String> {
         self.check()?;
-        let settings = self.settings();
         let [old, new] = <[PathBuf; 2]>::try_from(self.files).map_err(|files| format!("two files are needed, {} are given", files.len()))?;
+        let settings = Settings {
+            lane: self.lane,
+            seconds: self.seconds.unwrap_or(10),
+            solvers: self.solvers.unwrap_or_else(|| Solver::ALL.to_vec()),
+            starts: self.starts,
+        };
         let choice = Choice {
             function: self.function,
             from: self.from,
@@ -289,10 +243,6 @@ impl Given {
             registers: self.registers.or_else(|| call.registers.clone().filter(|_| registers)),
             lane: self.lane.or(call.lane),
             seconds: self.seconds.or(call.seconds),
-            effort: self.effort.or(call.effort),
-            memory: self.memory.or(call.memory),
-            trust: self.trust.or(call.trust),
-            agree: self.agree.or(call.agree),
             solvers: self.solvers.or_else(|| call.solvers.clone()),
             starts: call.starts,
         }
@@ -324,12 +274,88 @@ pub fn line(text: &str, defaults: &Given) -> Result<Option<Entry>, String> {
     given.or(defaults).finish().map(Some)
 }
 
+/// Words between blanks; quotes keep blanks together.
+fn words(text: &str) -> Result<Vec<String>, String> {
+    let (mut words, mut word, mut quoted) = (Vec::new(), None::<String>, false);
+    for c in text.chars() {
+        match c {
+            '"' => {
+                quoted = !quoted;
+                word.get_or_insert_default();
+            }
+            c if c.is_ascii_whitespace() && !quoted => words.extend(word.take()),
+            c => word.get_or_insert_default().push(c),
+        }
+    }
+    words.extend(word);
+    if quoted { Err("a quote is not closed".to_string()) } else { Ok(words) }
+}
+
 fn once<T>(name: &str, place: &mut Option<T>, value: T) -> Result<(), String> {
     match place.replace(value) {
         None => Ok(()),
-        Some(_) if PLAIN[3..].contains(&name) => Err("one of --words and --records is enough".to_string()),
+        Some(_) if PLAIN[2..].contains(&name) => Err("one of --words and --records is enough".to_string()),
         Some(_) => Err(format!("{name} is given twice")),
     }
+}
+
+/// A decimal number without sign or leading zero.
+fn number(text: &str) -> Option<u64> {
+    let plain = text.bytes().all(|byte| byte.is_ascii_digit()) && (text == "0" || !text.starts_with('0'));
+    text.parse().ok().filter(|_| plain)
+}
+
+/// A place in code: hexadecimal after 0x, else decimal; of whole words.
+fn offset(text: &str) -> Option<u64> {
+    let hex = |digits: &str| digits.bytes().all(|byte| byte.is_ascii_hexdigit()).then(|| u64::from_str_radix(digits, 16).ok())?;
+    text.strip_prefix("0x").map_or_else(|| number(text), hex).filter(|offset| offset % 4 == 0)
+}
+
+/// One for both routines, or one for each.
+fn offsets(text: &str) -> Option<[u64; 2]> {
+    let (old, new) = text.split_once(',').unwrap_or((text, text));
+    Some([offset(old)?, offset(new)?])
+}
+
+/// Registers by name, and rows of them, in order and each once. A whole register has its half in it.
+fn registers(text: &str) -> Option<Vec<Register>> {
+    let one = |name: &str| {
+        let half = name.starts_with('d');
+        let number = name.strip_prefix(['v', 'd']).and_then(number).filter(|&r| r < 32)?;
+        Some(Register { number: number as u8, half })
+    };
+    let row = |text: &str| {
+        let (first, last) = text.split_once('-').unwrap_or((text, text));
+        let (first, last) = (one(first)?, one(last)?);
+        let ordered = first.half == last.half && first.number <= last.number;
+        ordered.then(|| (first.number..=last.number).map(move |number| Register { number, half: first.half }))
+    };
+    let mut all: Vec<Register> = text.split(',').map(row).collect::<Option<Vec<_>>>()?.into_iter().flatten().collect();
+    all.sort_unstable();
+    all.dedup_by_key(|register| register.number);
+    Some(all)
+}
+
+/// The registers in which functions give vectors back.
+fn result(text: &str) -> Option<Vec<Register>> {
+    registers(text).filter(|all| all.iter().all(|register| register.number < 8))
+}
+
+fn lane(text: &str) -> Option<Lane> {
+    number(text).and_then(|bits| Lane::of(u32::try_from(bits).ok()?))
+}
+
+fn seconds(text: &str) -> Option<u64> {
+    number(text).filter(|n| (1..=86400).contains(n))
+}
+
+/// Each solver once, in the order of `Solver::ALL`.
+fn solvers(text: &str) -> Option<Vec<Solver>> {
+    if text == "none" {
+        return Some(Vec::new());
+    }
+    let named = text.split(',').map(Solver::of).collect::<Option<Vec<_>>>()?;
+    Some(Solver::ALL.into_iter().filter(|solver| named.contains(solver)).collect())
 }
 
 #[cfg(test)]
@@ -342,9 +368,8 @@ mod tests {
 
     fn one(text: &str) -> (Entry, Run) {
         let Ok(Wanted::Run(run)) = parsed(text) else { panic!("{text}") };
-        let Run { pairs: Pairs::One(entry), json, explain, replay, report, certificate } = *run else { panic!("{text}") };
-        let none = Pairs::List { file: PathBuf::new(), jobs: 0, defaults: Given::default() };
-        (entry, Run { pairs: none, json, explain, replay, report, certificate })
+        let Run { pairs: Pairs::One(entry), json, explain, replay, report } = *run else { panic!("{text}") };
+        (entry, Run { pairs: Pairs::List { file: PathBuf::new(), jobs: 0, defaults: Given::default() }, json, explain, replay, report })
     }
 
     fn names(registers: Option<Vec<Register>>) -> Vec<String> {
@@ -356,11 +381,10 @@ mod tests {
         let (entry, _) = one("a --records b --registers v3,v0,v3 --lanes=16 --seconds 2 --solver cvc5,z3");
         assert_eq!((entry.old, entry.new, entry.choice.format), ("a".into(), "b".into(), Some(Format::Lines)));
         let settings = entry.choice.settings;
-        assert_eq!((names(entry.choice.registers), settings.lane, settings.seconds), (vec!["v0".into(), "v3".into()], Some(Lane::H), Some(2)));
-        assert_eq!((settings.solvers, settings.trust), (vec![Solver::Z3, Solver::Cvc5], Trust::Solvers));
+        assert_eq!((names(entry.choice.registers), settings.lane, settings.seconds), (vec!["v0".into(), "v3".into()], Some(Lane::H), 2));
+        assert_eq!(settings.solvers, [Solver::Z3, Solver::Cvc5]);
         let (entry, run) = one("-- --a b");
-        assert_eq!((entry.old, entry.choice.registers, entry.choice.settings.seconds, run.json), ("--a".into(), None, None, false));
-        assert_eq!((entry.choice.settings.solvers, entry.choice.settings.trust), (Vec::new(), Trust::Proofs));
+        assert_eq!((entry.old, entry.choice.registers, entry.choice.settings.seconds, run.json), ("--a".into(), None, 10, false));
         let (entry, run) = one("a - --function f --from 0x10,20 --to 64 --result d0 --json --explain --replay r --report=x.html");
         assert_eq!((entry.new, entry.choice.from, entry.choice.to), ("-".into(), Some([16, 20]), Some([64, 64])));
         assert_eq!((names(entry.choice.result), run.json, run.explain, run.replay), (vec!["d0".into()], true, true, Some("r".into())));
@@ -368,12 +392,17 @@ mod tests {
             assert!(matches!(parsed(text), Ok(Wanted::Help)), "{text}");
         }
         assert!(matches!(parsed("--version"), Ok(Wanted::Version)));
-        assert!(matches!(parsed("--check c"), Ok(Wanted::Check(folder)) if folder.as_os_str() == "c"));
-        let (entry, run) = one("a b --effort 5 --memory 100 --solver z3,cvc5 --agree --trust proofs --certificate c");
-        let Settings { effort, memory, agree, trust, .. } = entry.choice.settings;
-        assert_eq!((effort, memory, agree, trust, run.certificate), (5, 100, true, Trust::Proofs, Some("c".into())));
         let Ok(Wanted::Run(run)) = parsed("--list l -j4 --seconds 3") else { panic!() };
         assert!(matches!(run.pairs, Pairs::List { jobs: 4, .. }));
+    }
+
+    #[test]
+    fn rows_of_registers() {
+        assert_eq!(names(registers("v0-v3")), ["v0", "v1", "v2", "v3"]);
+        assert_eq!(names(registers("d8-d9,v9,d1")), ["d1", "d8", "v9"]);
+        for text in ["v32", "v0,", "0", "v3-v0", "v0-d3", "v0-", "q0", "v00", ""] {
+            assert_eq!(registers(text), None, "{text}");
+        }
     }
 
     #[test]
@@ -382,9 +411,7 @@ mod tests {
             "", "a", "a b c", "a b --lanes 7", "a b --lanes", "a b --registers v32", "a b --registers v0,", "a b --registers 0", "a b --seconds 0",
             "a b --seconds +1", "a b --seconds 01", "a b --solver yices", "a b --solver z3,none", "a b --records --records", "a b --records=x", "a b --colour",
             "a b --records --words", "a b -x", "a b -j 2", "--list l a b", "--list l --replay r", "--list l -j 0", "--list l -j", "a b --from 3",
-            "a b --effort -1", "a b --memory 0", "a b --trust me", "a b --trust solvers", "a b --agree", "a b --agree --solver z3", "a b --check c",
-            "--check", "--check c --json", "a b --certificate", "a b --from 8 --to 8", "a b --from 0x", "a b --result v8",
-            "a b --result d0 --registers v0", "a b --function", "a b --json=1",
+            "a b --from 8 --to 8", "a b --from 0x", "a b --result v8", "a b --result d0 --registers v0", "a b --function", "a b --json=1",
         ] {
             assert!(parsed(text).is_err(), "{text}");
         }
@@ -395,7 +422,7 @@ mod tests {
         let defaults = Given { seconds: Some(3), registers: registers("v7"), starts: Some(4), ..Given::default() };
         let entry = |text| line(text, &defaults).unwrap().unwrap();
         let first = entry("a.o \"b c.o\" f d0 --lanes 8");
-        assert_eq!((first.new, first.choice.function, first.choice.settings.seconds), ("b c.o".into(), Some("f".into()), Some(3)));
+        assert_eq!((first.new, first.choice.function, first.choice.settings.seconds), ("b c.o".into(), Some("f".into()), 3));
         assert_eq!((names(first.choice.result), first.choice.registers), (vec!["d0".into()], None));
         assert_eq!(names(entry("a b").choice.registers), ["v7"]);
         assert_eq!(entry("a b").choice.settings.starts, Some(4));

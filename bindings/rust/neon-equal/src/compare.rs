@@ -1,9 +1,8 @@
 //! Two routines compared: which registers count, what is known of each, and the verdict.
 use std::time::Instant;
 
-use crate::answer::{Answer, Proof, Verdict};
+use crate::answer::{Answer, Verdict};
 use crate::args::{Choice, Entry};
-use crate::certificate::Certificates;
 use crate::elf::on_a_line;
 use crate::explain::{self, Explained};
 use crate::input::{self, Input, Refusal};
@@ -48,7 +47,7 @@ impl Told {
             Demand::KeptBy(side) => (format!("kept by {side}"), format!("not kept by {side}"), format!("not decided whether {side} keeps it")),
         };
         match (&self.answer, &self.shown) {
-            (Answer::Proved(_) | Answer::Believed(_), _) => format!("{equal}, by {}", self.answer.by()),
+            (Answer::Same | Answer::Unsat(_), _) => format!("{equal}, by {}", self.answer.by()),
             (Answer::Left(what), _) => format!("{not_decided}, {what}"),
             (Answer::Differs(_), Some(shown)) => format!("{differs}, {}", shown.line(self.demand.sides())),
             (Answer::Differs(_), None) => differs,
@@ -76,13 +75,6 @@ pub struct Compared {
     pub refusals: Vec<Refusal>,
     pub verdict: Verdict,
     pub seconds: f64,
-}
-
-/// What is made of answers.
-pub struct Wanted {
-    /// Whether both runs of a difference are gone through.
-    pub explain: bool,
-    pub certificates: Option<Certificates>,
 }
 
 /// What happens, in order, while pairs are compared.
@@ -145,7 +137,7 @@ fn counted(old: &Routine, new: &Routine, choice: &Choice) -> Result<Counted, Str
 }
 
 /// Two routines by the stages.
-fn routines(old: &Routine, new: &Routine, choice: &Choice, wanted: &Wanted, tell: &mut dyn FnMut(Event)) -> Result<(Option<String>, Vec<Told>), String> {
+fn routines(old: &Routine, new: &Routine, choice: &Choice, explain: bool, tell: &mut dyn FnMut(Event)) -> Result<(Option<String>, Vec<Told>), String> {
     let counted = counted(old, new, choice)?;
     tell(Event::Begin(&old.name, &new.name, counted.line.as_deref()));
     let nothing = Routine::nothing();
@@ -157,14 +149,10 @@ fn routines(old: &Routine, new: &Routine, choice: &Choice, wanted: &Wanted, tell
     ];
     let demands = [Demand::Equal, Demand::KeptBy("old"), Demand::KeptBy("new")];
     let mut all = Vec::new();
-    stages::decide(&asked, &choice.settings, |k, register, mut answer| {
-        wanted.certificates.iter().for_each(|certificates| certificates.keep(&asked[k].0, register, &answer));
-        if let Answer::Proved(Proof::Refutation { words, .. }) = &mut answer {
-            *words = Vec::new();
-        }
+    stages::decide(&asked, &choice.settings, |k, register, answer| {
         let difference = if let Answer::Differs(difference) = &answer { Some(difference) } else { None };
         let shown = difference.map(|difference| Shown::of(&asked[k].0, register, difference));
-        let explained = difference.filter(|_| wanted.explain).map(|difference| explain::explain(&asked[k].0, register, &difference.start));
+        let explained = difference.filter(|_| explain).map(|difference| explain::explain(&asked[k].0, register, &difference.start));
         let told = Told { register, demand: demands[k], answer, shown, explained };
         tell(Event::Told(&old.name, &new.name, &told));
         all.push(told);
@@ -179,7 +167,7 @@ fn verdict(told: &[Told]) -> Option<Verdict> {
 }
 
 /// All pairs of routines that two files have. There is one or more.
-pub fn entry(entry: &Entry, input: &Input, wanted: &Wanted, tell: &mut dyn FnMut(Event)) -> Vec<Compared> {
+pub fn entry(entry: &Entry, input: &Input, explain: bool, tell: &mut dyn FnMut(Event)) -> Vec<Compared> {
     let begun = Instant::now();
     let names = [&entry.old, &entry.new].map(|path| on_a_line(&path.to_string_lossy()));
     let [old, new] = names;
@@ -192,10 +180,7 @@ pub fn entry(entry: &Entry, input: &Input, wanted: &Wanted, tell: &mut dyn FnMut
         verdict: Verdict::Refused,
         seconds: begun.elapsed().as_secs_f64(),
     };
-    let absent = entry.choice.settings.solvers.iter().filter(|solver| !solver.is_there());
-    let absent: Vec<Refusal> = absent.map(|solver| Refusal::of_pair(format!("{} is not on the path", solver.name()))).collect();
-    let pairing = if absent.is_empty() { input::pairing(entry, input) } else { Err(absent) };
-    let pairing = match pairing {
+    let pairing = match input::pairing(entry, input) {
         Ok(pairing) => pairing,
         Err(refusals) => {
             let compared = refused(old, new, refusals, begun);
@@ -208,7 +193,7 @@ pub fn entry(entry: &Entry, input: &Input, wanted: &Wanted, tell: &mut dyn FnMut
         let begun = Instant::now();
         let done = match found {
             Err(refusals) => Err(refusals),
-            Ok((one, other)) => routines(&one, &other, &entry.choice, wanted, tell).map_err(|reason| vec![Refusal::of_pair(reason)]),
+            Ok((one, other)) => routines(&one, &other, &entry.choice, explain, tell).map_err(|reason| vec![Refusal::of_pair(reason)]),
         };
         let compared = match done {
             Err(refusals) => refused(old, new, refusals, begun),

@@ -1,27 +1,23 @@
 //! Solvers on a register, lane by lane: if no lane's script is satisfiable, the register is equal at every start.
 use std::collections::BTreeMap;
+use std::io::{self, IsTerminal, Write};
 use std::sync::atomic::{AtomicBool, AtomicU32, Ordering};
 use std::sync::{Mutex, MutexGuard};
 use std::thread;
-use std::time::Duration;
 
 use neon_terms::Registers;
 
 use crate::answer::{Answer, Difference};
 use crate::pair::{Lane, Pair, Question, Register};
-use crate::progress;
 use crate::runs;
 use crate::show::held;
 use crate::solver::{self, Reply, Solver, Why};
-use crate::stages::{self, Trust};
-
-/// The time that a question has if there is no limit for all.
-const USUAL: Duration = Duration::from_secs(10);
+use crate::stages::Settings;
 
 /// What was learnt so far.
 #[derive(Default)]
 struct Learnt {
-    /// The lanes that are believed to be equal, and the solver that was the first to say so.
+    /// The lanes that a solver said are equal, and which solver.
     unsat: BTreeMap<u32, Solver>,
     /// For how many lanes a solver decided nothing.
     nothing: BTreeMap<(Solver, Why), u32>,
@@ -29,12 +25,13 @@ struct Learnt {
     found: Option<Difference>,
 }
 
-struct Asking<'a> {
+struct Work<'a> {
     pair: &'a Pair<'a>,
     register: Register,
     question: Question,
     lane: Lane,
-    work: &'a stages::Work<'a>,
+    solvers: Vec<Solver>,
+    seconds: u64,
     /// The registers that matter.
     asked: Vec<u8>,
     next: AtomicU32,
@@ -43,34 +40,37 @@ struct Asking<'a> {
     learnt: Mutex<Learnt>,
 }
 
-pub fn ask(pair: &Pair, register: Register, work: &stages::Work) -> Answer {
+pub fn ask(pair: &Pair, register: Register, settings: &Settings) -> Answer {
     let question = match pair.question(register) {
         Ok(question) => question,
         Err(refusal) => return Answer::Left(format!("the pools of both routines do not fit in one: {} ({refusal})", refusal.number.code())),
     };
+    let (solvers, absent): (Vec<Solver>, Vec<Solver>) = settings.solvers.iter().partition(|solver| solver.is_there());
+    let learnt = Learnt { nothing: absent.into_iter().map(|solver| ((solver, Why::NotThere), 0)).collect(), ..Learnt::default() };
     // a solver is one process that computes
     let processors = thread::available_parallelism().map_or(2, |count| count.get());
-    let workers = (processors / work.settings.solvers.len().max(1)).max(2);
-    let asking = Asking {
+    let workers = (processors / solvers.len().max(1)).max(2);
+    let work = Work {
         pair,
         register,
         question,
-        lane: work.settings.lane.unwrap_or_else(|| pair.lane(register)),
-        work,
+        lane: settings.lane.unwrap_or_else(|| pair.lane(register)),
+        solvers,
+        seconds: settings.seconds,
         asked: pair.reads(register),
         next: AtomicU32::new(0),
         stop: AtomicBool::new(false),
-        learnt: Mutex::default(),
+        learnt: Mutex::new(learnt),
     };
     thread::scope(|scope| {
         for _ in 0..workers {
-            scope.spawn(|| asking.run());
+            scope.spawn(|| work.run());
         }
     });
-    asking.answer()
+    work.answer()
 }
 
-impl Asking<'_> {
+impl Work<'_> {
     /// One or more: no lane has more bits than half a register.
     fn lanes(&self) -> u32 {
         self.register.bits() / self.lane.bits()
@@ -87,38 +87,31 @@ impl Asking<'_> {
             if lane >= self.lanes() || self.stop.load(Ordering::Relaxed) {
                 break;
             }
-            let decided = self.work.over().is_none() && self.lane(lane);
+            let decided = self.lane(lane);
             let mut learnt = self.learnt();
             learnt.left.extend((!decided).then_some(lane));
-            let asked = learnt.left.len() + learnt.unsat.len();
-            progress::show(&format!("{}: {asked} of {} lanes asked of solvers", self.register, self.lanes()));
+            progress(&format!("{}: {} of {} lanes", self.register, learnt.left.len() + learnt.unsat.len(), self.lanes()));
         }
     }
 
-    /// Whether the word of a solver, or of all of them, was taken for a lane.
+    /// Whether a solver's word was taken for a lane.
     fn lane(&self, lane: u32) -> bool {
         let (lo, hi) = (self.lane.bits() * lane, self.lane.bits() * (lane + 1) - 1);
         let Question { pool, old, new } = &self.question;
         let script = pool.lane_script(*old, *new, hi.into(), lo.into()).expect("the pool has the two terms");
-        let settings = self.work.settings;
-        let (mut decided, mut unsat) = (false, Vec::new());
-        solver::ask(&script, &settings.solvers, &self.asked, self.work.left(USUAL), &self.stop, |solver, reply| {
+        let question = script + &solver::get_value(&self.asked);
+        let mut decided = false;
+        solver::ask(question, &self.solvers, &self.asked, self.seconds, &self.stop, |solver, reply| {
             decided = match reply {
-                Reply::Unsat if settings.trust == Trust::Proofs => self.nothing(solver, Why::NotBelieved),
                 Reply::Unsat => {
-                    unsat.push(solver);
-                    !settings.agree || unsat.len() == settings.solvers.len()
+                    self.learnt().unsat.insert(lane, solver);
+                    true
                 }
-                Reply::Sat(start) => self.replay(solver, lane, &start, &unsat),
+                Reply::Sat(start) => self.replay(solver, lane, &start),
                 Reply::Nothing(why) => self.nothing(solver, why),
             };
             decided
         });
-        if decided {
-            self.learnt().unsat.extend(unsat.first().map(|&solver| (lane, solver)));
-        } else {
-            unsat.into_iter().for_each(|solver| _ = self.nothing(solver, Why::Alone));
-        }
         decided
     }
 
@@ -127,20 +120,12 @@ impl Asking<'_> {
         false
     }
 
-    /// Runs both routines on a solver's model. The runs decide; a model at which they agree counts for nothing. Solvers that said equal are named.
-    fn replay(&self, solver: Solver, lane: u32, start: &Registers, unsat: &[Solver]) -> bool {
-        let (name, register, shown) = (solver.name(), self.register, held(start, &self.asked));
-        let warn = |text: String| {
-            progress::show("");
-            eprintln!("neon-equal: WARNING: {text}");
-        };
-        let difference = runs::difference(self.pair, self.register, start);
-        for other in unsat {
-            let differ = if difference.is_some() { "the runs differ" } else { "the runs agree" };
-            warn(format!("{} says that lane {lane} of {register} is equal, {name} that it differs at {shown}; {differ} there", other.name()));
-        }
-        let Some(difference) = difference else {
-            warn(format!("{name} says that lane {lane} of {register} differs at {shown}; the runs agree there. Its answer is not counted."));
+    /// Runs both routines on a solver's model. The runs decide; a model at which they agree counts for nothing.
+    fn replay(&self, solver: Solver, lane: u32, start: &Registers) -> bool {
+        let Some(difference) = runs::difference(self.pair, self.register, start) else {
+            let (name, register, start) = (solver.name(), self.register, held(start, &self.asked));
+            progress("");
+            eprintln!("neon-equal: WARNING: {name} says that lane {lane} of {register} differs at {start}; the runs agree there. Its answer is not counted.");
             return self.nothing(solver, Why::Wrong);
         };
         self.stop.store(true, Ordering::Relaxed);
@@ -149,33 +134,25 @@ impl Asking<'_> {
     }
 
     fn answer(self) -> Answer {
-        progress::show("");
+        progress("");
         let lanes = self.lanes();
-        let settings = self.work.settings;
         let Learnt { unsat, nothing, mut left, found } = self.learnt.into_inner().expect("no thread panics while it holds what was learnt");
         if let Some(difference) = found {
             return Answer::Differs(Box::new(difference));
         }
         if (0..lanes).all(|lane| unsat.contains_key(&lane)) {
-            return Answer::Believed(believed(&unsat, &settings.solvers, settings.agree));
+            let taken = |solver: Solver| unsat.values().filter(|&&other| other == solver).count();
+            let by = self.solvers.iter().filter(|&&solver| taken(solver) > 0).map(|&solver| format!("{} ({} of {lanes} lanes)", solver.name(), taken(solver)));
+            return Answer::Unsat(by.collect::<Vec<_>>().join(" and "));
         }
         left.sort_unstable();
-        let why: Vec<String> = nothing.iter().map(|((solver, why), count)| format!("{} {} for {count}", solver.name(), why.text())).collect();
-        let over = self.work.over().unwrap_or_default();
-        let why = if why.is_empty() { over.to_string() } else { why.join(", ") };
-        Answer::Left(format!("left are {} of {lanes} lanes of {} bits: {}; {why}", left.len(), self.lane.bits(), ranges(&left)))
+        let why = nothing.iter().map(|((solver, why), count)| match count {
+            0 => format!("{} {}", solver.name(), why.text()),
+            _ => format!("{} {} for {count}", solver.name(), why.text()),
+        });
+        let why: Vec<String> = if self.solvers.is_empty() { vec!["no solver was asked".to_string()] } else { why.collect() };
+        Answer::Left(format!("left are {} of {lanes} lanes of {} bits: {}; {}", left.len(), self.lane.bits(), ranges(&left), why.join(", ")))
     }
-}
-
-/// The solvers whose word was taken, with the number of lanes if there are several.
-fn believed(unsat: &BTreeMap<u32, Solver>, solvers: &[Solver], agree: bool) -> String {
-    let taken = |solver: Solver| unsat.values().filter(|&&other| other == solver).count();
-    let all: Vec<Solver> = solvers.iter().copied().filter(|&solver| agree || taken(solver) > 0).collect();
-    let name = |&solver: &Solver| match (all.len(), agree) {
-        (1, _) | (_, true) => solver.name().to_string(),
-        _ => format!("{} ({} of {} lanes)", solver.name(), taken(solver), unsat.len()),
-    };
-    all.iter().map(name).collect::<Vec<_>>().join(" and ")
 }
 
 /// Lanes in order, a row of them by its ends: `0, 3-7`.
@@ -185,6 +162,15 @@ fn ranges(lanes: &[u32]) -> String {
         _ => format!("{}-{}", row[0], row[row.len() - 1]),
     });
     ends.collect::<Vec<_>>().join(", ")
+}
+
+/// How far it is, for a person at a terminal: one line on standard error, which the next replaces.
+fn progress(text: &str) {
+    let mut error = io::stderr().lock();
+    if error.is_terminal() {
+        // the answer does not depend on it
+        let _ = write!(error, "\r\x1b[K{text}").and_then(|()| error.flush());
+    }
 }
 
 #[cfg(test)]

@@ -1,36 +1,28 @@
 //! neon-equal: do two routines leave the same in the registers that count? `neon-equal --help` tells how it is called.
 //!
-//! [`run`] is the whole program on streams that are lent. `args` and `values` read the call; `input`, `elf` and `frame` files, and `foreign` and `second`
-//! name what is not taken; `compare` says which registers count and goes through the `stages`: `runs`, `gates` with `search`, and `lanes` with `solver`.
-//! `show` and `explain` take a difference apart; `output` and `report` write, and `certificate` keeps what shows an answer.
+//! [`run`] is the whole program on streams that are lent. `args` reads the call; `input`, `elf` and `frame` files, and `foreign` and `second` name what
+//! is not taken; `compare` says which registers count and goes through the `stages`; `show` and `explain` take a difference apart; `output` and
+//! `report` write.
 mod answer;
 mod args;
-mod certificate;
 mod compare;
 pub mod elf;
 mod explain;
 mod foreign;
 mod frame;
-mod gates;
 mod input;
-mod interrupt;
 mod json;
 mod lanes;
 mod list;
-pub mod measure;
 mod output;
 mod pair;
-mod progress;
-mod reply;
 mod report;
 mod runs;
-mod search;
 mod second;
 mod show;
 mod solver;
 mod stages;
 mod starts;
-mod values;
 
 use std::ffi::OsString;
 use std::fs::File;
@@ -40,11 +32,9 @@ use std::sync::Mutex;
 
 use answer::Verdict;
 use args::{Pairs, Run, Wanted};
-use certificate::Certificates;
 use compare::{Compared, Event};
 use input::Input;
 pub use frame::text as instruction_text;
-pub use interrupt::watch as watch_interrupts;
 pub use output::Streams;
 use output::Style;
 
@@ -69,10 +59,6 @@ pub fn run(args: impl Iterator<Item = OsString>, input: &mut (dyn Read + Send), 
         Ok(Wanted::Version) => write_all(streams, &format!("{}\n", version())).map(|()| 0),
         Ok(Wanted::Run(run)) => match neon_terms::check_version() {
             Ok(_) => compare_all(&run, &Mutex::new(input), streams),
-            Err(wrong) => Err(vec![wrong.to_string()]),
-        },
-        Ok(Wanted::Check(folder)) => match neon_terms::check_version() {
-            Ok(_) => certificate::check(&folder, streams),
             Err(wrong) => Err(vec![wrong.to_string()]),
         },
         Err(message) => Err(vec![format!("{message}; neon-equal --help tells more")]),
@@ -112,8 +98,6 @@ fn read_list(file: &Path, input: &Input) -> Result<Vec<u8>, Vec<String>> {
 }
 
 fn compare_all(run: &Run, input: &Input, streams: &mut Streams) -> Result<u8, Vec<String>> {
-    let certificates = run.certificate.as_deref().map(Certificates::new).transpose().map_err(|message| vec![message])?;
-    let wanted = compare::Wanted { explain: run.explain, certificates };
     let (style, mut failed, mut several) = (style(run), None, false);
     // after a failure nothing more is written
     let mut tell = |number: usize, event: &Event| {
@@ -124,24 +108,18 @@ fn compare_all(run: &Run, input: &Input, streams: &mut Streams) -> Result<u8, Ve
         failed.is_none()
     };
     let all = match &run.pairs {
-        Pairs::One(entry) => compare::entry(entry, input, &wanted, &mut |event| _ = tell(0, &event)),
+        Pairs::One(entry) => compare::entry(entry, input, run.explain, &mut |event| _ = tell(0, &event)),
         Pairs::List { file, jobs, defaults } => {
             let entries = list::entries(&read_list(file, input)?, &file.to_string_lossy(), defaults)?;
-            list::compare(&entries, *jobs, input, &wanted, tell)
+            list::compare(&entries, *jobs, input, run.explain, tell)
         }
     };
     if let Some(error) = failed {
         return Err(written(error));
     }
-    // after an interrupt some pairs of a list may be left
-    let left = interrupt::interrupted().then_some(Verdict::NotDecided);
-    let mut verdicts = all.iter().map(|compared| compared.verdict).chain(left);
-    let Some(first) = verdicts.next() else { return Err(vec!["nothing was compared".to_string()]) };
-    let verdict = Verdict::of(first, verdicts);
+    let Some((first, others)) = all.split_first() else { return Err(vec!["nothing was compared".to_string()]) };
+    let verdict = Verdict::of(first.verdict, others.iter().map(|compared| compared.verdict));
     write_files(run, &all)?;
-    if let Some(message) = wanted.certificates.as_ref().and_then(Certificates::failed) {
-        return Err(vec![message]);
-    }
     let several = several || matches!(run.pairs, Pairs::List { .. });
     streams.last(&all, verdict, style, several).map_err(written)?;
     Ok(verdict.status())

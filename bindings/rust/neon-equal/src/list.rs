@@ -4,9 +4,8 @@ use std::sync::atomic::{AtomicBool, AtomicUsize, Ordering};
 use std::thread;
 
 use crate::args::{self, Entry, Given};
-use crate::compare::{self, Compared, Event, Wanted};
+use crate::compare::{self, Compared, Event};
 use crate::input::Input;
-use crate::interrupt;
 
 /// Bytes that are read of a list.
 pub const MOST_BYTES: usize = 1 << 26;
@@ -30,17 +29,16 @@ pub fn entries(text: &[u8], name: &str, defaults: &Given) -> Result<Vec<(usize, 
     Ok(entries)
 }
 
-/// Compares all pairs, a number of them at a time; events are reported with the line of the list, one after another. Stops if `tell` asks for it,
-/// and after an interrupt.
-pub fn compare(entries: &[(usize, Entry)], jobs: usize, input: &Input, wanted: &Wanted, tell: impl FnMut(usize, &Event) -> bool + Send) -> Vec<Compared> {
+/// Compares all pairs, a number of them at a time; events are reported with the line of the list, one after another. Stops if `tell` asks for it.
+pub fn compare(entries: &[(usize, Entry)], jobs: usize, input: &Input, explain: bool, tell: impl FnMut(usize, &Event) -> bool + Send) -> Vec<Compared> {
     let (next, stop) = (AtomicUsize::new(0), AtomicBool::new(false));
     let tell = Mutex::new(tell);
     let done: Mutex<Vec<(usize, Vec<Compared>)>> = Mutex::default();
     let work = || {
-        while !stop.load(Ordering::Relaxed) && !interrupt::interrupted() {
+        while !stop.load(Ordering::Relaxed) {
             let k = next.fetch_add(1, Ordering::Relaxed);
             let Some((line, entry)) = entries.get(k) else { break };
-            let compared = compare::entry(entry, input, wanted, &mut |event| {
+            let compared = compare::entry(entry, input, explain, &mut |event| {
                 let mut tell = tell.lock().expect("nothing panics while it tells");
                 if !stop.load(Ordering::Relaxed) && !tell(*line, &event) {
                     stop.store(true, Ordering::Relaxed);

@@ -3,10 +3,9 @@ use std::io;
 use std::panic;
 use std::process::ExitCode;
 
-use neon_equal::{REFUSED, Streams, run, watch_interrupts};
+use neon_equal::{REFUSED, Streams, run};
 
 fn main() -> ExitCode {
-    watch_interrupts();
     let call = || {
         let mut streams = Streams { out: &mut io::stdout(), error: &mut io::stderr() };
         run(std::env::args_os().skip(1), &mut io::stdin(), &mut streams, None)

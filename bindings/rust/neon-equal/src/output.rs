@@ -1,7 +1,7 @@
 //! What is written while pairs are compared: lines for a person, or an object on each line.
 use std::io::{self, Write};
 
-use crate::answer::{Answer, Proof, Verdict};
+use crate::answer::{Answer, Verdict};
 use crate::compare::{Compared, Demand, Event, Told};
 use crate::explain::{Explained, Step};
 use crate::input::Refusal;
@@ -62,10 +62,6 @@ impl Streams<'_> {
             writeln!(self.out, "{line}")?;
         }
         self.out.flush()
-    }
-
-    pub fn line(&mut self, line: &str) -> io::Result<()> {
-        self.lines(&[line.to_string()])
     }
 
     /// What happened, in a style. `number` is the line of a list.
@@ -201,10 +197,7 @@ fn told_object(old: &str, new: &str, told: &Told) -> Json {
     fields.push(("rests_on", Json::text(told.answer.rests_on())));
     match &told.answer {
         Answer::Left(why) => fields.push(("left", Json::text(why))),
-        answer => fields.push(("by", Json::text(&answer.by()))),
-    }
-    if let Answer::Proved(Proof::Refutation { steps, .. }) = told.answer {
-        fields.push(("steps", Json::number(steps as u64)));
+        answer => fields.push(("by", Json::text(answer.by()))),
     }
     fields.extend(told.shown.as_ref().map(|shown| ("difference", difference_object(shown, told.explained.as_ref()))));
     Json::object(fields)

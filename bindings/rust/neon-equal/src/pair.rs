@@ -16,12 +16,6 @@ impl Register {
         if self.half { 64 } else { 128 }
     }
 
-    /// By its name: v0 to v31, d0 to d31.
-    pub fn named(name: &str) -> Option<Self> {
-        let all = (0..32).flat_map(|number| [false, true].map(|half| Self { number, half }));
-        all.into_iter().find(|register| register.to_string() == name)
-    }
-
     /// What of the register counts.
     pub fn of(self, registers: &Registers) -> u128 {
         registers.0[usize::from(self.number)] & u128::MAX >> (128 - self.bits())
@@ -176,13 +170,6 @@ pub struct Question {
     pub new: Node,
 }
 
-/// The two terms of a register, each in a pool that has nothing else, and the last bit that counts.
-pub struct Asked {
-    pub old: (Pool, Node),
-    pub new: (Pool, Node),
-    pub hi: usize,
-}
-
 #[derive(Clone, Copy)]
 pub struct Pair<'a> {
     pub old: &'a Routine,
@@ -201,12 +188,6 @@ impl Pair<'_> {
             (Some(old), Some(new)) => old == new,
             _ => false,
         }
-    }
-
-    /// What is asked of a register.
-    pub fn asked(&self, register: Register) -> Result<Asked, Refusal> {
-        let term = |routine: &Routine| routine.pool.canonical(routine.node(register));
-        Ok(Asked { old: term(self.old)?, new: term(self.new)?, hi: register.bits() as usize - 1 })
     }
 
     /// What each routine leaves in a register.

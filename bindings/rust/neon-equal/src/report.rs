@@ -47,10 +47,10 @@ fn rests_on(compared: &Compared) -> String {
     let one = |told: &crate::compare::Told| match (&told.answer, told.demand) {
         (Answer::Left(_), _) => format!("{}: nothing yet", told.register),
         (Answer::Differs(_), _) => format!("{}: a run by the proved runner", told.register),
-        (Answer::Proved(proof), Demand::Equal) => format!("{}: a theorem, by {proof}", told.register),
-        (Answer::Proved(proof), Demand::KeptBy(side)) => format!("{}, kept by {side}: a theorem, by {proof}", told.register),
-        (Answer::Believed(by), Demand::Equal) => format!("{}: believed, by {by}", told.register),
-        (Answer::Believed(by), Demand::KeptBy(side)) => format!("{}, kept by {side}: believed, by {by}", told.register),
+        (Answer::Same, Demand::Equal) => format!("{}: a theorem, by canonical pools", told.register),
+        (Answer::Same, Demand::KeptBy(side)) => format!("{}, kept by {side}: a theorem, by canonical pools", told.register),
+        (Answer::Unsat(by), Demand::Equal) => format!("{}: believed, by {by}", told.register),
+        (Answer::Unsat(by), Demand::KeptBy(side)) => format!("{}, kept by {side}: believed, by {by}", told.register),
     };
     if compared.verdict == Verdict::Refused {
         return "nothing: not compared".to_string();

@@ -1,38 +1,20 @@
 //! Solvers as processes: what they are asked, what they may answer, and how long they have.
-use std::collections::hash_map::RandomState;
-use std::hash::{BuildHasher, Hasher};
-use std::io::{self, BufRead, BufReader, Read, Write};
+use std::io::{self, Read, Write};
 use std::os::unix::fs::PermissionsExt;
-use std::os::unix::process::{CommandExt, ExitStatusExt};
-use std::process::{Child, ChildStderr, ChildStdin, ChildStdout, Command, Stdio};
+use std::process::{Child, Command, Stdio};
+use std::sync::Arc;
 use std::sync::atomic::{AtomicBool, Ordering};
 use std::sync::mpsc::{self, RecvTimeoutError, Sender};
-use std::sync::{Arc, Mutex};
 use std::thread;
 use std::time::{Duration, Instant};
 
 use neon_terms::Registers;
 
-use crate::interrupt;
-use crate::reply::{get_value, reply};
-
 /// Bytes that are read of a solver. 32 registers take less than 5,000.
-pub const MOST_BYTES: usize = 1 << 16;
+const MOST_BYTES: usize = 1 << 16;
 
-/// Bytes of its first line on standard error that are kept.
-const MOST_ERROR: u64 = 200;
-
-/// How often a wait looks whether it is still wanted, and how long a solver may take to end after its answer.
+/// How often a wait looks whether it is still wanted.
 const LOOK: Duration = Duration::from_millis(20);
-const END: Duration = Duration::from_secs(1);
-
-const SIGKILL: i32 = 9;
-const PR_SET_PDEATHSIG: i32 = 1;
-
-unsafe extern "C" {
-    fn prctl(option: i32, ...) -> i32;
-    fn kill(process: i32, signal: i32) -> i32;
-}
 
 #[derive(Debug, Clone, Copy, PartialEq, Eq, PartialOrd, Ord)]
 pub enum Solver {
@@ -41,22 +23,14 @@ pub enum Solver {
 }
 
 /// Why a solver decided nothing.
-#[derive(Debug, Clone, PartialEq, Eq, PartialOrd, Ord)]
+#[derive(Debug, Clone, Copy, PartialEq, Eq, PartialOrd, Ord)]
 pub enum Why {
-    NotStarted(String),
+    NotThere,
+    NotStarted,
     Time,
     Unknown,
-    /// With its first line on standard error.
-    Unreadable(String),
-    /// A read failed.
-    Unread(String),
-    Killed(i32),
-    NotEnded,
+    Unreadable,
     Wrong,
-    /// It says equal, and answers may rest on proofs only.
-    NotBelieved,
-    /// It says equal, and the others do not.
-    Alone,
 }
 
 #[derive(Debug, PartialEq, Eq)]
@@ -68,19 +42,14 @@ pub enum Reply {
 }
 
 impl Why {
-    pub fn text(&self) -> String {
+    pub fn text(self) -> &'static str {
         match self {
-            Self::NotStarted(error) => format!("could not be started ({error})"),
-            Self::Time => "gave no answer in time".to_string(),
-            Self::Unknown => "does not know".to_string(),
-            Self::Unreadable(error) if error.is_empty() => "gave no readable answer".to_string(),
-            Self::Unreadable(error) => format!("gave no readable answer ({error})"),
-            Self::Unread(error) => format!("could not be read ({error})"),
-            Self::Killed(signal) => format!("died of signal {signal}"),
-            Self::NotEnded => "did not end after its answer".to_string(),
-            Self::Wrong => "was wrong".to_string(),
-            Self::NotBelieved => "says equal, which is not believed (--trust proofs)".to_string(),
-            Self::Alone => "says equal, and is alone with it (--agree)".to_string(),
+            Self::NotThere => "is not on the path",
+            Self::NotStarted => "could not be started",
+            Self::Time => "gave no answer in time",
+            Self::Unknown => "does not know",
+            Self::Unreadable => "gave no readable answer",
+            Self::Wrong => "was wrong",
         }
     }
 }
@@ -106,10 +75,6 @@ impl Solver {
             Self::Z3 => command.args(["-smt2", "-in", &format!("-T:{}", seconds + 1)]),
             Self::Cvc5 => command.args(["--lang=smt2", "--produce-models", &format!("--tlimit={}", 1000 * (seconds + 1))]),
         };
-        // SAFETY: prctl is a system call and may be made between fork and exec
-        unsafe { command.pre_exec(|| if prctl(PR_SET_PDEATHSIG, SIGKILL as u64) == 0 { Ok(()) } else { Err(io::Error::last_os_error()) }) };
-        // a group of its own, so that what it starts ends with it
-        command.process_group(0).stdin(Stdio::piped()).stdout(Stdio::piped()).stderr(Stdio::piped());
         command
     }
 
@@ -120,114 +85,52 @@ impl Solver {
     }
 }
 
-/// A process that ends with this value, and the first line that it writes to standard error.
-struct Running {
-    child: Child,
-    error: Arc<Mutex<String>>,
-    ended: bool,
-}
+/// A process that ends with this value.
+struct Running(Child);
 
 impl Drop for Running {
     fn drop(&mut self) {
-        if let (false, Ok(group)) = (self.ended, i32::try_from(self.child.id())) {
-            // SAFETY: the child is not waited for yet, so the number is its own
-            unsafe { kill(-group, SIGKILL) };
-            let _ = self.child.wait();
-        }
+        // it may have ended by itself
+        let _ = self.0.kill();
+        let _ = self.0.wait();
     }
 }
-
-impl Running {
-    /// Why its answer does not count, by the way it ended.
-    fn ended(&mut self) -> Option<Why> {
-        let end = Instant::now() + END;
-        loop {
-            match self.child.try_wait() {
-                Ok(Some(status)) => {
-                    self.ended = true;
-                    return status.signal().map(Why::Killed);
-                }
-                Ok(None) if Instant::now() < end => thread::sleep(LOOK / 20),
-                Ok(None) => return Some(Why::NotEnded),
-                Err(error) => return Some(Why::Unread(error.to_string())),
-            }
-        }
-    }
-
-    fn first_error(&self) -> String {
-        self.error.lock().map(|line| line.clone()).unwrap_or_default()
-    }
-}
-
-type Written = io::Result<Vec<u8>>;
 
 /// Starts a solver on a question; what it writes comes by the sender. Threads write and read: a solver that reads nothing, or writes without an end,
 /// holds up nobody. They are not waited for, since a process that the solver started may keep a pipe open.
-fn start(solver: Solver, question: &Arc<[u8]>, seconds: u64, replies: &Sender<(Solver, Written)>) -> io::Result<Running> {
-    let child = solver.command(seconds).spawn()?;
-    let mut running = Running { child, error: Arc::default(), ended: false };
-    let (input, output, error) = (running.child.stdin.take(), running.child.stdout.take(), running.child.stderr.take());
-    let (Some(input), Some(output), Some(error)) = (input, output, error) else { unreachable!("all three are piped") };
-    let (question, replies, line) = (Arc::clone(question), replies.clone(), Arc::clone(&running.error));
-    thread::Builder::new().spawn(move || write(input, &question))?;
-    thread::Builder::new().spawn(move || first_line(error, &line))?;
-    thread::Builder::new().spawn(move || replies.send((solver, read(output))))?;
+fn start(solver: Solver, question: &Arc<[u8]>, seconds: u64, replies: &Sender<(Solver, Vec<u8>)>) -> io::Result<Running> {
+    let child = solver.command(seconds).stdin(Stdio::piped()).stdout(Stdio::piped()).stderr(Stdio::null()).spawn()?;
+    let mut running = Running(child);
+    let (Some(mut input), Some(output)) = (running.0.stdin.take(), running.0.stdout.take()) else { unreachable!("both are piped") };
+    let (question, replies) = (Arc::clone(question), replies.clone());
+    // a solver that stops reading answers on its own account
+    thread::Builder::new().spawn(move || input.write_all(&question).unwrap_or_default())?;
+    thread::Builder::new().spawn(move || {
+        let mut bytes = Vec::new();
+        // a read that fails ends what was written
+        let _ = output.take(MOST_BYTES as u64 + 1).read_to_end(&mut bytes);
+        let _ = replies.send((solver, bytes));
+    })?;
     Ok(running)
 }
 
-/// A solver that stops reading gives no echo, so a write that fails needs no report.
-fn write(mut input: ChildStdin, question: &[u8]) {
-    let _ = input.write_all(question);
-}
-
-fn read(output: ChildStdout) -> Written {
-    let mut bytes = Vec::new();
-    output.take(MOST_BYTES as u64 + 1).read_to_end(&mut bytes)?;
-    Ok(bytes)
-}
-
-/// Keeps the first line, and reads the rest, so that nobody waits for it.
-fn first_line(error: ChildStderr, line: &Mutex<String>) {
-    let mut reader = BufReader::new(error);
-    let mut bytes = Vec::new();
-    let read = reader.by_ref().take(MOST_ERROR).read_until(b'\n', &mut bytes);
-    let text = match read {
-        Ok(_) => String::from_utf8_lossy(bytes.trim_ascii()).into_owned(),
-        Err(error) => error.to_string(),
-    };
-    if let Ok(mut line) = line.lock() {
-        *line = text;
-    }
-    let _ = io::copy(&mut reader, &mut io::sink());
-}
-
-/// A word that no solver knows before it is asked to write it.
-fn fresh() -> String {
-    let mut hasher = RandomState::new().build_hasher();
-    hasher.write(b"neon-equal");
-    format!("neon-equal-{:016x}", hasher.finish())
-}
-
-/// Asks the solvers at the same time, until `take` says that a reply decides, `stop` is set or the time is over; then none runs any more. A script asks
-/// about the registers in `asked`; after its answer a solver has to write a fresh word.
-pub fn ask(script: &str, solvers: &[Solver], asked: &[u8], time: Duration, stop: &AtomicBool, mut take: impl FnMut(Solver, Reply) -> bool) {
-    let word = fresh();
-    let question: Arc<[u8]> = format!("{script}(echo \"{word}\")\n{}", get_value(asked)).into_bytes().into();
+/// Asks the solvers at the same time, until `take` says that a reply decides, `stop` is set or the time is over; then none runs any more.
+pub fn ask(question: String, solvers: &[Solver], asked: &[u8], seconds: u64, stop: &AtomicBool, mut take: impl FnMut(Solver, Reply) -> bool) {
+    let question: Arc<[u8]> = question.into_bytes().into();
     let (sender, replies) = mpsc::channel();
-    let end = Instant::now() + time;
+    let end = Instant::now() + Duration::from_secs(seconds);
     let mut running = Vec::new();
     for &solver in solvers {
-        match start(solver, &question, time.as_secs(), &sender) {
+        match start(solver, &question, seconds, &sender) {
             Ok(process) => running.push((solver, process)),
-            Err(error) => _ = take(solver, Reply::Nothing(Why::NotStarted(error.to_string()))),
+            Err(_) => _ = take(solver, Reply::Nothing(Why::NotStarted)),
         }
     }
-    while !running.is_empty() && !stop.load(Ordering::Relaxed) && !interrupt::interrupted() && Instant::now() < end {
+    while !running.is_empty() && !stop.load(Ordering::Relaxed) && Instant::now() < end {
         match replies.recv_timeout(LOOK) {
-            Ok((solver, written)) => {
-                let Some(at) = running.iter().position(|(other, _)| *other == solver) else { continue };
-                let (_, mut process) = running.swap_remove(at);
-                if take(solver, answered(&mut process, written, &word, asked)) {
+            Ok((solver, bytes)) => {
+                running.retain(|(other, _)| *other != solver);
+                if take(solver, reply(&bytes, asked)) {
                     return;
                 }
             }
@@ -240,25 +143,105 @@ pub fn ask(script: &str, solvers: &[Solver], asked: &[u8], time: Duration, stop:
     }
 }
 
-/// What a solver that closed its output said, unless it died of a signal.
-fn answered(process: &mut Running, written: Written, word: &str, asked: &[u8]) -> Reply {
-    let ended = process.ended();
-    match (written, ended) {
-        (Err(error), _) => Reply::Nothing(Why::Unread(error.to_string())),
-        (Ok(_), Some(why)) => Reply::Nothing(why),
-        (Ok(bytes), None) => match reply(&bytes, word, asked) {
-            Reply::Nothing(Why::Unreadable(_)) => Reply::Nothing(Why::Unreadable(process.first_error())),
-            reply => reply,
-        },
+/// The command that asks for the numbers of registers after the script's own.
+pub fn get_value(asked: &[u8]) -> String {
+    let names: Vec<String> = asked.iter().map(|register| format!("r{register}")).collect();
+    format!("(get-value ({}))\n", names.join(" "))
+}
+
+/// What a solver wrote: `unsat`, and the error that there is no model to get; or `sat` and the model. All else is nothing.
+fn reply(bytes: &[u8], asked: &[u8]) -> Reply {
+    let text = std::str::from_utf8(bytes).ok().filter(|_| bytes.len() <= MOST_BYTES);
+    match text.and_then(|text| text.split_once('\n')) {
+        Some(("unsat", rest)) if rest.is_empty() || is_error(rest) => Reply::Unsat,
+        Some(("sat", rest)) => model(rest, asked).map_or(Reply::Nothing(Why::Unreadable), |start| Reply::Sat(Box::new(start))),
+        Some(("unknown", rest)) if rest.is_empty() || is_error(rest) => Reply::Nothing(Why::Unknown),
+        Some(("timeout", "")) => Reply::Nothing(Why::Time),
+        _ => Reply::Nothing(Why::Unreadable),
     }
+}
+
+/// One line `(error "...")`.
+fn is_error(text: &str) -> bool {
+    let inner = text.strip_prefix("(error \"").and_then(|text| text.strip_suffix("\")\n"));
+    inner.is_some_and(|inner| !inner.contains(['\n', '"']))
+}
+
+/// `((r1 VALUE) (r2 VALUE))`, for each register that was asked for, in that order.
+fn model(text: &str, asked: &[u8]) -> Option<Registers> {
+    let spaced = text.replace('(', " ( ").replace(')', " ) ");
+    let mut tokens = spaced.split_ascii_whitespace();
+    let mut registers = Registers::default();
+    is(tokens.next(), "(")?;
+    for &register in asked {
+        is(tokens.next(), "(")?;
+        is(tokens.next(), &format!("r{register}"))?;
+        registers.0[usize::from(register)] = value(&mut tokens)?;
+        is(tokens.next(), ")")?;
+    }
+    is(tokens.next(), ")")?;
+    tokens.next().is_none().then_some(registers)
+}
+
+fn is(token: Option<&str>, text: &str) -> Option<()> {
+    (token == Some(text)).then_some(())
+}
+
+/// A number of 128 bits: `#x`, `#b` or `(_ bvN 128)`.
+fn value<'a>(tokens: &mut impl Iterator<Item = &'a str>) -> Option<u128> {
+    let token = tokens.next()?;
+    let digits = |text: &str, base: u32| text.chars().all(|digit| digit.is_digit(base)).then(|| u128::from_str_radix(text, base).ok())?;
+    if let Some(text) = token.strip_prefix("#x") {
+        return digits(text, 16).filter(|_| text.len() == 32);
+    }
+    if let Some(text) = token.strip_prefix("#b") {
+        return digits(text, 2).filter(|_| text.len() == 128);
+    }
+    is(Some(token), "(")?;
+    is(tokens.next(), "_")?;
+    let number = digits(tokens.next()?.strip_prefix("bv")?, 10)?;
+    is(tokens.next(), "128")?;
+    is(tokens.next(), ")")?;
+    Some(number)
 }
 
 #[cfg(test)]
 mod tests {
-    use super::fresh;
+    use super::*;
+
+    const X: &str = "#x000000000000000000000000000000ff";
+
+    fn sat(text: &str) -> Reply {
+        reply(format!("sat\n{text}").as_bytes(), &[1, 30])
+    }
 
     #[test]
-    fn words_are_fresh() {
-        assert_ne!(fresh(), fresh());
+    fn answers_of_both_solvers() {
+        let mut start = Registers::default();
+        (start.0[1], start.0[30]) = (255, 5);
+        assert_eq!(sat(&format!("((r1 {X})\n (r30 (_ bv5 128)))\n")), Reply::Sat(Box::new(start)));
+        assert_eq!(sat(&format!("((r1 #b{:0128b}) (r30 #x{:032x}))\n", 255, 5)), Reply::Sat(Box::new(start)));
+        for text in ["unsat\n", "unsat\n(error \"line 6 column 18: model is not available\")\n"] {
+            assert_eq!(reply(text.as_bytes(), &[1]), Reply::Unsat);
+        }
+        assert_eq!(reply(b"unknown\n", &[1]), Reply::Nothing(Why::Unknown));
+    }
+
+    #[test]
+    fn all_else_is_nothing() {
+        let unreadable = Reply::Nothing(Why::Unreadable);
+        let two_errors = "unsat\n(error \"a\")\n(error \"b\")\n";
+        for text in ["", "unsat", "UNSAT\n", " unsat\n", "unsat\nsat\n", "unsat\nunsat\n", "sat\n", "(error \"unsat\")\n", two_errors] {
+            assert_eq!(reply(text.as_bytes(), &[1]), unreadable, "{text:?}");
+        }
+        for text in [
+            format!("((r1 {X}))\n"), format!("((r30 {X}) (r1 {X}))\n"), format!("((r1 {X}) (r30 {X})) x\n"), format!("((r1 {X}) (r30 #xff))\n"),
+            format!("((r1 {X}) (r30 (_ bv5 64)))\n"), format!("((r1 {X}) (r30 (_ bv+5 128)))\n"), format!("((r1 {X}) (r30 #x{:0>32}))\n", "+5"),
+            format!("((r1 {X}) (r30 (_ bv{} 128)))\n", "9".repeat(40)), "((r1 #b) (r30 #b))\n".to_string(), "()\n".to_string(),
+        ] {
+            assert_eq!(sat(&text), unreadable, "{text}");
+        }
+        assert_eq!(reply(&[b'x'; MOST_BYTES + 1], &[1]), unreadable);
+        assert_eq!(reply(b"unsat\n\xff", &[1]), unreadable);
     }
 }

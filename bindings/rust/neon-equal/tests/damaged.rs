@@ -120,7 +120,7 @@ fn objects_that_are_damaged() {
         let (_, good) = r.one_of(&objects);
         let (other, _) = r.one_of(&objects);
         let bad = damage(&mut r, good);
-        let mut args: Vec<OsString> = vec!["-".into(), other.into(), "--effort".into(), "0".into()];
+        let mut args: Vec<OsString> = vec!["-".into(), other.into(), "--solver".into(), "none".into()];
         if r.below(2) == 0 {
             args.swap(0, 1);
         }
@@ -132,7 +132,7 @@ fn objects_that_are_damaged() {
         by_status[usize::from(called.status)] += 1;
     }
     println!("damaged objects by status: {by_status:?}");
-    assert!([0, 1, 3].iter().all(|status| by_status[*status] > 0), "{by_status:?}: a status never came");
+    assert!(by_status.iter().all(|count| *count > 0), "{by_status:?}: a status never came");
 }
 
 /// The judge of words between the headers of an object: whether each before the last `ret` is one of the 67 operations.
@@ -156,7 +156,7 @@ fn objects_with_other_code() {
         let words = [*r.one_of(&ours) ^ if r.below(4) == 0 { 1 << r.below(32) } else { 0 }, if r.below(8) == 0 { *r.one_of(&ours) } else { 0xd65f_03c0 }];
         let mut bad = good.clone();
         bad[at..at + 8].copy_from_slice(&words.map(u32::to_le_bytes).concat());
-        let args: Vec<OsString> = vec![path.clone().into(), "-".into(), "--function".into(), "first".into(), "--effort".into(), "0".into()];
+        let args: Vec<OsString> = vec![path.clone().into(), "-".into(), "--function".into(), "first".into(), "--solver".into(), "none".into()];
         let called = call(&args, &bad);
         called.check(&words);
         by_status[usize::from(called.status)] += 1;
@@ -186,17 +186,8 @@ fn objects_with_other_code() {
 /// What follows the two objects on a line that is good.
 const GOOD: [&str; 8] = ["framed", "nothing", "differs", "half d0", "temporaries", "upper", "clobbers --registers v0", "loop --from 4,8 --to 12,16"];
 
-/// A line whose pair no stage decides without a search: the operands of UABD are exchanged.
-fn left() -> String {
-    let [old, new] = ["left.old", "left.new"].map(|name| PathBuf::from(env!("CARGO_TARGET_TMPDIR")).join(name));
-    std::fs::write(&old, 0x6e62_7420u32.to_le_bytes()).expect("a file");
-    std::fs::write(&new, 0x6e61_7440u32.to_le_bytes()).expect("a file");
-    format!("{} {} --effort 0\n", old.display(), new.display())
-}
-
 #[test]
 fn lists_that_are_damaged() {
-    let left = left();
     let names: Vec<String> = objects().iter().map(|(path, _)| path.display().to_string()).collect();
     let mut r = Random(44);
     let mut by_status = [0usize; 4];
@@ -204,8 +195,7 @@ fn lists_that_are_damaged() {
         let mut list = String::new();
         for _ in 0..r.below(4) {
             if r.below(4) != 0 {
-                let good = format!("{0}/old.o {0}/new.o {1}\n", folder().display(), r.one_of(&GOOD));
-                list += if r.below(6) == 0 { &left } else { &good };
+                list += &format!("{0}/old.o {0}/new.o {1}\n", folder().display(), r.one_of(&GOOD));
                 continue;
             }
             let (old, new) = (r.one_of(&names), r.one_of(&names));
@@ -224,7 +214,7 @@ fn lists_that_are_damaged() {
                 }
             }
         }
-        let mut args = words(&["--list", "-", "--effort", "100"]);
+        let mut args = words(&["--list", "-", "--solver", "none"]);
         args.extend(r.one_of(&["", "-j 3", "--json", "--result v0", "--explain --json"]).split_whitespace().map(OsString::from));
         let called = call(&args, &bytes);
         let what = (case, &args, String::from_utf8_lossy(&bytes));
@@ -255,7 +245,6 @@ fn options_that_are_damaged() {
     vocabulary.extend(words(&[
         "-", "--", "--function", "--function=first", "first", "differs", "--from", "--to", "0x4", "8", "4,8", "0xffffffffffffffff", "--words", "--records",
         "--result", "--result=d0", "d0", "v0-v3", "v31", "--registers", "--registers=v0", "--lanes", "--lanes=8", "16", "--seconds", "--seconds=1", "--json",
-        "--effort=0", "--memory", "--memory=1", "--trust", "proofs", "--trust=solvers", "--agree", "--solver=none", "--check=/dev/null", "--certificate=/dev/null",
         "--explain", "--report=/dev/null", "--replay=/dev/null", "-j", "-j2", "-h", "--help", "-V", "--version", "--colour", "-x", "", " ", "=", "--=", "v0,",
         "99999999999999999999",
     ]));
@@ -265,7 +254,7 @@ fn options_that_are_damaged() {
     let mut r = Random(45);
     let mut by_status = [0usize; 4];
     for case in 0..cases() / 4 {
-        let mut args = words(&["--effort", "100"]);
+        let mut args = words(&["--solver", "none"]);
         if r.below(3) == 0 {
             args.extend([0, 0].map(|_| OsString::from(&r.one_of(&objects).0)));
         }

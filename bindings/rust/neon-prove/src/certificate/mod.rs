@@ -16,7 +16,7 @@ use crate::pair::{Pair, Register};
 pub use check::check;
 
 /// The first line of a claim.
-const FIRST: &str = "neon-equal certificate 1";
+const FIRST: &str = "neon-prove certificate 1";
 
 /// A folder for certificates.
 pub struct Certificates {

@@ -1,8 +1,8 @@
 //! What decides registers, pair by pair, in one run and with the same limits: folding, sweeping, z3 and cvc5 by lanes, CaDiCaL and ABC on the same graph.
 //!
-//!     cargo run --release --example deciders -- SECONDS FILE...
+//!     cargo run --release -p neon-prove --example deciders -- SECONDS FILE...
 //!
-//! A FILE is in the layout of tests/equal_pairs.txt. Times are milliseconds of a register. A way that gives no answer in the limit has `no`, a program
+//! A FILE is in the layout of tests/programs/prove_pairs.txt. Times are milliseconds of a register. A way that gives no answer in the limit has `no`, a program
 //! that is absent `-`.
 use std::fs;
 use std::io::Write;
@@ -10,7 +10,7 @@ use std::path::Path;
 use std::process::{Command, Stdio};
 use std::time::{Duration, Instant};
 
-use neon_equal::measure::{Measured, measured};
+use neon_prove::measure::{Measured, measured};
 use neon_terms::Record;
 
 struct Pair {

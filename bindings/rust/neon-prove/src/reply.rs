@@ -77,7 +77,7 @@ mod tests {
 
     const X: &str = "#x000000000000000000000000000000ff";
 
-    const WORD: &str = "neon-equal-1";
+    const WORD: &str = "neon-prove-1";
 
     fn said(text: &str) -> Reply {
         reply(text.as_bytes(), WORD, &[1, 30])
@@ -93,19 +93,19 @@ mod tests {
         (start.0[1], start.0[30]) = (255, 5);
         assert_eq!(sat(&format!("((r1 {X})\n (r30 (_ bv5 128)))\n")), Reply::Sat(Box::new(start)));
         assert_eq!(sat(&format!("((r1 #b{:0128b}) (r30 #x{:032x}))\n", 255, 5)), Reply::Sat(Box::new(start)));
-        for text in ["unsat\nneon-equal-1\n", "unsat\n\"neon-equal-1\"\n(error \"line 6 column 18: model is not available\")\n"] {
+        for text in ["unsat\nneon-prove-1\n", "unsat\n\"neon-prove-1\"\n(error \"line 6 column 18: model is not available\")\n"] {
             assert_eq!(said(text), Reply::Unsat);
         }
-        assert_eq!(said("unknown\nneon-equal-1\n"), Reply::Nothing(Why::Unknown));
+        assert_eq!(said("unknown\nneon-prove-1\n"), Reply::Nothing(Why::Unknown));
     }
 
     #[test]
     fn all_else_is_nothing() {
         let unreadable = Reply::Nothing(Why::Unreadable(String::new()));
-        let two_errors = "unsat\nneon-equal-1\n(error \"a\")\n(error \"b\")\n";
+        let two_errors = "unsat\nneon-prove-1\n(error \"a\")\n(error \"b\")\n";
         for text in [
-            "", "unsat", "unsat\n", "UNSAT\nneon-equal-1\n", " unsat\nneon-equal-1\n", "unsat\nneon-equal-1", "unsat\nneon-equal-2\n",
-            "unsat\nneon-equal-1\nsat\n", "unsat\nunsat\n", "sat\nneon-equal-1\n", "(error \"unsat\")\n", two_errors,
+            "", "unsat", "unsat\n", "UNSAT\nneon-prove-1\n", " unsat\nneon-prove-1\n", "unsat\nneon-prove-1", "unsat\nneon-prove-2\n",
+            "unsat\nneon-prove-1\nsat\n", "unsat\nunsat\n", "sat\nneon-prove-1\n", "(error \"unsat\")\n", two_errors,
         ] {
             assert_eq!(said(text), unreadable, "{text:?}");
         }
@@ -117,6 +117,6 @@ mod tests {
             assert_eq!(sat(&text), unreadable, "{text}");
         }
         assert_eq!(reply(&[b'x'; MOST_BYTES + 1], WORD, &[1]), unreadable);
-        assert_eq!(reply(b"unsat\nneon-equal-1\n\xff", WORD, &[1]), unreadable);
+        assert_eq!(reply(b"unsat\nneon-prove-1\n\xff", WORD, &[1]), unreadable);
     }
 }

@@ -1,0 +1,24 @@
+# Completion of neon-prove for bash: source this file, or put it into the folder of bash-completion under the name neon-prove.
+_neon_prove() {
+    local word=${COMP_WORDS[COMP_CWORD]} before=${COMP_WORDS[COMP_CWORD - 1]}
+    COMPREPLY=()
+    case $before in
+    --lanes) mapfile -t COMPREPLY < <(compgen -W '8 16 32 64' -- "$word") ;;
+    --solver) mapfile -t COMPREPLY < <(compgen -W 'z3 cvc5 z3,cvc5 none' -- "$word") ;;
+    --trust) mapfile -t COMPREPLY < <(compgen -W 'proofs solvers' -- "$word") ;;
+    --certificate | --check) mapfile -t COMPREPLY < <(compgen -d -- "$word") ;;
+    --result) mapfile -t COMPREPLY < <(compgen -W 'v0 d0 v0-v1 v0-v2 v0-v3' -- "$word") ;;
+    --registers) mapfile -t COMPREPLY < <(compgen -W "$(printf 'v%s d%s ' {0..31}{,})" -- "$word") ;;
+    --function | --from | --to | --seconds | --effort | --memory | -j) ;;
+    *)
+        case $word in
+        -*)
+            mapfile -t COMPREPLY < <(compgen -W '--function --from --to --words --records --result --registers --lanes --effort --memory --seconds
+                --solver --agree --trust --explain --replay --json --report --certificate --check --list -j --help -h --version -V' -- "$word")
+            ;;
+        *) mapfile -t COMPREPLY < <(compgen -f -- "$word") ;;
+        esac
+        ;;
+    esac
+}
+complete -o filenames -F _neon_prove neon-prove ./neon-prove
