@@ -1,4 +1,4 @@
-/* Three functions; distance and minus are written in two ways. The objects of README's first example are made by
+/* Three functions; distance and minus are written in two ways. The objects of README's example of neon-prove are made by
  *     aarch64-linux-gnu-gcc -O2 -fno-ident -c -o examples/old.o examples/routines.c
  *     clang --target=aarch64-linux-gnu -O2 -fno-ident -DNEW -c -o examples/new.o examples/routines.c */
 #include <arm_neon.h>

@@ -8,7 +8,7 @@ use crate::gates_part::{Side, ask};
 use crate::judge::Record;
 use crate::native::{self, Memory, words};
 
-const PAIRS: &str = "tests/programs/equal_pairs.txt";
+const PAIRS: &str = "tests/programs/prove_pairs.txt";
 
 /// Conflicts after which CaDiCaL gives up on a lane.
 const CONFLICTS: &str = "2000";
