@@ -7,9 +7,9 @@
  * words and numbers, and after an error pools and buffers are unchanged, except the working memory of neon_equal.
  *
  * Stack. The two text functions recurse, at most 64 bytes per level of a term: 4.2 MB for the deepest pool. A level prints at least 5
- * characters, so a buffer or a ceiling of at most 140,000 bytes needs at most 1.8 MB. neon_text_length takes 0.5 MB, and 48 bytes per level
- * if the ceiling is at most 2,097,150, else none per level. neon_value takes 80 bytes per level: 5.3 MB for the deepest pool. neon_canonical takes 0.8 MB. The
- * other functions take a few kilobytes.
+ * characters, so a buffer or a ceiling of at most 140,000 bytes needs at most 1.9 MB. neon_text_length takes 0.5 MB, and 48 bytes per
+ * level if the ceiling is at most 2,097,150, else none per level. neon_value takes 80 bytes per level: 5.3 MB for the deepest pool.
+ * neon_canonical takes 0.8 MB. The other functions take a few kilobytes.
  *
  * Pool. Four words per node; places = words / 4, at most 65,535; nodes 0 to count - 1 are in use.
  *   word 0   kind + 65,536 * width + 2^32 * set; the width is 1 to 129 bits, or 0 for a condition; bit r of the set is 1 if the
