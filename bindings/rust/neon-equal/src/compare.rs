@@ -1,7 +1,7 @@
 //! Two routines compared: which registers count, what is known of each, and the verdict.
 use std::time::Instant;
 
-use crate::answer::{Answer, Verdict};
+use crate::answer::Answer;
 use crate::args::{Choice, Entry};
 use crate::elf::on_a_line;
 use crate::explain::{self, Explained};
@@ -9,6 +9,7 @@ use crate::input::{self, Input, Refusal};
 use crate::pair::{Pair, Register, Routine};
 use crate::show::Shown;
 use crate::stages;
+use crate::verdict::Verdict;
 
 /// What is asked of a register.
 #[derive(Debug, Clone, Copy, PartialEq, Eq)]

@@ -7,12 +7,13 @@ use std::thread;
 
 use neon_terms::Registers;
 
-use crate::answer::{Answer, Difference};
+use crate::answer::Answer;
 use crate::pair::{Lane, Pair, Question, Register};
 use crate::runs;
 use crate::show::held;
 use crate::solver::{self, Reply, Solver, Why};
 use crate::stages::Settings;
+use crate::verdict::Difference;
 
 /// What was learnt so far.
 #[derive(Default)]

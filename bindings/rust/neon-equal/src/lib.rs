@@ -1,8 +1,8 @@
 //! neon-equal: do two routines leave the same in the registers that count? `neon-equal --help` tells how it is called.
 //!
-//! [`run`] is the whole program on streams that are lent. `args` reads the call; `input`, `elf` and `frame` files, and `foreign` and `second` name what
-//! is not taken; `compare` says which registers count and goes through the `stages`; `show` and `explain` take a difference apart; `output` and
-//! `report` write.
+//! [`run`] is the whole program on streams that are lent. `args` and `values` read the call; `input`, `elf` and `frame` files, and `foreign` and `second`
+//! name what is not taken; `compare` says which registers count and goes through the `stages`; `show` and `explain` take a difference apart; `output`
+//! and `report` write.
 mod answer;
 mod args;
 mod compare;
@@ -23,6 +23,8 @@ mod show;
 mod solver;
 mod stages;
 mod starts;
+mod values;
+mod verdict;
 
 use std::ffi::OsString;
 use std::fs::File;
@@ -30,13 +32,13 @@ use std::io::{self, Read};
 use std::path::Path;
 use std::sync::Mutex;
 
-use answer::Verdict;
 use args::{Pairs, Run, Wanted};
 use compare::{Compared, Event};
 use input::Input;
 pub use frame::text as instruction_text;
 pub use output::Streams;
 use output::Style;
+use verdict::Verdict;
 
 /// No answer was given: the call or a file was refused, or the answer could not be written.
 pub const REFUSED: u8 = 3;

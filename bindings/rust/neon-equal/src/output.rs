@@ -1,12 +1,15 @@
 //! What is written while pairs are compared: lines for a person, or an object on each line.
 use std::io::{self, Write};
 
-use crate::answer::{Answer, Verdict};
 use crate::compare::{Compared, Demand, Event, Told};
 use crate::explain::{Explained, Step};
 use crate::input::Refusal;
 use crate::json::Json;
 use crate::show::{Number, Shown};
+use crate::verdict::Verdict;
+
+/// The program's name, in messages and pages.
+pub const PROGRAM: &str = env!("CARGO_PKG_NAME");
 
 /// Standard output and standard error of a call.
 pub struct Streams<'s> {
@@ -57,7 +60,7 @@ impl std::fmt::Display for Count {
 
 impl Streams<'_> {
     /// Lines to standard output, written at once.
-    fn lines(&mut self, lines: &[String]) -> io::Result<()> {
+    pub fn lines(&mut self, lines: &[String]) -> io::Result<()> {
         for line in lines {
             writeln!(self.out, "{line}")?;
         }
@@ -96,7 +99,7 @@ impl Streams<'_> {
     /// Why a pair was refused, on standard error.
     fn refusals(&mut self, compared: &Compared) -> io::Result<()> {
         for line in compared.refusals.iter().flat_map(|refusal| refusal.lines().collect::<Vec<_>>()) {
-            writeln!(self.error, "neon-equal: {line}")?;
+            writeln!(self.error, "{PROGRAM}: {line}")?;
         }
         self.error.flush()
     }
@@ -194,11 +197,7 @@ fn told_object(old: &str, new: &str, told: &Told) -> Json {
         fields.push(("routine", Json::text(side)));
     }
     fields.push(("answer", Json::text(name_of(told.answer.verdict()))));
-    fields.push(("rests_on", Json::text(told.answer.rests_on())));
-    match &told.answer {
-        Answer::Left(why) => fields.push(("left", Json::text(why))),
-        answer => fields.push(("by", Json::text(answer.by()))),
-    }
+    fields.extend(told.answer.fields());
     fields.extend(told.shown.as_ref().map(|shown| ("difference", difference_object(shown, told.explained.as_ref()))));
     Json::object(fields)
 }

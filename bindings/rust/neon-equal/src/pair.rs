@@ -73,7 +73,7 @@ pub struct Routine {
     pub function: bool,
     places: Places,
     records: Vec<Record>,
-    pool: Pool,
+    pub pool: Pool,
     registers: [Node; 32],
 }
 
@@ -100,7 +100,7 @@ impl Routine {
         }
     }
 
-    fn node(&self, register: Register) -> Node {
+    pub fn node(&self, register: Register) -> Node {
         self.registers[usize::from(register.number)]
     }
 

@@ -1,7 +1,7 @@
 //! A run as one page: a row for each pair, with the difference by lanes behind a click. The page has all that it needs in itself.
-use crate::answer::{Answer, Verdict};
-use crate::compare::{Compared, Demand};
-use crate::output::Count;
+use crate::compare::{Compared, Demand, Told};
+use crate::output::{Count, PROGRAM};
+use crate::verdict::Verdict;
 
 const STYLE: &str = "\
 body { font-family: sans-serif; margin: 2em; color: #222; background: #fff; }
@@ -44,13 +44,9 @@ fn class(verdict: Verdict) -> &'static str {
 
 /// What a pair's verdict rests on, each register by itself.
 fn rests_on(compared: &Compared) -> String {
-    let one = |told: &crate::compare::Told| match (&told.answer, told.demand) {
-        (Answer::Left(_), _) => format!("{}: nothing yet", told.register),
-        (Answer::Differs(_), _) => format!("{}: a run by the proved runner", told.register),
-        (Answer::Same, Demand::Equal) => format!("{}: a theorem, by canonical pools", told.register),
-        (Answer::Same, Demand::KeptBy(side)) => format!("{}, kept by {side}: a theorem, by canonical pools", told.register),
-        (Answer::Unsat(by), Demand::Equal) => format!("{}: believed, by {by}", told.register),
-        (Answer::Unsat(by), Demand::KeptBy(side)) => format!("{}, kept by {side}: believed, by {by}", told.register),
+    let one = |told: &Told| match told.demand {
+        Demand::KeptBy(side) if told.answer.verdict() == Verdict::Equal => format!("{}, kept by {side}: {}", told.register, told.answer.basis()),
+        _ => format!("{}: {}", told.register, told.answer.basis()),
     };
     if compared.verdict == Verdict::Refused {
         return "nothing: not compared".to_string();
@@ -83,8 +79,8 @@ fn row(number: usize, compared: &Compared) -> String {
 pub fn page(all: &[Compared], version: &str) -> String {
     let rows: String = all.iter().enumerate().map(|(k, compared)| row(k + 1, compared)).collect();
     format!(
-        "<!DOCTYPE html>\n<html lang=\"en\">\n<head>\n<meta charset=\"utf-8\">\n<title>neon-equal: {count}</title>\n<style>\n{STYLE}</style>\n</head>\n<body>\n\
-         <h1>neon-equal</h1>\n<p>{count}.</p>\n<p>{version}</p>\n\
+        "<!DOCTYPE html>\n<html lang=\"en\">\n<head>\n<meta charset=\"utf-8\">\n<title>{PROGRAM}: {count}</title>\n<style>\n{STYLE}</style>\n</head>\n<body>\n\
+         <h1>{PROGRAM}</h1>\n<p>{count}.</p>\n<p>{version}</p>\n\
          <table>\n<thead>\n<tr><th>No.</th> <th>Old</th> <th>New</th> <th>Answer</th> <th>Rests on</th> <th>Seconds</th></tr>\n</thead>\n\
          <tbody>\n{rows}</tbody>\n</table>\n\
          <p>A click on an answer shows the difference by lanes, what is left, or why a pair was refused.</p>\n</body>\n</html>\n",

@@ -1,9 +1,9 @@
 //! Runs of both routines by the proved runner: what differs is shown by one.
 use neon_terms::Registers;
 
-use crate::answer::Difference;
 use crate::pair::{Pair, Register};
 use crate::starts::Starts;
+use crate::verdict::Difference;
 
 /// Instructions that are run in all, about 0.5 s, and the bounds on the number of starts. A number and no time, so that an answer comes again.
 const INSTRUCTIONS: usize = 4_000_000;
@@ -16,10 +16,10 @@ pub fn starts(pair: &Pair) -> usize {
 }
 
 /// Tells of the registers, of those left, that differ after some run, with that run; gives back the others.
-pub fn search(pair: &Pair, mut left: Vec<Register>, starts: usize, mut found: impl FnMut(Register, Difference)) -> Vec<Register> {
+pub fn search(pair: &Pair, mut left: Vec<Register>, starts: usize, over: &dyn Fn() -> bool, mut found: impl FnMut(Register, Difference)) -> Vec<Register> {
     let matter = (0..32).filter(|register| left.iter().any(|&counted| pair.reads(counted).contains(register))).collect();
-    for start in Starts::new(matter).take(starts) {
-        if left.is_empty() {
+    for (k, start) in Starts::new(matter).take(starts).enumerate() {
+        if left.is_empty() || k % 64 == 0 && over() {
             break;
         }
         let (old, new) = (pair.old.run(&start), pair.new.run(&start));

@@ -1,8 +1,8 @@
 //! A difference as a person reads it: by lanes of the last instruction, with the lanes of the start that are not 0; and as numbers.
 use neon_terms::{Assembly, Record, Registers};
 
-use crate::answer::Difference;
 use crate::pair::{Lane, Pair, Register, sources};
+use crate::verdict::Difference;
 
 /// Lanes of the start that are shown in a line; the whole start is kept too.
 const MOST_SOURCES: usize = 12;

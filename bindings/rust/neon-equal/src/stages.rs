@@ -30,7 +30,7 @@ fn by_canonical_pools(pair: &Pair, left: Vec<Register>, _: &Settings, tell: &mut
 
 fn by_runs(pair: &Pair, left: Vec<Register>, settings: &Settings, tell: &mut Tell) -> Vec<Register> {
     let starts = settings.starts.unwrap_or_else(|| runs::starts(pair));
-    runs::search(pair, left, starts, |register, difference| tell(register, Answer::Differs(Box::new(difference))))
+    runs::search(pair, left, starts, &|| false, |register, difference| tell(register, Answer::Differs(Box::new(difference))))
 }
 
 fn by_solvers(pair: &Pair, left: Vec<Register>, settings: &Settings, tell: &mut Tell) -> Vec<Register> {

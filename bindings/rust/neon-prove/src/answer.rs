@@ -1,19 +1,9 @@
-//! What is known of a register, of a pair of routines, and of all pairs.
+//! What is known of a register.
 use std::fmt;
 
-use neon_terms::Registers;
-
+use crate::json::Json;
 use crate::progress::grouped;
-
-/// A start at which a register differs, and what each routine leaves in it. The proved runner gave both.
-#[derive(Debug, Clone)]
-pub struct Difference {
-    pub start: Registers,
-    /// The registers that matter; what others hold at the start does not.
-    pub matter: Vec<u8>,
-    pub old: u128,
-    pub new: u128,
-}
+use crate::verdict::{Difference, Verdict};
 
 /// What a theorem was applied to.
 #[derive(Debug, Clone)]
@@ -58,7 +48,7 @@ impl Answer {
     }
 
     /// What an answer rests on, in a word.
-    pub fn rests_on(&self) -> &'static str {
+    fn rests_on(&self) -> &'static str {
         match self {
             Self::Proved(_) => "theorem",
             Self::Believed(_) => "solver",
@@ -76,58 +66,24 @@ impl Answer {
             Self::Left(why) => why.clone(),
         }
     }
-}
 
-/// The answer for all registers that count, or for all pairs. The later outweighs the earlier.
-#[derive(Debug, Clone, Copy, PartialEq, Eq, PartialOrd, Ord)]
-pub enum Verdict {
-    Equal,
-    NotDecided,
-    Differs,
-    Refused,
-}
-
-impl Verdict {
-    pub const ALL: [Self; 4] = [Self::Equal, Self::Differs, Self::NotDecided, Self::Refused];
-
-    /// Of one or more: of none there is no verdict.
-    pub fn of(first: Self, others: impl IntoIterator<Item = Self>) -> Self {
-        others.into_iter().fold(first, Self::max)
-    }
-
-    /// The exit status.
-    pub fn status(self) -> u8 {
+    /// What it rests on, for a reader of a report.
+    pub fn basis(&self) -> String {
         match self {
-            Self::Equal => 0,
-            Self::Differs => 1,
-            Self::NotDecided => 2,
-            Self::Refused => 3,
+            Self::Proved(proof) => format!("a theorem, by {proof}"),
+            Self::Believed(by) => format!("believed, by {by}"),
+            Self::Differs(_) => "a run by the proved runner".to_string(),
+            Self::Left(_) => "nothing yet".to_string(),
         }
     }
-}
 
-impl fmt::Display for Verdict {
-    fn fmt(&self, f: &mut fmt::Formatter<'_>) -> fmt::Result {
-        f.write_str(match self {
-            Self::Equal => "equal",
-            Self::Differs => "differs",
-            Self::NotDecided => "not decided",
-            Self::Refused => "refused",
-        })
-    }
-}
-
-#[cfg(test)]
-mod tests {
-    use super::*;
-
-    #[test]
-    fn the_worst_counts() {
-        use Verdict::{Differs, Equal, NotDecided, Refused};
-        assert_eq!(Verdict::of(Equal, [Equal]), Equal);
-        assert_eq!(Verdict::of(NotDecided, [Equal]), NotDecided);
-        assert_eq!(Verdict::of(NotDecided, [Differs, NotDecided]), Differs);
-        assert_eq!(Verdict::of(Refused, [Differs, Equal]), Refused);
-        assert_eq!(Verdict::ALL.map(Verdict::status), [0, 1, 2, 3]);
+    /// The fields of an object that say what it rests on.
+    pub fn fields(&self) -> Vec<(&'static str, Json)> {
+        let by = if matches!(self, Self::Left(_)) { "left" } else { "by" };
+        let mut fields = vec![("rests_on", Json::text(self.rests_on())), (by, Json::text(&self.by()))];
+        if let Self::Proved(Proof::Refutation { steps, .. }) = self {
+            fields.push(("steps", Json::number(*steps as u64)));
+        }
+        fields
     }
 }

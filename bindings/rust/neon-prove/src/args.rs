@@ -3,10 +3,10 @@ use std::ffi::OsString;
 use std::path::PathBuf;
 
 use crate::input::Format;
-use crate::values::{effort, lane, memory, number, offsets, registers, result, seconds, solvers, trust, words};
 use crate::pair::{Lane, Register};
 use crate::solver::Solver;
 use crate::stages::{Settings, Trust};
+use crate::values::{lane, number, offsets, registers, result, seconds, solvers, words};
 
 pub const HELP: &str = include_str!("../help.txt");
 
@@ -329,6 +329,22 @@ fn once<T>(name: &str, place: &mut Option<T>, value: T) -> Result<(), String> {
         None => Ok(()),
         Some(_) if PLAIN[3..].contains(&name) => Err("one of --words and --records is enough".to_string()),
         Some(_) => Err(format!("{name} is given twice")),
+    }
+}
+
+fn effort(text: &str) -> Option<u64> {
+    number(text).filter(|&n| n <= 1_000_000_000)
+}
+
+fn memory(text: &str) -> Option<u64> {
+    number(text).filter(|n| (1..=1 << 20).contains(n))
+}
+
+fn trust(text: &str) -> Option<Trust> {
+    match text {
+        "proofs" => Some(Trust::Proofs),
+        "solvers" => Some(Trust::Solvers),
+        _ => None,
     }
 }
 

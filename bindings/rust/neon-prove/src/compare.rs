@@ -1,7 +1,7 @@
 //! Two routines compared: which registers count, what is known of each, and the verdict.
 use std::time::Instant;
 
-use crate::answer::{Answer, Proof, Verdict};
+use crate::answer::{Answer, Proof};
 use crate::args::{Choice, Entry};
 use crate::certificate::Certificates;
 use crate::elf::on_a_line;
@@ -10,6 +10,7 @@ use crate::input::{self, Input, Refusal};
 use crate::pair::{Pair, Register, Routine};
 use crate::show::Shown;
 use crate::stages;
+use crate::verdict::Verdict;
 
 /// What is asked of a register.
 #[derive(Debug, Clone, Copy, PartialEq, Eq)]

@@ -3,7 +3,8 @@
 use neon_terms::{Pool, Registers, Workspace};
 
 use crate::answer::{Answer, Proof};
-use crate::pair::{Asked, Pair, Register};
+use crate::asked::Asked;
+use crate::pair::{Pair, Register};
 use crate::progress::{self, grouped};
 use crate::runs;
 use crate::search::{Found, Limits, Sweeping, search};

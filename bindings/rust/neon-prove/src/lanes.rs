@@ -7,13 +7,14 @@ use std::time::Duration;
 
 use neon_terms::Registers;
 
-use crate::answer::{Answer, Difference};
+use crate::answer::Answer;
 use crate::pair::{Lane, Pair, Question, Register};
 use crate::progress;
 use crate::runs;
 use crate::show::held;
 use crate::solver::{self, Reply, Solver, Why};
 use crate::stages::{self, Trust};
+use crate::verdict::Difference;
 
 /// The time that a question has if there is no limit for all.
 const USUAL: Duration = Duration::from_secs(10);

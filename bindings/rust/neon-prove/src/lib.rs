@@ -1,10 +1,12 @@
 //! neon-prove: do two routines leave the same in the registers that count? `neon-prove --help` tells how it is called.
 //!
 //! [`run`] is the whole program on streams that are lent. `args` and `values` read the call; `input`, `elf` and `frame` files, and `foreign` and `second`
-//! name what is not taken; `compare` says which registers count and goes through the `stages`: `runs`, `gates` with `search`, and `lanes` with `solver`.
-//! `show` and `explain` take a difference apart; `output` and `report` write, and `certificate` keeps what shows an answer.
+//! name what is not taken; `compare` says which registers count and goes through the `stages`: `runs`, `gates` with `asked` and `search`, and `lanes`
+//! with `solver`. `show` and `explain` take a difference apart; `output` and `report` write, and `certificate` keeps what shows an answer. What does not
+//! differ from neon-equal is in its folder.
 mod answer;
 mod args;
+mod asked;
 mod certificate;
 mod compare;
 #[path = "../../neon-equal/src/elf.rs"]
@@ -24,11 +26,15 @@ mod json;
 mod lanes;
 mod list;
 pub mod measure;
+#[path = "../../neon-equal/src/output.rs"]
 mod output;
+#[path = "../../neon-equal/src/pair.rs"]
 mod pair;
 mod progress;
 mod reply;
+#[path = "../../neon-equal/src/report.rs"]
 mod report;
+#[path = "../../neon-equal/src/runs.rs"]
 mod runs;
 mod search;
 #[path = "../../neon-equal/src/second.rs"]
@@ -39,7 +45,10 @@ mod solver;
 mod stages;
 #[path = "../../neon-equal/src/starts.rs"]
 mod starts;
+#[path = "../../neon-equal/src/values.rs"]
 mod values;
+#[path = "../../neon-equal/src/verdict.rs"]
+mod verdict;
 
 use std::ffi::OsString;
 use std::fs::File;
@@ -47,7 +56,6 @@ use std::io::{self, Read};
 use std::path::Path;
 use std::sync::Mutex;
 
-use answer::Verdict;
 use args::{Pairs, Run, Wanted};
 use certificate::Certificates;
 use compare::{Compared, Event};
@@ -56,6 +64,7 @@ pub use frame::text as instruction_text;
 pub use interrupt::watch as watch_interrupts;
 pub use output::Streams;
 use output::Style;
+use verdict::Verdict;
 
 /// No answer was given: the call or a file was refused, or the answer could not be written.
 pub const REFUSED: u8 = 3;

@@ -5,9 +5,10 @@ use std::path::{Path, PathBuf};
 use neon_terms::{Block, Workspace};
 
 use super::FIRST;
-use crate::answer::{Proof, Verdict};
+use crate::answer::Proof;
 use crate::output::Streams;
 use crate::pair::{Pair, Places, Register, Routine};
+use crate::verdict::Verdict;
 
 /// What a certificate claims.
 struct Claim {
@@ -99,8 +100,8 @@ pub fn check(folder: &Path, streams: &mut Streams) -> Result<u8, Vec<String>> {
                 format!("{name}: {register} is not decided, {why}")
             }
         };
-        streams.line(&line).map_err(|error| vec![format!("standard output: {error}")])?;
+        streams.lines(&[line]).map_err(|error| vec![format!("standard output: {error}")])?;
     }
-    streams.line(&verdict.to_string()).map_err(|error| vec![format!("standard output: {error}")])?;
+    streams.lines(&[verdict.to_string()]).map_err(|error| vec![format!("standard output: {error}")])?;
     Ok(verdict.status())
 }

@@ -1,7 +1,6 @@
 //! Values of options, and the words of a line.
 use crate::pair::{Lane, Register};
 use crate::solver::Solver;
-use crate::stages::Trust;
 
 /// Words between blanks; quotes keep blanks together.
 pub fn words(text: &str) -> Result<Vec<String>, String> {
@@ -68,22 +67,6 @@ pub fn lane(text: &str) -> Option<Lane> {
 
 pub fn seconds(text: &str) -> Option<u64> {
     number(text).filter(|n| (1..=86400).contains(n))
-}
-
-pub fn effort(text: &str) -> Option<u64> {
-    number(text).filter(|&n| n <= 1_000_000_000)
-}
-
-pub fn memory(text: &str) -> Option<u64> {
-    number(text).filter(|n| (1..=1 << 20).contains(n))
-}
-
-pub fn trust(text: &str) -> Option<Trust> {
-    match text {
-        "proofs" => Some(Trust::Proofs),
-        "solvers" => Some(Trust::Solvers),
-        _ => None,
-    }
 }
 
 /// Each solver once, in the order of `Solver::ALL`.
