@@ -1,4 +1,5 @@
--- Lemmas that all crates share: numbers and powers of two, joined tests, refusals, lists that are the same, computed tables.
+-- Lemmas that all crates share: answers, numbers and powers of two, joined tests, refusals, lists that are the same, computed tables.
+pub mod Answers
 pub mod Numbers
 pub mod Tests
 pub mod Refused
