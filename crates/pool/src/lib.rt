@@ -8,7 +8,7 @@ ghost use Rattle.pool.specs.Growth.{Room, Pushed};
 pub mod words;
 
 // The number of a node of a pool.
-#[derive(Clone, Copy)]
+#[derive(Clone, Copy, PartialEq, Eq, PartialOrd, Ord)]
 pub struct Node(pub usize);
 
 impl Node {
@@ -25,7 +25,7 @@ impl Node {
 }
 
 // The number of a bit of a term, bit 0 lowest.
-#[derive(Clone, Copy)]
+#[derive(Clone, Copy, PartialEq, Eq, PartialOrd, Ord)]
 pub struct Bit(pub u64);
 
 // A node that was built, and the count after it.
@@ -39,11 +39,7 @@ pub struct Built {
 pub fn places(pool: &[u64]) -> usize
     ensures { result ≡ places pool.now }
 {
-    let all = pool.len() / 4;
-    if all < Node::NONE {
-        return all;
-    }
-    Node::NONE
+    (pool.len() / 4).min(Node::NONE)
 }
 
 // Writes the four words of node `count`.
