@@ -15,6 +15,7 @@ use Rattle.pool.proofs.Laws.{is-kept, reach-kept, reach-trans, grown-trans}
 use Rattle.pool.proofs.Steps.{start, step, finish, forget, stay, given, spare}
 use Rattle.trees.specs.Simd.{concat_lanes}
 use Rattle.trees.specs.Trees.{keep_lower}
+use Rattle.lower.specs.Lanes.{Plan}
 use Rattle.lower.specs.Builds.{Source, SourceIs, read_if, unread, with_lower, BuildsCut, Lowers}
 
 -- a source stays what it is while the pool grows
@@ -38,6 +39,10 @@ module _ (old : List ℕ) (k : ℕ) (new : List ℕ) (r : Built) where
   abbrev pub LanesTo : (m bits : ℕ) (d first second : Source) (lane : Expr → Expr → Expr → ℕ → Expr) (ins : List ℕ) → ℕ → Type 0
   LanesTo m bits d first second lane ins i =
       Lowers old k new r (m * i) (bits * i) d first second (λ td ta tb. concat_lanes (i - 1) (lane td ta tb)) ins
+
+-- the lanes 0 to i - 1 of a family
+abbrev pub MakesTo : (old : List ℕ) (k : ℕ) (new : List ℕ) (r : Built) (p : Plan) → ℕ → Type 0
+MakesTo old k new r p i = LanesTo old k new r (p.nodes + 1) p.bits p.d p.first p.second p.tree p.ins i
 
 -- what a loop keeps: if the pool at entry and lane 0 have made the lane 0, the pool and the answer now have made i lanes
 abbrev pub LanesKept : (k : ℕ) (m bits : ℕ) (d first second : Source) (lane : Expr → Expr → Expr → ℕ → Expr) (ins : List ℕ)

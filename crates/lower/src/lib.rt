@@ -10,6 +10,7 @@ use pool::{Built, Node};
 use wide::word::{power, unsigned_max};
 
 pub mod arith;
+pub mod family;
 
 // Two words, the low one first: the Rust's u128.
 #[derive(Clone, Copy)]
