@@ -86,9 +86,6 @@ same-ordered {g} {k} {a} {b} {p} {q} {f} {s} o up uq is =
 pub same-itself : {g : List ℕ} {k a b : ℕ} → a ≤ b → Under b k → Same g k a b a b
 same-itself l u = record { ordered = l; under = u; is = λ start. refl }
 
-pub same-trans : {g : List ℕ} {k a b p q r s : ℕ} → Same g k a b p q → Same g k p q r s → Same g k a b r s
-same-trans x y = record { ordered = y.ordered; under = y.under; is = λ start. y.is start ∙ x.is start }
-
 pub kept : {a b x y : ℕ} → a ≤ b → Absorbs a b x y a b
 kept l = record { same = λ ua gate. same-itself l gate.under }
 

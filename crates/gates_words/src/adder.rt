@@ -54,8 +54,7 @@ pub fn add(
         literal: carry,
         count,
     };
-    let mut i = 0;
-    while i < w {
+    for i in 0..w {
         sum = add_at(
             graph,
             sum.count,
@@ -66,7 +65,6 @@ pub fn add(
             sum.literal,
             out + i,
         );
-        i += 1;
     }
     sum
 }

@@ -68,10 +68,8 @@ pub fn by_bit(
         (λ start. bits_of kind (number start graph.old bits.old a w) (number start graph.old bits.old b w)) }
 {
     let mut all = count;
-    let mut i = 0;
-    while i < w {
+    for i in 0..w {
         all = gate_at(kind, graph, all, table, bits, a + i, b + i, out + i);
-        i += 1;
     }
     all
 }
@@ -117,10 +115,8 @@ pub fn mux(
         (number start graph.old bits.old a w) (number start graph.old bits.old b w)) }
 {
     let mut all = count;
-    let mut i = 0;
-    while i < w {
+    for i in 0..w {
         all = mux_at(graph, all, table, bits, c, a + i, b + i, out + i);
-        i += 1;
     }
     all
 }

@@ -49,8 +49,7 @@ pub fn equal(
         (λ start. eqb (number start graph.old bits.now a w) (number start graph.old bits.now b w)) }
 {
     let mut same = Made { literal: 1, count };
-    let mut i = 0;
-    while i < w {
+    for i in 0..w {
         same = same_at(
             graph,
             same.count,
@@ -59,7 +58,6 @@ pub fn equal(
             bits[b + i],
             same.literal,
         );
-        i += 1;
     }
     same
 }
@@ -79,8 +77,7 @@ fn at_least(
         (λ start. not (ltb (number start graph.old bits.now a w) (number start graph.old bits.now b w))) }
 {
     let mut carry = Made { literal: 1, count };
-    let mut i = 0;
-    while i < w {
+    for i in 0..w {
         carry = at_least_at(
             graph,
             carry.count,
@@ -89,7 +86,6 @@ fn at_least(
             bits[b + i],
             carry.literal,
         );
-        i += 1;
     }
     carry
 }

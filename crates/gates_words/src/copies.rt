@@ -7,11 +7,7 @@ pub fn copy(bits: &mut [u64], from: usize, out: usize, w: usize)
     requires { (from + w ≤ out) × (out + w ≤ length bits.old) }
     ensures { Puts bits.old bits.new out w (λ j. get_or bits.old (from + j) 0) }
 {
-    let mut i = 0;
-    while i < w {
-        bits[out + i] = bits[from + i];
-        i += 1;
-    }
+    bits.copy_within(from..from + w, out);
 }
 
 // One literal w times.
@@ -19,9 +15,5 @@ pub fn fill(bits: &mut [u64], literal: u64, out: usize, w: usize)
     requires { out + w ≤ length bits.old }
     ensures { Puts bits.old bits.new out w (λ j. literal) }
 {
-    let mut i = 0;
-    while i < w {
-        bits[out + i] = literal;
-        i += 1;
-    }
+    bits[out..out + w].fill(literal);
 }
