@@ -1,6 +1,5 @@
--- Numbers of 192 bits in three words: sums, products, shifts, tests.
+-- Numbers of 192 bits in three words: sums, products, shifts.
 pub mod Words
 pub mod Digits
 pub mod Shifts
-pub mod Tests
 pub mod Products

@@ -10,12 +10,12 @@ use word::{add_carry, funnel, power, product, sub_borrow};
 
 pub mod word;
 
-// A number, the lowest word first.
-#[derive(Clone, Copy)]
+// A number. Its highest word comes first, so that the derived order is that of the numbers.
+#[derive(Clone, Copy, PartialEq, Eq, PartialOrd, Ord)]
 pub struct Wide {
-    pub low: u64,
-    pub high: u64,
     pub top: u64,
+    pub high: u64,
+    pub low: u64,
 }
 
 // A word of a sum or a difference, and what goes over to the next.
@@ -203,22 +203,18 @@ pub fn xor(a: Wide, b: Wide) -> Wide
     }
 }
 
+#[tactic(auto, using(std::proofs::lemmas::Bool::Decides::nat_tests), unfolding(crate::specs::Number::words))]
 pub fn equal(a: Wide, b: Wide) -> bool
     ensures { result ≡ (num a == num b) }
 {
-    (a.low == b.low) & (a.high == b.high) & (a.top == b.top)
+    a == b
 }
 
+#[tactic(auto, using(std::proofs::lemmas::Bool::Decides::nat_tests), unfolding(crate::specs::Number::words))]
 pub fn less(a: Wide, b: Wide) -> bool
     ensures { result ≡ nat_lt (num a) (num b) }
 {
-    if a.top != b.top {
-        return a.top < b.top;
-    }
-    if a.high != b.high {
-        return a.high < b.high;
-    }
-    a.low < b.low
+    a < b
 }
 
 // By words from the lowest; what lies above the third is dropped.
