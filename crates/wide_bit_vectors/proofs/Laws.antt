@@ -1,11 +1,9 @@
 -- The bit-vector operations at w bits, from those at 192. Assumes nothing.
-use mathlib.Core.Bool.{Bool, true, false, ◌&&◌}
 use mathlib.Core.Path.{◌≡◌, refl, sym, ap, ◌∙◌}
 use Prim.Native.Nat.{ℕ, zero, suc, ◌+◌, ◌-◌, ◌*◌, ◌/◌, ◌%◌, ◌^◌, ◌≤◌, ◌<◌}
 use native.Mathlib.Nat.{mod-lt, mod-eq_of_lt, div-eq_of_lt, lt_of_lt_of_le}
 use native.Mathlib.Omega.{arith}
-use borrow.Author.Tests.{le-ltb, eqb-true, eqb-false, ne_eqb}
-use lib.Dec.{ltb, eqb}
+use borrow.Author.Tests.{ne_eqb}
 use lib.Pow.{pow_pos, pow-add, pow_mono, mod-mod-pow, not_mod, high_ones}
 use Rattle.terms.specs.Value.{bvadd, bvneg, bvsub, bvmul, bvshl, bvlshr, bvashr, bvnot, bvsext, msb}
 use Rattle.wide.specs.declared.Wide.{Wide}
@@ -108,18 +106,6 @@ unfolding msb
 msb-is w s v e = low_bit v ∙ ap (λ (t : ℕ). t % 2) e
 
 -- a number below w is one word
-pub below-is : (a : Wide) (w : ℕ) → w < base → ((eqb a.top 0 && eqb a.high 0) && ltb a.low w) ≡ ltb (num a) w
-unfolding words
-below-is a w h = go (eqb a.top 0) (eqb a.high 0) refl refl
-  where
-    big : (x y : ℕ) → 0 < y → w ≤ x + base * y
-    big x y p = omega arith
-
-    go : (s t : Bool) → eqb a.top 0 ≡ s → eqb a.high 0 ≡ t → ((s && t) && ltb a.low w) ≡ ltb (a.low + base * (a.high + base * a.top)) w
-    go true true d e = rw (eqb-true a.top 0 d, eqb-true a.high 0 e) (ap (λ (t : ℕ). ltb t w) (omega arith))
-    go true false d e = sym (le-ltb _ w (big a.low (a.high + base * a.top) (omega (arith, eqb-false a.high 0 e))))
-    go false t d e = sym (le-ltb _ w (big a.low (a.high + base * a.top) (omega (arith, eqb-false a.top 0 d))))
-
 one_word : (x y w : ℕ) → w ≤ 192 → x + base * y < w → x ≡ x + base * y
 one_word x y w h l = omega arith
 

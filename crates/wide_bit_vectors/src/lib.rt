@@ -30,10 +30,16 @@ pub fn bv_mul(a: Wide, b: Wide, w: u64) -> Wide
 }
 
 // Whether a number is one word and below w.
+#[tactic(auto, using(std::proofs::lemmas::Bool::Decides::nat_tests), unfolding(wide::specs::Number::words))]
 fn below(a: Wide, w: u64) -> bool
     ensures { result ≡ ltb (num a) w }
 {
-    (a.top == 0) & (a.high == 0) & (a.low < w)
+    let limit = Wide {
+        top: 0,
+        high: 0,
+        low: w,
+    };
+    a < limit
 }
 
 pub fn bv_shl(a: Wide, t: Wide, w: u64) -> Wide
