@@ -7,6 +7,7 @@ ghost use Rattle.trees.specs.Arith.{absolute_difference_lane};
 ghost use Rattle.trees.specs.Trees.{difference_at, absolute_difference_lanes};
 ghost use Rattle.lower.specs.Builds.{Builds2, Lowers, read, read_if, Below};
 
+use lower::family::{Lanes, concat_each};
 use lower_kinds::operators::less_op;
 use neon::Lane;
 use pool::{Built, Node};
@@ -33,10 +34,9 @@ fn absolute_difference_lane(
     pool_nodes::ite(pool, down.count, less.node, up.node, down.node)
 }
 
-// Lane `index` of the difference, added to the old destination's if `accumulate` asks it.
-fn difference_at(
-    pool: &mut [u64],
-    count: usize,
+// The differences of `first` and `second`, added to the old destination's lanes if `accumulate` asks it.
+#[derive(Clone, Copy)]
+struct Differences {
     signed: bool,
     accumulate: bool,
     first: Node,
@@ -44,31 +44,58 @@ fn difference_at(
     d: Node,
     lane_bits: u64,
     lanes: u64,
-    index: Lane,
-) -> Built
-    requires room { Room pool.old count 8 }
-    requires first_lt_count { (first.0 < count) × (second.0 < count) × Below (read_if accumulate d 0) count }
-    requires le_lane_bits { (1 ≤ lane_bits) × (lane_bits ≤ 64) × (index.0 < lanes) × (lane_bits * lanes ≤ 128) }
-    ensures { Lowers pool.old count pool.new result 8 lane_bits (read_if accumulate d (lane_bits * lanes))
-        (read first (lane_bits * lanes)) (read second (lane_bits * lanes)) (λ d a b. difference_at signed accumulate lane_bits d a b index.0) [] }
-{
-    let a = lower_simd::extract_lane(pool, count, first, lane_bits, index);
-    let b = lower_simd::extract_lane(pool, a.count, second, lane_bits, index);
-    let difference = absolute_difference_lane(pool, b.count, signed, a.node, b.node, lane_bits);
-    if accumulate {
-        let previous = lower_simd::extract_lane(pool, difference.count, d, lane_bits, index);
-        return pool_nodes::bv(
-            pool,
-            previous.count,
-            BinOp::Add,
-            previous.node,
-            difference.node,
-        );
+    ghost fits: { (1 ≤ lane_bits) × (lane_bits ≤ 64) × (lane_bits * lanes ≤ 128) },
+}
+
+impl Lanes for Differences {
+    ghost plan = { λ s. record {
+      lanes = s.lanes;
+      bits = s.lane_bits;
+      nodes = 8;
+      d = read_if s.accumulate s.d (s.lane_bits * s.lanes);
+      first = read s.first (s.lane_bits * s.lanes);
+      second = read s.second (s.lane_bits * s.lanes);
+      tree = λ d a b. difference_at s.signed s.accumulate s.lane_bits d a b;
+      ins = [];
+    } };
+
+    fn lanes(&self) -> u64 {
+        self.lanes
     }
-    difference
+
+    fn make(&self, pool: &mut [u64], count: usize, index: Lane) -> Built {
+        let a = lower_simd::extract_lane(pool, count, self.first, self.lane_bits, index);
+        let b = lower_simd::extract_lane(pool, a.count, self.second, self.lane_bits, index);
+        let difference = absolute_difference_lane(
+            pool,
+            b.count,
+            self.signed,
+            a.node,
+            b.node,
+            self.lane_bits,
+        );
+        if self.accumulate {
+            let previous = lower_simd::extract_lane(
+                pool,
+                difference.count,
+                self.d,
+                self.lane_bits,
+                index,
+            );
+            return pool_nodes::bv(
+                pool,
+                previous.count,
+                BinOp::Add,
+                previous.node,
+                difference.node,
+            );
+        }
+        difference
+    }
 }
 
 // SABD and UABD, SABA and UABA.
+#[tactic(auto, unfolding(trees::specs::Arith::absolute_difference_lanes))]
 pub fn absolute_difference_lanes(
     pool: &mut [u64],
     count: usize,
@@ -86,9 +113,7 @@ pub fn absolute_difference_lanes(
     ensures { Lowers pool.old count pool.new result (9 * lanes) (lane_bits * lanes) (read_if accumulate d (lane_bits * lanes))
         (read first (lane_bits * lanes)) (read second (lane_bits * lanes)) (λ d a b. absolute_difference_lanes signed accumulate a b d lane_bits lanes) [] }
 {
-    let mut acc = difference_at(
-        pool,
-        count,
+    let differences = Differences {
         signed,
         accumulate,
         first,
@@ -96,24 +121,6 @@ pub fn absolute_difference_lanes(
         d,
         lane_bits,
         lanes,
-        Lane::first(),
-    );
-    let mut i = 1;
-    while i < lanes {
-        let lane = difference_at(
-            pool,
-            acc.count,
-            signed,
-            accumulate,
-            first,
-            second,
-            d,
-            lane_bits,
-            lanes,
-            Lane(i),
-        );
-        acc = lower_simd::concat_lanes(pool, lane.count, lane.node, acc.node);
-        i += 1;
-    }
-    acc
+    };
+    concat_each(pool, count, &differences)
 }
