@@ -55,12 +55,6 @@ pub kept-lt : (left : Bool) (n shift : ℕ) → shift ≤ n → kept_bits left n
 kept-lt true n shift h = omega (arith, pow_mono h, pow_pos shift)
 kept-lt false n shift h = omega (arith, pow_pos n, pow_pos (n - shift))
 
-pub kept-left : {left : Bool} (n shift : ℕ) {kept : ℕ} → left ≡ true → kept ≡ 2 ^ shift - 1 → kept ≡ kept_bits left n shift
-kept-left n shift q e = rw q e
-
-pub kept-right : {left : Bool} (n shift : ℕ) {whole low : ℕ} → left ≡ false → whole ≡ 2 ^ n - 1 → low ≡ 2 ^ (n - shift) - 1 → whole - low ≡ kept_bits left n shift
-kept-right n shift q e f = rw q (omega (arith, e, f, pow_pos (n - shift)))
-
 pub low-le : (n shift : ℕ) {whole low : ℕ} → whole ≡ 2 ^ n - 1 → low ≡ 2 ^ (n - shift) - 1 → low ≤ whole
 low-le n shift e f = omega (arith, e, f, pow_mono {i = n - shift} {j = n} (omega arith))
 

@@ -3,12 +3,12 @@
 
 ghost use Rattle.std.specs.Prelude.{◌≡◌, [], ◌∷◌, ◌+◌, ◌*◌, ◌-◌, ◌≤◌, ◌<◌, ◌^◌};
 ghost use Rattle.pool.specs.Growth.{Room};
-ghost use Rattle.trees.specs.Simd.{concat_lanes};
 ghost use Rattle.trees.specs.Lower.{unsigned_max};
 ghost use Rattle.trees.specs.Arith.{kept_bits};
 ghost use Rattle.trees.specs.Trees.{insert_at, shift_insert_lanes};
 ghost use Rattle.lower.specs.Builds.{Lowers, read, unread};
 
+use lower::family::{Lanes, concat_each};
 use lower_kinds::operators::insert_op;
 use neon::Lane;
 use pool::{Built, Node};
@@ -39,10 +39,9 @@ fn kept_bits(left: bool, lane_bits: u64, shift: u64) -> u64
     unsigned_max(lane_bits) - low_bits(lane_bits - shift)
 }
 
-// Lane `index` of an insert, over the node of its amount.
-fn insert_at(
-    pool: &mut [u64],
-    count: usize,
+// The inserts of `first` into the old destination `d`, over the node of their amount. `kept` is a mask of the bits of `d` that stay.
+#[derive(Clone, Copy)]
+struct Inserts {
     left: bool,
     kept: u64,
     amount: Node,
@@ -50,70 +49,34 @@ fn insert_at(
     d: Node,
     lane_bits: u64,
     lanes: u64,
-    index: Lane,
-) -> Built
-    requires room { Room pool.old count 6 }
-    requires amount_lt_count { (amount.0 < count) × (first.0 < count) × (d.0 < count) × (kept < 2 ^ lane_bits) }
-    requires le_lane_bits { (1 ≤ lane_bits) × (lane_bits ≤ 64) × (index.0 < lanes) × (lane_bits * lanes ≤ 128) }
-    ensures { Lowers pool.old count pool.new result 6 lane_bits (read d (lane_bits * lanes)) (read first (lane_bits * lanes))
-        (read amount lane_bits) (λ d a s. insert_at left kept lane_bits d a s index.0) (amount.0 ∷ []) }
-{
-    let a = lower_simd::extract_lane(pool, count, first, lane_bits, index);
-    let previous = lower_simd::extract_lane(pool, a.count, d, lane_bits, index);
-    let op = insert_op(left);
-    let shifted = pool_nodes::bv(pool, previous.count, op, a.node, amount);
-    let mask = pool_nodes::konst(pool, shifted.count, kept, 0, lane_bits);
-    let rest = pool_nodes::bv(pool, mask.count, BinOp::And, previous.node, mask.node);
-    pool_nodes::bv(pool, rest.count, BinOp::Or, shifted.node, rest.node)
+    ghost fits: { (1 ≤ lane_bits) × (lane_bits ≤ 64) × (lane_bits * lanes ≤ 128) × (kept < 2 ^ lane_bits) },
 }
 
-fn insert_lanes(
-    pool: &mut [u64],
-    count: usize,
-    left: bool,
-    kept: u64,
-    amount: Node,
-    first: Node,
-    d: Node,
-    lane_bits: u64,
-    lanes: u64,
-) -> Built
-    requires room { Room pool.old count (7 * lanes) }
-    requires amount_lt_count { (amount.0 < count) × (first.0 < count) × (d.0 < count) × (kept < 2 ^ lane_bits) }
-    requires le_lane_bits { (1 ≤ lane_bits) × (lane_bits ≤ 64) × (1 ≤ lanes) × (lane_bits * lanes ≤ 128) }
-    ensures { Lowers pool.old count pool.new result (7 * lanes) (lane_bits * lanes) (read d (lane_bits * lanes))
-        (read first (lane_bits * lanes)) (read amount lane_bits) (λ d a s. concat_lanes (lanes - 1) (insert_at left kept lane_bits d a s)) (amount.0 ∷ []) }
-{
-    let mut acc = insert_at(
-        pool,
-        count,
-        left,
-        kept,
-        amount,
-        first,
-        d,
-        lane_bits,
-        lanes,
-        Lane::first(),
-    );
-    let mut i = 1;
-    while i < lanes {
-        let lane = insert_at(
-            pool,
-            acc.count,
-            left,
-            kept,
-            amount,
-            first,
-            d,
-            lane_bits,
-            lanes,
-            Lane(i),
-        );
-        acc = lower_simd::concat_lanes(pool, lane.count, lane.node, acc.node);
-        i += 1;
+impl Lanes for Inserts {
+    ghost plan = { λ s. record {
+      lanes = s.lanes;
+      bits = s.lane_bits;
+      nodes = 6;
+      d = read s.d (s.lane_bits * s.lanes);
+      first = read s.first (s.lane_bits * s.lanes);
+      second = read s.amount s.lane_bits;
+      tree = λ d a amount. insert_at s.left s.kept s.lane_bits d a amount;
+      ins = s.amount.0 ∷ [];
+    } };
+
+    fn lanes(&self) -> u64 {
+        self.lanes
     }
-    acc
+
+    fn make(&self, pool: &mut [u64], count: usize, index: Lane) -> Built {
+        let a = lower_simd::extract_lane(pool, count, self.first, self.lane_bits, index);
+        let previous = lower_simd::extract_lane(pool, a.count, self.d, self.lane_bits, index);
+        let op = insert_op(self.left);
+        let shifted = pool_nodes::bv(pool, previous.count, op, a.node, self.amount);
+        let mask = pool_nodes::konst(pool, shifted.count, self.kept, 0, self.lane_bits);
+        let rest = pool_nodes::bv(pool, mask.count, BinOp::And, previous.node, mask.node);
+        pool_nodes::bv(pool, rest.count, BinOp::Or, shifted.node, rest.node)
+    }
 }
 
 // SLI and SRI: the shifted source over the bits of the old destination that the shift leaves.
@@ -135,15 +98,14 @@ pub fn shift_insert_lanes(
 {
     let amount = pool_nodes::konst(pool, count, shift, 0, lane_bits);
     let kept = kept_bits(left, lane_bits, shift);
-    insert_lanes(
-        pool,
-        amount.count,
+    let inserts = Inserts {
         left,
         kept,
-        amount.node,
+        amount: amount.node,
         first,
         d,
         lane_bits,
         lanes,
-    )
+    };
+    concat_each(pool, amount.count, &inserts)
 }
