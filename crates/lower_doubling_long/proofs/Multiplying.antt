@@ -10,8 +10,8 @@ use Rattle.pool.specs.declared.Node.{Node}
 use Rattle.pool.specs.declared.Built.{Built}
 use Rattle.pool.proofs.Steps.{start, step, finish, stay, given, spare}
 use Rattle.trees.specs.declared.SaturateTo.TheVariants.{Signed}
-use Rattle.trees.specs.declared.Combine.{Combine}
-use Rattle.trees.specs.declared.Combine.TheVariants.{Nothing, With}
+use Rattle.std.specs.declared.option.Option.{Option}
+use Rattle.std.specs.declared.option.Option.TheVariants.{None, Some}
 use Rattle.trees.specs.Simd.{concat_lanes}
 use Rattle.trees.specs.Arith.{joined, twice, source_lane}
 use Rattle.trees.specs.Trees.{clamp, doubling_product, doubling_long_lanes}
@@ -32,10 +32,10 @@ pub product-made : {w0 w1 w2 : List ℕ} {k : ℕ} {r1 r2 : Built} {a b : Node} 
 unfolding Arith.doubling_product
 product-made n e1 e2 = then2 e1 e2
 
-pub combined-with : {w0 w1 w2 w3 : List ℕ} {k : ℕ} {r1 r2 r3 : Built} {product d : Node} {op : BinOp} {combine : Combine} {n lanes j : ℕ}
+pub combined-with : {w0 w1 w2 w3 : List ℕ} {k : ℕ} {r1 r2 r3 : Built} {product d : Node} {op : BinOp} {combine : Option BinOp} {n lanes j : ℕ}
     → 2 ≤ n
     → j < lanes
-    → combine ≡ With op
+    → combine ≡ Some op
     → MadeLane w0 k w1 r1 d n j
     → Builds2 w1 r1.count w2 r2 3 r1.node n product n (n + 1) (λ d p. joined op d true p true (n + 1)) (r1.node.0 ∷ product.0 ∷ [])
     → Builds1 w2 r2.count w3 r3 7 r2.node (n + 1) n (λ v. clamp v (n + 1) n Signed) (r2.node.0 ∷ [])
@@ -52,7 +52,7 @@ combined-with {product = product} {d = d} {n = n} {lanes = lanes} {j = j} l h q 
           finish (step s2 (0 ∷ []) (e3.made s2.valid s2.env.0)) tt;
     })
 
-pub combined-nothing : {ws : List ℕ} {k : ℕ} {r : Built} {product d : Node} {combine : Combine} (n lanes j : ℕ) → combine ≡ Nothing → product.0 < k → r.node.0 ≡ product.0 → r.count ≡ k
+pub combined-nothing : {ws : List ℕ} {k : ℕ} {r : Built} {product d : Node} {combine : Option BinOp} (n lanes j : ℕ) → combine ≡ None → product.0 < k → r.node.0 ≡ product.0 → r.count ≡ k
     → Lowers ws k ws r 11 n (read_if (accumulates combine) d (n * lanes)) (read product n) unread (λ d p b. combined_at combine n d p j) (product.0 ∷ [])
 combined-nothing n lanes j q b e f = rw q (record { sized = omega (arith, b, e, f); made = λ v x y z. rw (e, f) (stay v (y refl)) })
 
@@ -84,7 +84,7 @@ factor-most false n lanes h = omega (arith, halved n lanes)
 pub lanes-most : (n lanes : ℕ) → 2 ≤ n → n * lanes ≤ 128 → lanes ≤ 128
 lanes-most n lanes l h = omega (arith, mul-le-mul_left lanes l)
 
-doubled-one : {w0 w1 w2 w3 w4 : List ℕ} {k : ℕ} {r1 r2 r3 r4 : Built} {first value d : Node} {n lanes j lane : ℕ} (combine : Combine) (upper : Bool)
+doubled-one : {w0 w1 w2 w3 w4 : List ℕ} {k : ℕ} {r1 r2 r3 r4 : Built} {first value d : Node} {n lanes j lane : ℕ} (combine : Option BinOp) (upper : Bool)
     → j < lanes
     → lane ≡ source_lane upper lanes j
     → MadeLane w0 k w1 r1 first (n / 2) lane
@@ -107,7 +107,7 @@ doubled-one {first = first} {value = value} {n = n} {lanes = lanes} {j = j} {lan
           finish (step s3 (0 ∷ []) (e4.made {tb = tb} s3.valid (source-kept s3.grown x) (λ u. s3.env.0) (λ u. absurd (false≢true u)))) tt;
     })
 
-doubled-per-lane : {w0 w1 w2 w3 w4 : List ℕ} {k : ℕ} {r1 r2 r3 r4 : Built} {first vector d : Node} {n lanes j lane : ℕ} (combine : Combine) (upper : Bool)
+doubled-per-lane : {w0 w1 w2 w3 w4 : List ℕ} {k : ℕ} {r1 r2 r3 r4 : Built} {first vector d : Node} {n lanes j lane : ℕ} (combine : Option BinOp) (upper : Bool)
     → j < lanes
     → lane ≡ source_lane upper lanes j
     → MadeLane w0 k w1 r1 first (n / 2) lane
@@ -130,7 +130,7 @@ doubled-per-lane {first = first} {vector = vector} {n = n} {lanes = lanes} {j = 
           finish (step s3 (0 ∷ []) (e4.made {tb = tb} s3.valid (source-kept s3.grown x) (λ u. s3.env.0) (λ u. absurd (false≢true u)))) tt;
     })
 
-pub doubled-lane : {w0 w1 w2 w3 w4 : List ℕ} {k : ℕ} {r1 r2 r3 r4 : Built} {first d : Node} {n lanes j lane : ℕ} (combine : Combine) (upper : Bool) (second : Element)
+pub doubled-lane : {w0 w1 w2 w3 w4 : List ℕ} {k : ℕ} {r1 r2 r3 r4 : Built} {first d : Node} {n lanes j lane : ℕ} (combine : Option BinOp) (upper : Bool) (second : Element)
     → j < lanes
     → lane ≡ source_lane upper lanes j
     → MadeLane w0 k w1 r1 first (n / 2) lane
@@ -142,7 +142,7 @@ pub doubled-lane : {w0 w1 w2 w3 w4 : List ℕ} {k : ℕ} {r1 r2 r3 r4 : Built} {
 doubled-lane combine upper (One value) h e e1 e2 e3 e4 = doubled-one combine upper h e e1 e2 e3 e4
 doubled-lane combine upper (PerLane vector) h e e1 e2 e3 e4 = doubled-per-lane combine upper h e e1 e2 e3 e4
 
-pub by-element : {w0 w1 w2 : List ℕ} {k : ℕ} {r1 r2 : Built} {first second d : Node} (n lanes i : ℕ) (combine : Combine) (upper by_element : Bool)
+pub by-element : {w0 w1 w2 : List ℕ} {k : ℕ} {r1 r2 : Built} {first second d : Node} (n lanes i : ℕ) (combine : Option BinOp) (upper by_element : Bool)
     → n / 2 * i + n / 2 ≤ 128
     → by_element ≡ true
     → MadeLane w0 k w1 r1 second (n / 2) i
@@ -161,7 +161,7 @@ by-element {second = second} n lanes i combine upper by_element h q e1 e2 =
           finish (step s1 (0 ∷ []) (e2.made s1.valid (source-kept s1.grown x) (source-kept s1.grown y) (λ u. s1.env.0))) tt;
     })
 
-pub by-lane : {w0 w1 : List ℕ} {k : ℕ} {r : Built} {first second d : Node} (n lanes i : ℕ) (combine : Combine) (upper by_element : Bool) → by_element ≡ false
+pub by-lane : {w0 w1 : List ℕ} {k : ℕ} {r : Built} {first second d : Node} (n lanes i : ℕ) (combine : Option BinOp) (upper by_element : Bool) → by_element ≡ false
     → Lowers w0 k w1 r (26 * lanes) (n * lanes) (read_if (accumulates combine) d (n * lanes)) (read first (factor_bits upper n lanes))
     (element_source (PerLane second) (n / 2) (factor_bits upper n lanes)) (λ d a b. concat_lanes (lanes - 1) (doubled_at combine (PerLane second) upper n lanes d a b)) (element_nodes (PerLane second))
     → Lowers w0 k w1 r (26 * lanes + 1) (n * lanes) (read_if (accumulates combine) d (n * lanes)) (read first (factor_bits upper n lanes))

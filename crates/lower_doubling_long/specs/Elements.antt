@@ -5,16 +5,17 @@ use Rattle.pool.specs.declared.Built.{Built}
 use Rattle.pool.specs.Rules.{Valid}
 use Rattle.pool.specs.Growth.{NodeIs}
 use Rattle.pool_nodes.specs.Builders.{Takes, Makes}
-use Rattle.trees.specs.declared.Combine.{Combine}
-use Rattle.trees.specs.declared.Combine.TheVariants.{Nothing, With}
+use Rattle.std.specs.declared.option.Option.{Option}
+use Rattle.terms.specs.declared.BinOp.{BinOp}
+use Rattle.std.specs.declared.option.Option.TheVariants.{None, Some}
 use Rattle.trees.specs.Trees.{extract_lane}
 use Rattle.lower.specs.Builds.{Source, with_lower}
 use Rattle.lower_doubling_long.specs.declared.Element.{Element}
 use Rattle.lower_doubling_long.specs.declared.Element.TheVariants.{One, PerLane}
 
-abbrev pub accumulates : Combine → Bool
-accumulates Nothing = false
-accumulates (With op) = true
+abbrev pub accumulates : Option BinOp → Bool
+accumulates None = false
+accumulates (Some op) = true
 
 abbrev pub element_node : Element → ℕ
 element_node (One n) = n.0

@@ -14,7 +14,8 @@ use lower_exact::join;
 use lower_exact::product::double;
 use neon::Lane;
 use pool::{Built, Node};
-use trees::{Combine, SaturateTo};
+use trees::SaturateTo;
+use terms::BinOp;
 
 // A second source: one element for every lane, or a vector whose lanes are read one by one.
 #[derive(Clone, Copy)]
@@ -47,7 +48,7 @@ fn doubling_product(pool: &mut [u64], count: usize, a: Node, b: Node, lane_bits:
 fn combine_at(
     pool: &mut [u64],
     count: usize,
-    combine: Combine,
+    combine: Option<BinOp>,
     product: Node,
     d: Node,
     lane_bits: u64,
@@ -61,11 +62,11 @@ fn combine_at(
         (read product lane_bits) unread (λ d p b. combined_at combine lane_bits d p index.0) (product.0 ∷ []) }
 {
     match combine {
-        Combine::Nothing => Built {
+        None => Built {
             node: product,
             count,
         },
-        Combine::With(op) => {
+        Some(op) => {
             let wide = lane_bits + 1;
             let prior = lower_simd::extract_lane(pool, count, d, lane_bits, index);
             let sum = join(
@@ -118,7 +119,7 @@ fn second_lane(pool: &mut [u64], count: usize, second: Element, bits: u64, index
 fn doubling_at(
     pool: &mut [u64],
     count: usize,
-    combine: Combine,
+    combine: Option<BinOp>,
     upper: bool,
     first: Node,
     second: Element,
@@ -156,7 +157,7 @@ fn doubling_at(
 fn doubled_lanes(
     pool: &mut [u64],
     count: usize,
-    combine: Combine,
+    combine: Option<BinOp>,
     upper: bool,
     first: Node,
     second: Element,
@@ -207,7 +208,7 @@ fn doubled_lanes(
 pub fn doubling_long_lanes(
     pool: &mut [u64],
     count: usize,
-    combine: Combine,
+    combine: Option<BinOp>,
     upper: bool,
     by_element: bool,
     element: Lane,

@@ -15,7 +15,7 @@ use Rattle.pool.specs.declared.Built.{Built}
 use Rattle.pool_nodes.specs.Builders.{MadeConst, MadeBv, MadeCompare, MadeIte, MadeSignExtend}
 use Rattle.pool.proofs.Steps.{start, step, finish, stay, given}
 use Rattle.trees.specs.declared.SaturateTo.{SaturateTo}
-use Rattle.trees.specs.declared.Saturate.{Saturate}
+use Rattle.std.specs.declared.option.Option.{Option}
 use Rattle.trees.specs.declared.SaturatingKind.{SaturatingKind}
 use Rattle.trees.specs.declared.SaturatingKind.TheVariants.{AddSub, Halving, Narrow, ShiftNarrow, DoublingMultiplyHigh, Unary}
 use Rattle.trees.specs.Arith.{plus_if, negated, kind_bits, joined, twice, shifted, scaled, exact_lane, exact_bits}
@@ -146,7 +146,7 @@ extended : {w0 w1 : List ℕ} {k : ℕ} {r : Built} {a : Node} {n wide : ℕ} {s
     → Builds1 w0 k w1 r 1 a n wide (λ a. Rattle.trees.specs.Lower.extend a wide signed) (a.0 ∷ [])
 extended l h m e = record { sized = e.sized; made = λ v x. e.made v l h m x }
 
-pub narrow : {w0 w1 w2 : List ℕ} {k : ℕ} {r1 r2 : Built} {a : Node} {half : ℕ} (shift n : ℕ) (signed rounding : Bool) (to : Saturate)
+pub narrow : {w0 w1 w2 : List ℕ} {k : ℕ} {r1 r2 : Built} {a : Node} {half : ℕ} (shift n : ℕ) (signed rounding : Bool) (to : Option SaturateTo)
     → 1 ≤ n
     → n ≤ 32
     → half ≡ 2 ^ (shift - 1)
@@ -238,7 +238,7 @@ module _ {w0 w1 : List ℕ} {k : ℕ} {r : Built} {kind : SaturatingKind} {a b :
       → Builds2 w0 k w1 r 7 a n b n (n + 1) (λ a b. exact_lane (Halving rounding) a b n signed) (a.0 ∷ b.0 ∷ []) → Exact w0 k w1 r kind a b n signed
   is-halving q e = rw q (record { sized = omega (arith, e.sized); made = λ v x y. e.made v x (y refl) })
 
-  pub is-shift-narrow : {shift : ℕ} {rounding : Bool} {to : Saturate} → kind ≡ ShiftNarrow shift rounding to
+  pub is-shift-narrow : {shift : ℕ} {rounding : Bool} {to : Option SaturateTo} → kind ≡ ShiftNarrow shift rounding to
       → Builds1 w0 k w1 r 5 a (n * 2) (n * 2 + 1) (λ a. exact_lane (ShiftNarrow shift rounding to) a a n signed) (a.0 ∷ []) → Exact w0 k w1 r kind a b n signed
   is-shift-narrow q e = rw q (record { sized = omega (arith, e.sized); made = λ v x y. e.made v x })
 

@@ -11,7 +11,7 @@ ghost use Rattle.lower_kinds.specs.Sources.{uses_second, KindIn};
 use lower_kinds::operators::shift_op;
 use pool::{Built, Node};
 use terms::BinOp;
-use trees::{Saturate, SaturateTo, SaturatingKind};
+use trees::{SaturateTo, SaturatingKind};
 use wide::word::power;
 
 pub mod opposite;
@@ -80,20 +80,20 @@ pub fn shift_up(
 }
 
 // The range that a kind clamps its exact value into.
-pub fn kind_to(kind: SaturatingKind) -> Saturate
+pub fn kind_to(kind: SaturatingKind) -> Option<SaturateTo>
     ensures { result ≡ kind_to kind }
 {
     match kind {
-        SaturatingKind::AddSub { op: _, to } => Saturate::Into(to),
-        SaturatingKind::Halving { rounding: _ } => Saturate::Never,
-        SaturatingKind::Narrow { to } => Saturate::Into(to),
+        SaturatingKind::AddSub { op: _, to } => Some(to),
+        SaturatingKind::Halving { rounding: _ } => None,
+        SaturatingKind::Narrow { to } => Some(to),
         SaturatingKind::ShiftNarrow {
             shift: _,
             rounding: _,
             to,
         } => to,
-        SaturatingKind::Unary { negate: _ } => Saturate::Into(SaturateTo::Signed),
-        SaturatingKind::DoublingMultiplyHigh { rounding: _ } => Saturate::Into(SaturateTo::Signed),
+        SaturatingKind::Unary { negate: _ } => Some(SaturateTo::Signed),
+        SaturatingKind::DoublingMultiplyHigh { rounding: _ } => Some(SaturateTo::Signed),
     }
 }
 
@@ -152,7 +152,7 @@ fn exact_narrow(
     count: usize,
     shift: u64,
     rounding: bool,
-    to: Saturate,
+    to: Option<SaturateTo>,
     a: Node,
     lane_bits: u64,
     signed: bool,

@@ -6,7 +6,7 @@ use native.Mathlib.Omega.{arith}
 use Rattle.neon.specs.Op.{Op, Arrangement, bits_of_lane, full, bits_if, view}
 use Rattle.neon.specs.Form.{Form, Same, Long, Element, form, has_form, least, most, m_in, d_in, is_element, is_narrow, first_full, second_full, made_bits}
 use Rattle.neon.proofs.Geometry.{sized, filled, by-half, second_in, bits-le}
-use Rattle.trees.specs.declared.Combine.{Combine}
+use Rattle.std.specs.declared.option.Option.TheVariants.{None, Some}
 use Rattle.trees.specs.declared.NeonOp.{NeonOp}
 use Rattle.trees.specs.Neon.{neon_op}
 use Rattle.lower.specs.Builds.{with_lower}
@@ -97,9 +97,9 @@ row_of v i (Family.shift-narrow h l m) =
     record { second = refl; old = refl; wide = narrow_wide v; old-wide = narrow-old v; first-wide = narrow-source v; second-wide = never; in_row = ((h, l, m), narrow-le v, half_le v) }
 row_of v i Family.unary = record { second = refl; old = refl; wide = same v; old-wide = never; first-wide = same v; second-wide = never; in_row = ((sized v).most, same-le v, never) }
 row_of v i (Family.multiply-high h) = record { second = refl; old = refl; wide = same v; old-wide = never; first-wide = same v; second-wide = λ e. same v; in_row = (h, same-le v, never) }
-row_of v i (Family.long Combine.Nothing {u} {e} h m) =
+row_of v i (Family.long None {u} {e} h m) =
     record { second = refl; old = refl; wide = same v; old-wide = never; first-wide = long-first v u h; second-wide = λ t. long-second v u (is_element e) h; in_row = element v i m }
-row_of v i (Family.long (Combine.With op) {u} {e} h m) =
+row_of v i (Family.long (Some op) {u} {e} h m) =
     record { second = refl; old = refl; wide = same v; old-wide = λ t. same v; first-wide = long-first v u h; second-wide = λ t. long-second v u (is_element e) h; in_row = element v i m }
 row_of v i Family.mixed-sign = record { second = refl; old = refl; wide = same v; old-wide = λ e. same v; first-wide = same v; second-wide = never; in_row = tt }
 row_of v i (Family.difference true) = record { second = refl; old = refl; wide = same v; old-wide = λ e. same v; first-wide = same v; second-wide = λ e. same v; in_row = tt }

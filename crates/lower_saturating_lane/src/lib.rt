@@ -12,14 +12,14 @@ ghost use Rattle.lower_saturating_lane.specs.Narrow.{narrowed_plain};
 
 use lower_exact::{exact_bits, exact_lane, kind_to};
 use pool::{Bit, Built, Node};
-use trees::{Saturate, SaturatingKind};
+use trees::{SaturateTo, SaturatingKind};
 
 // A halved sum needs no clamp: it always fits. SHRN and RSHRN drop the bits that do not fit: with the shift bounded by the lane, each that
 // stays is one of the source.
 fn narrowed(
     pool: &mut [u64],
     count: usize,
-    to: Saturate,
+    to: Option<SaturateTo>,
     value: Node,
     wide: u64,
     lane_bits: u64,
@@ -30,8 +30,8 @@ fn narrowed(
         (λ v. narrowed_plain v wide lane_bits to) (value.0 ∷ []) }
 {
     match to {
-        Saturate::Never => pool_nodes::extract(pool, count, value, Bit(lane_bits - 1), Bit(0)),
-        Saturate::Into(target) => lower::arith::clamp(pool, count, value, wide, lane_bits, target),
+        None => pool_nodes::extract(pool, count, value, Bit(lane_bits - 1), Bit(0)),
+        Some(target) => lower::arith::clamp(pool, count, value, wide, lane_bits, target),
     }
 }
 

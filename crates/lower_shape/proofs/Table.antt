@@ -11,23 +11,23 @@ use Rattle.neon.specs.Form.{Immediate, Class, Reads, Form, Same, Narrow, Long, N
 use Rattle.neon.proofs.Geometry.{sized}
 use Rattle.terms.specs.declared.BinOp.{BinOp}
 use Rattle.trees.specs.declared.BitwiseUnary.{BitwiseUnary}
-use Rattle.trees.specs.declared.Combine.{Combine}
+use Rattle.std.specs.declared.option.Option.{Option}
+use Rattle.std.specs.declared.option.Option.TheVariants.{None, Some}
 use Rattle.trees.specs.declared.NeonOp.{NeonOp}
-use Rattle.trees.specs.declared.Saturate.{Saturate}
 use Rattle.trees.specs.declared.SaturateTo.{SaturateTo}
 use Rattle.trees.specs.declared.SaturatingKind.{SaturatingKind}
 use Rattle.trees.specs.declared.ShiftKind.{ShiftKind}
 use Rattle.trees.specs.Neon.{neon_op}
 
 -- d is read if the product is combined with it
-abbrev pub long_reads : Combine → Reads
-long_reads Combine.Nothing = NM
-long_reads (Combine.With op) = DNM
+abbrev pub long_reads : Option BinOp → Reads
+long_reads None = NM
+long_reads (Some op) = DNM
 
 -- A family at lanes of an arrangement v and an immediate i, with the form of its operations. Of the form's class only the bound on the
 -- lane's bits is kept, and that `long` needs a full view.
 pub data Family (v : Arrangement) (i : ℕ) : NeonOp → Form → Type 0 where
-  shift-left : {a : Saturate} {s : Bool} {c : Class} → i < bits_of_lane v → Family v i (NeonOp.Shift (ShiftKind.LeftImmediate i a) s) (row Same Left c N)
+  shift-left : {a : Option SaturateTo} {s : Bool} {c : Class} → i < bits_of_lane v → Family v i (NeonOp.Shift (ShiftKind.LeftImmediate i a) s) (row Same Left c N)
   shift-right : {r s : Bool} {c : Class} → 1 ≤ i → i ≤ bits_of_lane v → Family v i (NeonOp.Shift (ShiftKind.RightImmediate i r) s) (row Same Right c N)
   shift-register : {r a s : Bool} {c : Class} → Family v i (NeonOp.Shift (ShiftKind.Register r a) s) (row Same None c NM)
   insert-left : {c : Class} → i < bits_of_lane v → Family v i (NeonOp.ShiftInsert true i) (row Same Left c DN)
@@ -35,11 +35,11 @@ pub data Family (v : Arrangement) (i : ℕ) : NeonOp → Form → Type 0 where
   add-sub : {b : BinOp} {t : SaturateTo} {s : Bool} {c : Class} → Family v i (NeonOp.Saturating (SaturatingKind.AddSub b t) s false) (row Same None c NM)
   halving : {r s : Bool} {c : Class} → Family v i (NeonOp.Saturating (SaturatingKind.Halving r) s false) (row Same None c NM)
   narrow : {t : SaturateTo} {s : Bool} {c : Class} → bits_of_lane v ≤ 32 → Family v i (NeonOp.Saturating (SaturatingKind.Narrow t) s (full v)) (row Narrow None c N)
-  shift-narrow : {r : Bool} {a : Saturate} {s : Bool} {c : Class} → bits_of_lane v ≤ 32 → 1 ≤ i → i ≤ bits_of_lane v
+  shift-narrow : {r : Bool} {a : Option SaturateTo} {s : Bool} {c : Class} → bits_of_lane v ≤ 32 → 1 ≤ i → i ≤ bits_of_lane v
       → Family v i (NeonOp.Saturating (SaturatingKind.ShiftNarrow i r a) s (full v)) (row Narrow Right c N)
   unary : {g : Bool} {c : Class} → Family v i (NeonOp.Saturating (SaturatingKind.Unary g) true false) (row Same None c N)
   multiply-high : {r : Bool} {c : Class} → bits_of_lane v ≤ 32 → Family v i (NeonOp.Saturating (SaturatingKind.DoublingMultiplyHigh r) true false) (row Same None c NM)
-  long : (x : Combine) {u : Bool} {e : Immediate} {c : Class} → full v ≡ true → i ≤ 256 / bits_of_lane v - 1
+  long : (x : Option BinOp) {u : Bool} {e : Immediate} {c : Class} → full v ≡ true → i ≤ 256 / bits_of_lane v - 1
       → Family v i (NeonOp.DoublingLong x u (is_element e)) (row (Long u) e c (long_reads x))
   mixed-sign : {s : Bool} {c : Class} → Family v i (NeonOp.MixedSignAdd s) (row Same None c DN)
   difference : (accumulate : Bool) {s : Bool} {c : Class} → Family v i (NeonOp.AbsoluteDifference s accumulate) (row Same None c (cond accumulate DNM NM))

@@ -2,13 +2,12 @@
 ghost use Rattle.std.specs.Prelude.{◌≡◌, Bool, true, false, ◌⊎◌, ℕ, ◌≤◌};
 ghost use Rattle.neon.specs.Op.{op_at};
 ghost use Rattle.trees.specs.declared.NeonOp.{NeonOp};
-ghost use Rattle.trees.specs.declared.Saturate.{Saturate};
 ghost use Rattle.trees.specs.declared.ShiftKind.{ShiftKind};
 ghost use Rattle.trees.specs.declared.SaturatingKind.{SaturatingKind};
 ghost use Rattle.trees.specs.Neon.{neon_op};
 
 use terms::BinOp;
-use trees::{BitwiseUnary, Combine, NeonOp, Saturate, SaturateTo, SaturatingKind, ShiftKind};
+use trees::{BitwiseUnary, NeonOp, SaturateTo, SaturatingKind, ShiftKind};
 
 pub fn bitwise_unary_shape(operation: u64) -> NeonOp
     requires { (60 ≤ operation) × (operation ≤ 63) }
@@ -40,7 +39,7 @@ pub fn absolute_difference_shape(operation: u64) -> NeonOp
     }
 }
 
-fn left(shift: u64, saturate: Saturate, signed: bool) -> NeonOp
+fn left(shift: u64, saturate: Option<SaturateTo>, signed: bool) -> NeonOp
     ensures { result ≡ NeonOp.Shift (ShiftKind.LeftImmediate shift saturate) signed }
 {
     let kind = ShiftKind::LeftImmediate { shift, saturate };
@@ -67,10 +66,10 @@ pub fn shift_shape(operation: u64, i: u64) -> NeonOp
     ensures { (upper : Bool) → result ≡ neon_op (op_at operation) i upper }
 {
     match operation {
-        1 => left(i, Saturate::Never, false), // SHL
-        2 => left(i, Saturate::Into(SaturateTo::Signed), true), // SQSHL by an immediate
-        3 => left(i, Saturate::Into(SaturateTo::Unsigned), false), // UQSHL by an immediate
-        4 => left(i, Saturate::Into(SaturateTo::SignedToUnsigned), true), // SQSHLU
+        1 => left(i, None, false), // SHL
+        2 => left(i, Some(SaturateTo::Signed), true), // SQSHL by an immediate
+        3 => left(i, Some(SaturateTo::Unsigned), false), // UQSHL by an immediate
+        4 => left(i, Some(SaturateTo::SignedToUnsigned), true), // SQSHLU
         5 => right(i, false, true), // SSHR
         6 => right(i, false, false), // USHR
         7 => right(i, true, true), // SRSHR
@@ -162,7 +161,7 @@ fn narrow(to: SaturateTo, signed: bool, upper: bool) -> NeonOp
     saturating(SaturatingKind::Narrow { to }, signed, upper)
 }
 
-fn shift_narrow(shift: u64, rounding: bool, to: Saturate, signed: bool, upper: bool) -> NeonOp
+fn shift_narrow(shift: u64, rounding: bool, to: Option<SaturateTo>, signed: bool, upper: bool) -> NeonOp
     ensures { result ≡ NeonOp.Saturating (SaturatingKind.ShiftNarrow shift rounding to) signed upper }
 {
     let kind = SaturatingKind::ShiftNarrow {
@@ -174,9 +173,9 @@ fn shift_narrow(shift: u64, rounding: bool, to: Saturate, signed: bool, upper: b
 }
 
 fn clamped(shift: u64, rounding: bool, to: SaturateTo, signed: bool, upper: bool) -> NeonOp
-    ensures { result ≡ NeonOp.Saturating (SaturatingKind.ShiftNarrow shift rounding (Saturate.Into to)) signed upper }
+    ensures { result ≡ NeonOp.Saturating (SaturatingKind.ShiftNarrow shift rounding (Some to)) signed upper }
 {
-    shift_narrow(shift, rounding, Saturate::Into(to), signed, upper)
+    shift_narrow(shift, rounding, Some(to), signed, upper)
 }
 
 fn saturating_narrowing(operation: u64, i: u64, upper: bool) -> NeonOp
@@ -187,8 +186,8 @@ fn saturating_narrowing(operation: u64, i: u64, upper: bool) -> NeonOp
         27 => narrow(SaturateTo::Signed, true, upper), // SQXTN
         28 => narrow(SaturateTo::Unsigned, false, upper), // UQXTN
         29 => narrow(SaturateTo::SignedToUnsigned, true, upper), // SQXTUN
-        30 => shift_narrow(i, false, Saturate::Never, false, upper), // SHRN
-        31 => shift_narrow(i, true, Saturate::Never, false, upper), // RSHRN
+        30 => shift_narrow(i, false, None, false, upper), // SHRN
+        31 => shift_narrow(i, true, None, false, upper), // RSHRN
         32 => clamped(i, false, SaturateTo::Signed, true, upper), // SQSHRN
         33 => clamped(i, true, SaturateTo::Signed, true, upper), // SQRSHRN
         34 => clamped(i, false, SaturateTo::Unsigned, false, upper), // UQSHRN
@@ -222,7 +221,7 @@ pub fn mixed_sign_add_shape(operation: u64) -> NeonOp
     NeonOp::MixedSignAdd { destination_signed }
 }
 
-fn long(combine: Combine, upper: bool, by_element: bool) -> NeonOp
+fn long(combine: Option<BinOp>, upper: bool, by_element: bool) -> NeonOp
     ensures { result ≡ NeonOp.DoublingLong combine upper by_element }
 {
     NeonOp::DoublingLong {
@@ -238,17 +237,17 @@ pub fn doubling_long_shape(operation: u64) -> NeonOp
     ensures { (i : ℕ) (upper : Bool) → result ≡ neon_op (op_at operation) i upper }
 {
     match operation {
-        42 => long(Combine::Nothing, false, false), // SQDMULL
-        43 => long(Combine::With(BinOp::Add), false, false), // SQDMLAL
-        44 => long(Combine::With(BinOp::Sub), false, false), // SQDMLSL
-        45 => long(Combine::Nothing, true, false), // SQDMULL2
-        46 => long(Combine::With(BinOp::Add), true, false), // SQDMLAL2
-        47 => long(Combine::With(BinOp::Sub), true, false), // SQDMLSL2
-        48 => long(Combine::Nothing, false, true), // SQDMULL by an element
-        49 => long(Combine::With(BinOp::Add), false, true), // SQDMLAL by an element
-        50 => long(Combine::With(BinOp::Sub), false, true), // SQDMLSL by an element
-        51 => long(Combine::Nothing, true, true), // SQDMULL2 by an element
-        52 => long(Combine::With(BinOp::Add), true, true), // SQDMLAL2 by an element
-        _ => long(Combine::With(BinOp::Sub), true, true), // SQDMLSL2 by an element
+        42 => long(None, false, false), // SQDMULL
+        43 => long(Some(BinOp::Add), false, false), // SQDMLAL
+        44 => long(Some(BinOp::Sub), false, false), // SQDMLSL
+        45 => long(None, true, false), // SQDMULL2
+        46 => long(Some(BinOp::Add), true, false), // SQDMLAL2
+        47 => long(Some(BinOp::Sub), true, false), // SQDMLSL2
+        48 => long(None, false, true), // SQDMULL by an element
+        49 => long(Some(BinOp::Add), false, true), // SQDMLAL by an element
+        50 => long(Some(BinOp::Sub), false, true), // SQDMLSL by an element
+        51 => long(None, true, true), // SQDMULL2 by an element
+        52 => long(Some(BinOp::Add), true, true), // SQDMLAL2 by an element
+        _ => long(Some(BinOp::Sub), true, true), // SQDMLSL2 by an element
     }
 }

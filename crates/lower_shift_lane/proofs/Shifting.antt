@@ -14,7 +14,8 @@ use Rattle.pool.specs.declared.Node.{Node}
 use Rattle.pool.specs.declared.Built.{Built}
 use Rattle.pool_nodes.specs.Builders.{MadeConst, MadeBv, MadeCompare, MadeIte, MadeExtract, MadeZeroExtend}
 use Rattle.pool.proofs.Steps.{start, step, finish, given}
-use Rattle.trees.specs.declared.Saturate.{Saturate}
+use Rattle.std.specs.declared.option.Option.{Option}
+use Rattle.trees.specs.declared.SaturateTo.{SaturateTo}
 use Rattle.trees.specs.declared.ShiftKind.{ShiftKind}
 use Rattle.trees.specs.declared.ShiftKind.TheVariants.{LeftImmediate, RightImmediate, Register}
 use Rattle.trees.specs.Arith.{rounding_bits, left_by, register_shift_max}
@@ -123,7 +124,7 @@ registered {value = value} {amount = amount} {n = n} rounding saturate signed l 
     }
 
 -- ---- `shift_lane`, by its kinds
-pub lane-left : {w0 w1 : List ℕ} {k : ℕ} {r : Built} {kind : ShiftKind} {value amount : Node} {n shift : ℕ} {saturate : Saturate} (signed : Bool) → kind ≡ LeftImmediate shift saturate
+pub lane-left : {w0 w1 : List ℕ} {k : ℕ} {r : Built} {kind : ShiftKind} {value amount : Node} {n shift : ℕ} {saturate : Option SaturateTo} (signed : Bool) → kind ≡ LeftImmediate shift saturate
     → Builds1 w0 k w1 r 10 value n n (λ v. left_immediate saturate v shift n signed) (value.0 ∷ [])
     → BuildsIf w0 k w1 r 21 value n (is_register kind) amount n n (λ v a. shifted_by kind signed v a n)
 lane-left signed q d = rw q (record { sized = omega (arith, d.sized); made = λ v x y. d.made v x })

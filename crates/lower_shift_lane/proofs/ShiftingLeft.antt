@@ -15,8 +15,8 @@ use Rattle.pool_nodes.specs.Builders.{MadeConst, MadeBv, MadeCompare, MadeIte}
 use Rattle.pool.proofs.Steps.{start, step, finish, given, spare}
 use Rattle.trees.specs.declared.SaturateTo.{SaturateTo}
 use Rattle.trees.specs.declared.SaturateTo.TheVariants.{Signed, Unsigned, SignedToUnsigned}
-use Rattle.trees.specs.declared.Saturate.{Saturate}
-use Rattle.trees.specs.declared.Saturate.TheVariants.{Never, Into}
+use Rattle.std.specs.declared.option.Option.{Option}
+use Rattle.std.specs.declared.option.Option.TheVariants.{None, Some}
 use Rattle.trees.specs.Lower.{unsigned_max}
 use Rattle.trees.specs.Arith.{shift_bound, saturating_shift_left, left_by}
 use Rattle.trees.specs.Trees.{left_immediate}
@@ -92,12 +92,12 @@ saturating {value = value} {amount = amount} {n = n} signed l m f e1 e2 e3 e4 e5
 -- ---- by an immediate
 -- SQSHLU's clamp does not go by the flag
 pub left-exact : {w0 w1 : List ℕ} {k : ℕ} {r : Built} {value : Node} {n : ℕ} (shift : ℕ) (signed : Bool) {to : SaturateTo} → to ≡ SignedToUnsigned
-    → Builds1 w0 k w1 r 10 value n n (λ v. left_immediate (Into SignedToUnsigned) v shift n true) (value.0 ∷ [])
-    → Builds1 w0 k w1 r 10 value n n (λ v. left_immediate (Into to) v shift n signed) (value.0 ∷ [])
+    → Builds1 w0 k w1 r 10 value n n (λ v. left_immediate (Some SignedToUnsigned) v shift n true) (value.0 ∷ [])
+    → Builds1 w0 k w1 r 10 value n n (λ v. left_immediate (Some to) v shift n signed) (value.0 ∷ [])
 left-exact shift signed q d = rw q d
 
 clamps : (to : SaturateTo) → (to ≡ SignedToUnsigned → ⊥) → (v : Expr) (shift n : ℕ) (signed : Bool)
-    → left_immediate (Into to) v shift n signed ≡ saturating_shift_left v (Const shift n) n signed
+    → left_immediate (Some to) v shift n signed ≡ saturating_shift_left v (Const shift n) n signed
 clamps Signed f v shift n signed = refl
 clamps Unsigned f v shift n signed = refl
 clamps SignedToUnsigned f v shift n signed = absurd (f refl)
@@ -109,13 +109,13 @@ pub left-clamped : {w0 w1 w2 : List ℕ} {k : ℕ} {r1 r2 : Built} {value : Node
     → n ≤ 64
     → MadeConst w0 k w1 r1 shift 0 n
     → Builds2 w1 r1.count w2 r2 9 value n r1.node n n (λ v a. saturating_shift_left v a n signed) (value.0 ∷ r1.node.0 ∷ [])
-    → Builds1 w0 k w2 r2 10 value n n (λ v. left_immediate (Into to) v shift n signed) (value.0 ∷ [])
+    → Builds1 w0 k w2 r2 10 value n n (λ v. left_immediate (Some to) v shift n signed) (value.0 ∷ [])
 left-clamped {n = n} {shift = shift} to signed q l h m e1 e2 =
     let d = by-constant (λ v a. saturating_shift_left v a n signed) l (omega arith) m e1 e2 in
     record { sized = d.sized; made = λ {ta} v x. rw (clamps to q ta shift n signed) (d.made v x) }
 
-pub left-wrapping : {w0 w1 w2 : List ℕ} {k : ℕ} {r1 r2 : Built} {value : Node} {n shift : ℕ} {saturate : Saturate} (signed : Bool)
-    → saturate ≡ Never
+pub left-wrapping : {w0 w1 w2 : List ℕ} {k : ℕ} {r1 r2 : Built} {value : Node} {n shift : ℕ} {saturate : Option SaturateTo} (signed : Bool)
+    → saturate ≡ None
     → 1 ≤ n
     → shift < n
     → n ≤ 64
@@ -124,8 +124,8 @@ pub left-wrapping : {w0 w1 w2 : List ℕ} {k : ℕ} {r1 r2 : Built} {value : Nod
     → Builds1 w0 k w2 r2 10 value n n (λ v. left_immediate saturate v shift n signed) (value.0 ∷ [])
 left-wrapping signed q l h m e1 e2 = rw q (by-constant (Bv Shl) l (omega arith) m e1 (one-op {m = 9} (omega arith) l m e2))
 
-pub left-into : {w0 w1 : List ℕ} {k : ℕ} {r : Built} {value : Node} {n : ℕ} (shift : ℕ) (signed : Bool) {to : SaturateTo} {saturate : Saturate} → saturate ≡ Into to
-    → Builds1 w0 k w1 r 10 value n n (λ v. left_immediate (Into to) v shift n signed) (value.0 ∷ [])
+pub left-into : {w0 w1 : List ℕ} {k : ℕ} {r : Built} {value : Node} {n : ℕ} (shift : ℕ) (signed : Bool) {to : SaturateTo} {saturate : Option SaturateTo} → saturate ≡ Some to
+    → Builds1 w0 k w1 r 10 value n n (λ v. left_immediate (Some to) v shift n signed) (value.0 ∷ [])
     → Builds1 w0 k w1 r 10 value n n (λ v. left_immediate saturate v shift n signed) (value.0 ∷ [])
 left-into shift signed q d = rw q d
 

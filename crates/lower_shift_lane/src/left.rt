@@ -1,7 +1,6 @@
 // The Rust's neon/lower/arith.rs: saturating_shift_left, and the left shifts of shift_lane.
 ghost use Rattle.std.specs.Prelude.{true, [], ◌∷◌, ◌≤◌, ◌<◌};
 ghost use Rattle.pool.specs.Growth.{Room};
-ghost use Rattle.trees.specs.declared.Saturate.{Saturate};
 ghost use Rattle.trees.specs.declared.SaturateTo.{SaturateTo};
 ghost use Rattle.trees.specs.Arith.{shift_bound, saturating_shift_left, left_by};
 ghost use Rattle.trees.specs.Trees.{left_immediate};
@@ -10,7 +9,7 @@ ghost use Rattle.lower.specs.Builds.{Builds1, Builds2};
 use lower_kinds::operators::shift_op;
 use pool::{Built, Node};
 use terms::{BinOp, CmpOp};
-use trees::{Saturate, SaturateTo};
+use trees::SaturateTo;
 use wide::word::{power, unsigned_max};
 
 // The end of the range that a saturating left shift clamps to: the one on the side of its sign.
@@ -66,7 +65,7 @@ fn exact_shift_left(
     requires room { Room pool.old count 10 }
     requires value_lt_count { (value.0 < count) × (shift < lane_bits) × (lane_bits ≤ 64) }
     ensures { Builds1 pool.old count pool.new result 10 value lane_bits lane_bits
-        (λ v. left_immediate (Saturate.Into SaturateTo.SignedToUnsigned) v shift lane_bits true) (value.0 ∷ []) }
+        (λ v. left_immediate (Some SaturateTo.SignedToUnsigned) v shift lane_bits true) (value.0 ∷ []) }
 {
     let wide = lane_bits + shift + 1;
     let exact = lower_exact::shift_up(pool, count, value, shift, lane_bits, wide);
@@ -93,7 +92,7 @@ fn saturated_left(
     requires room { Room pool.old count 10 }
     requires value_lt_count { (value.0 < count) × (shift < lane_bits) × (lane_bits ≤ 64) }
     ensures { Builds1 pool.old count pool.new result 10 value lane_bits lane_bits
-        (λ v. left_immediate (Saturate.Into to) v shift lane_bits signed) (value.0 ∷ []) }
+        (λ v. left_immediate (Some to) v shift lane_bits signed) (value.0 ∷ []) }
 {
     if let SaturateTo::SignedToUnsigned = to {
         return exact_shift_left(pool, count, value, shift, lane_bits);
@@ -105,7 +104,7 @@ fn saturated_left(
 pub fn left_immediate(
     pool: &mut [u64],
     count: usize,
-    saturate: Saturate,
+    saturate: Option<SaturateTo>,
     value: Node,
     shift: u64,
     lane_bits: u64,
@@ -117,11 +116,11 @@ pub fn left_immediate(
         (λ v. left_immediate saturate v shift lane_bits signed) (value.0 ∷ []) }
 {
     match saturate {
-        Saturate::Never => {
+        None => {
             let by = pool_nodes::konst(pool, count, shift, 0, lane_bits);
             pool_nodes::bv(pool, by.count, BinOp::Shl, value, by.node)
         }
-        Saturate::Into(to) => saturated_left(pool, count, to, value, shift, lane_bits, signed),
+        Some(to) => saturated_left(pool, count, to, value, shift, lane_bits, signed),
     }
 }
 

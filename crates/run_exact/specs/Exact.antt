@@ -3,7 +3,7 @@ use Rattle.std.specs.Prelude.{Bool, true, false, ◌≡◌, ℕ, ◌+◌, ◌≤
 use Rattle.terms.specs.declared.BinOp.{BinOp}
 use Rattle.terms.specs.declared.BinOp.TheVariants.{Add, Sub, Mul, And, Or, Xor, Shl, LShr, AShr}
 use Rattle.trees.specs.declared.SaturateTo.{SaturateTo}
-use Rattle.trees.specs.declared.Saturate.{Saturate}
+use Rattle.std.specs.declared.option.Option.{Option}
 use Rattle.neon.specs.Arm.{wrap, byte, scale, clamp_z}
 use Rattle.saturation.specs.Saturates.{outside}
 use Rattle.saturation.specs.Family.{limited, beyond_limit, clamp_to, beyond_to, join_z, right_z, turn_z, unary_z}
@@ -31,7 +31,7 @@ Between n low high v bits saturated = (l h z : ℤ) → Held 192 low l → Held 
 abbrev pub ClampedTo : SaturateTo → (n : ℕ) → Wide → ℕ → Bool → Type 0
 ClampedTo to n v bits saturated = (z : ℤ) → Held 192 v z → Answers (wrap n (clamp_to to n z)) (beyond_to to n z) bits saturated
 
-abbrev pub Limited : Saturate → (n : ℕ) → Wide → ℕ → Bool → Type 0
+abbrev pub Limited : Option SaturateTo → (n : ℕ) → Wide → ℕ → Bool → Type 0
 Limited saturate n v bits saturated = (z : ℤ) → Held 192 v z → Answers (wrap n (limited saturate n z)) (beyond_limit saturate n z) bits saturated
 
 abbrev pub Joined : BinOp → (a b r : Wide) → Type 0

@@ -9,7 +9,7 @@ ghost use Rattle.saturation.specs.Family.{read_z};
 ghost use Rattle.run_exact.specs.Exact.{Held, is_sub, Kept, Between, ClampedTo, Limited, Joined, Scaled, Lowered, Turned, Negated, Magnitude, OfUnary};
 
 use terms::BinOp;
-use trees::{Saturate, SaturateTo};
+use trees::SaturateTo;
 use wide::word::{power, unsigned_max};
 use wide::{Wide, add, low_bits, mul, shl, sub};
 use wide_bit_vectors::{bv_ashr, bv_slt};
@@ -121,16 +121,16 @@ fn clamp_to(to: SaturateTo, n: u64, v: Wide) -> Clamped
 }
 
 // Clamped or not, in n bits.
-pub fn limit(saturate: Saturate, n: u64, v: Wide) -> Clamped
+pub fn limit(saturate: Option<SaturateTo>, n: u64, v: Wide) -> Clamped
     requires { (0 < n) × (n ≤ 64) }
     ensures { Limited saturate n v result.bits result.saturated }
 {
     match saturate {
-        Saturate::Never => Clamped {
+        None => Clamped {
             bits: keep(n, v),
             saturated: false,
         },
-        Saturate::Into(to) => clamp_to(to, n, v),
+        Some(to) => clamp_to(to, n, v),
     }
 }
 

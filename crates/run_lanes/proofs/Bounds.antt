@@ -18,8 +18,9 @@ use Rattle.trees.specs.declared.SaturatingKind.{SaturatingKind}
 use Rattle.trees.specs.declared.SaturatingKind.TheVariants.{AddSub, Halving, Narrow, ShiftNarrow, DoublingMultiplyHigh, Unary}
 use Rattle.trees.specs.declared.BitwiseUnary.{BitwiseUnary as Unaries}
 use Rattle.trees.specs.declared.BitwiseUnary.TheVariants.{PopulationCount, LeadingZeros, LeadingSignBits, ReverseBits}
-use Rattle.trees.specs.declared.Combine.{Combine}
-use Rattle.trees.specs.declared.Combine.TheVariants.{Nothing, With}
+use Rattle.std.specs.declared.option.Option.{Option}
+use Rattle.terms.specs.declared.BinOp.{BinOp}
+use Rattle.std.specs.declared.option.Option.TheVariants.{None, Some}
 use Rattle.saturation.specs.Family.{shift_lane_z, insert_lane_z, mixed_lane_z, doubling_lane_z, saturating_lane_z, bits_lane_z, difference_lane_z, plus_z, high_z, family_lane}
 use Rattle.run_lanes.specs.Rows.{InsertIn, RowIn, source_of}
 use Rattle.run_lanes.proofs.Counts.{left-fits, right-fits, right_is}
@@ -38,9 +39,9 @@ module _ (n d a b : ℕ) (hn : 0 < n) (h64 : n ≤ 64) (hd : d < 2 ^ n) where
   mixed-lt true = wrap-lt n _
   mixed-lt false = wrap-lt n _
 
-  doubling-lt : (combine : Combine) → doubling_lane_z combine n d a b < 2 ^ n
-  doubling-lt Nothing = wrap-lt n _
-  doubling-lt (With op) = wrap-lt n _
+  doubling-lt : (combine : Option BinOp) → doubling_lane_z combine n d a b < 2 ^ n
+  doubling-lt None = wrap-lt n _
+  doubling-lt (Some op) = wrap-lt n _
 
   saturating-lt : (kind : SaturatingKind) (signed : Bool) → saturating_lane_z kind signed n a b < 2 ^ n
   saturating-lt (AddSub op to) signed = wrap-lt n _

@@ -17,23 +17,23 @@ use run_exact::{
     unsigned,
 };
 use terms::BinOp;
-use trees::{Combine, NeonOp, Saturate, SaturateTo, SaturatingKind, ShiftKind};
+use trees::{NeonOp, SaturateTo, SaturatingKind, ShiftKind};
 use wide::word::power;
 use wide::{Wide, low_bits};
 
 pub mod bits;
 
 // The range of a shift by a register.
-fn own_range(saturate: bool, as_signed: bool) -> Saturate
+fn own_range(saturate: bool, as_signed: bool) -> Option<SaturateTo>
     ensures { result ≡ own_range saturate as_signed }
 {
     if saturate {
         if as_signed {
-            return Saturate::Into(SaturateTo::Signed);
+            return Some(SaturateTo::Signed);
         }
-        return Saturate::Into(SaturateTo::Unsigned);
+        return Some(SaturateTo::Unsigned);
     }
-    Saturate::Never
+    None
 }
 
 fn shift_lane(kind: ShiftKind, as_signed: bool, n: u64, a: u64, b: u64) -> Clamped
@@ -44,7 +44,7 @@ fn shift_lane(kind: ShiftKind, as_signed: bool, n: u64, a: u64, b: u64) -> Clamp
     match kind {
         ShiftKind::LeftImmediate { shift, saturate } => limit(saturate, n, scaled(v, shift)),
         ShiftKind::RightImmediate { shift, rounding } => {
-            limit(Saturate::Never, n, right(rounding, v, shift))
+            limit(None, n, right(rounding, v, shift))
         }
         ShiftKind::Register { rounding, saturate } => {
             limit(own_range(saturate, as_signed), n, turn(rounding, v, b))
@@ -58,33 +58,33 @@ fn mixed_lane(s: bool, n: u64, d: u64, a: u64) -> Clamped
 {
     if s {
         return limit(
-            Saturate::Into(SaturateTo::Signed),
+            Some(SaturateTo::Signed),
             n,
             join(BinOp::Add, read(true, n, d), read(false, n, a)),
         );
     }
     limit(
-        Saturate::Into(SaturateTo::Unsigned),
+        Some(SaturateTo::Unsigned),
         n,
         join(BinOp::Add, read(false, n, d), read(true, n, a)),
     )
 }
 
 // The doubled product, and a sum with it, each clamped.
-fn doubling_lane(combine: Combine, n: u64, d: u64, a: u64, b: u64) -> Clamped
+fn doubling_lane(combine: Option<BinOp>, n: u64, d: u64, a: u64, b: u64) -> Clamped
     requires { (2 ≤ n) × (n ≤ 64) × (a < 2 ^ (n / 2)) × (b < 2 ^ (n / 2)) × (d < 2 ^ n) }
     ensures { Answers (doubling_lane_z combine n d a b) (doubling_beyond combine n d a b) result.bits result.saturated }
 {
     let p = limit(
-        Saturate::Into(SaturateTo::Signed),
+        Some(SaturateTo::Signed),
         n,
         doubled_product(n / 2, a, b),
     );
     match combine {
-        Combine::Nothing => p,
-        Combine::With(op) => {
+        None => p,
+        Some(op) => {
             let q = limit(
-                Saturate::Into(SaturateTo::Signed),
+                Some(SaturateTo::Signed),
                 n,
                 join(op, read(true, n, d), read(true, n, p.bits)),
             );
@@ -101,7 +101,7 @@ fn add_sub_lane(op: BinOp, to: SaturateTo, as_signed: bool, n: u64, a: u64, b: u
     ensures { Answers (saturating_lane_z (AddSub op to) as_signed n a b) (saturating_beyond (AddSub op to) as_signed n a b) result.bits result.saturated }
 {
     limit(
-        Saturate::Into(to),
+        Some(to),
         n,
         join(op, read(as_signed, n, a), read(as_signed, n, b)),
     )
@@ -112,7 +112,7 @@ fn halving_lane(rounding: bool, as_signed: bool, n: u64, a: u64, b: u64) -> Clam
     ensures { Answers (saturating_lane_z (Halving rounding) as_signed n a b) (saturating_beyond (Halving rounding) as_signed n a b) result.bits result.saturated }
 {
     limit(
-        Saturate::Never,
+        None,
         n,
         right(
             rounding,
@@ -126,13 +126,13 @@ fn narrow_lane(to: SaturateTo, as_signed: bool, n: u64, a: u64) -> Clamped
     requires { (0 < n) × (n ≤ 32) × (a < 2 ^ (n * 2)) }
     ensures { Answers (saturating_lane_z (Narrow to) as_signed n a 0) (saturating_beyond (Narrow to) as_signed n a 0) result.bits result.saturated }
 {
-    limit(Saturate::Into(to), n, read(as_signed, n * 2, a))
+    limit(Some(to), n, read(as_signed, n * 2, a))
 }
 
 fn shift_narrow_lane(
     shift: u64,
     rounding: bool,
-    to: Saturate,
+    to: Option<SaturateTo>,
     as_signed: bool,
     n: u64,
     a: u64,
@@ -148,7 +148,7 @@ fn multiply_high_lane(rounding: bool, n: u64, a: u64, b: u64) -> Clamped
     ensures { Answers (saturating_lane_z (DoublingMultiplyHigh rounding) true n a b) (saturating_beyond (DoublingMultiplyHigh rounding) true n a b) result.bits result.saturated }
 {
     limit(
-        Saturate::Into(SaturateTo::Signed),
+        Some(SaturateTo::Signed),
         n,
         right(rounding, doubled_product(n, a, b), n),
     )
@@ -159,7 +159,7 @@ fn unary_lane(negate: bool, n: u64, a: u64) -> Clamped
     ensures { Answers (saturating_lane_z (Unary negate) true n a 0) (saturating_beyond (Unary negate) true n a 0) result.bits result.saturated }
 {
     limit(
-        Saturate::Into(SaturateTo::Signed),
+        Some(SaturateTo::Signed),
         n,
         unary(negate, read(true, n, a)),
     )
@@ -189,9 +189,9 @@ fn difference_lane(as_signed: bool, accumulate: bool, n: u64, d: u64, a: u64, b:
 {
     let m = magnitude(join(BinOp::Sub, read(as_signed, n, a), read(as_signed, n, b)));
     if accumulate {
-        return limit(Saturate::Never, n, join(BinOp::Add, unsigned(d), m));
+        return limit(None, n, join(BinOp::Add, unsigned(d), m));
     }
-    limit(Saturate::Never, n, m)
+    limit(None, n, m)
 }
 
 fn sum_of(subtract: bool, a: u64, b: u64) -> Wide

@@ -14,10 +14,9 @@ use Rattle.neon.specs.Op.{Op}
 use Rattle.neon.specs.Arm.{S, c_s, byte, doubled, floor, round, scale}
 use Rattle.neon.specs.Form.{form, least, most, source_bits}
 use Rattle.trees.specs.declared.SaturateTo.TheVariants.{Signed, Unsigned, SignedToUnsigned}
-use Rattle.trees.specs.declared.Saturate.TheVariants.{Into}
+use Rattle.std.specs.declared.option.Option.TheVariants.{Some}
 use Rattle.trees.specs.declared.ShiftKind.TheVariants.{LeftImmediate, Register}
 use Rattle.trees.specs.declared.SaturatingKind.TheVariants.{ShiftNarrow, DoublingMultiplyHigh, Unary}
-use Rattle.trees.specs.declared.Combine.TheVariants.{With}
 use Rattle.trees.specs.Neon.{neon_op}
 use Rattle.trees.specs.Trees.{signed_amount}
 use Rattle.trees_value.proofs.Z.{ge-is}
@@ -64,15 +63,15 @@ module _ (r : ℕ → ℕ) where
 
   -- ---- narrowing shifts, 32 to 37
   module _ (a b : Expr) (n : ℕ) (x : ℤ) (hn : 0 < n) (p : Is r a (n * 2) x) (rounding : Bool) (i : ℕ) (hi : 0 < i) (h : i ≤ n) where
-    pub bit-sqshrn : FitsS (n * 2) x → Is r (saturating_bit (ShiftNarrow i rounding (Into Signed)) a b n true) 1 (pos (bit (beyond_s n (floor (plus rounding x (2 ^ (i - 1))) i))))
+    pub bit-sqshrn : FitsS (n * 2) x → Is r (saturating_bit (ShiftNarrow i rounding (Some Signed)) a b n true) 1 (pos (bit (beyond_s n (floor (plus rounding x (2 ^ (i - 1))) i))))
     unfolding saturating_bit
     bit-sqshrn f = is-clipped_s r hn (omega arith) (sat.narrow-fits r a b n x hn p true rounding i f hi h) (sat.is-shifted r a b n x hn p true rounding i f hi h)
 
-    pub bit-uqshrn : FitsU (n * 2) x → Is r (saturating_bit (ShiftNarrow i rounding (Into Unsigned)) a b n false) 1 (pos (bit (beyond_u n (floor (plus rounding x (2 ^ (i - 1))) i))))
+    pub bit-uqshrn : FitsU (n * 2) x → Is r (saturating_bit (ShiftNarrow i rounding (Some Unsigned)) a b n false) 1 (pos (bit (beyond_u n (floor (plus rounding x (2 ^ (i - 1))) i))))
     unfolding saturating_bit
     bit-uqshrn f = is-clipped_u r hn (omega arith) (sat.narrow-fits r a b n x hn p false rounding i f hi h) (sat.is-shifted r a b n x hn p false rounding i f hi h)
 
-    pub bit-sqshrun : FitsS (n * 2) x → Is r (saturating_bit (ShiftNarrow i rounding (Into SignedToUnsigned)) a b n true) 1 (pos (bit (beyond_u n (floor (plus rounding x (2 ^ (i - 1))) i))))
+    pub bit-sqshrun : FitsS (n * 2) x → Is r (saturating_bit (ShiftNarrow i rounding (Some SignedToUnsigned)) a b n true) 1 (pos (bit (beyond_u n (floor (plus rounding x (2 ^ (i - 1))) i))))
     unfolding saturating_bit
     bit-sqshrun f = is-clipped_su r hn (omega arith) (sat.narrow-fits r a b n x hn p true rounding i f hi h) (sat.is-shifted r a b n x hn p true rounding i f hi h)
 
@@ -98,7 +97,7 @@ module _ (r : ℕ → ℕ) where
     bit-dmull = is-clipped_s r (omega arith) (omega arith) (sat.doubled_fits h x y hh f g) (sat.is-doubled r a b h x y hh f g p q (h * 2 + 1) (omega arith))
 
     pub bit-dmlal : (subtract : Bool) (d : Expr) (z : ℤ) → FitsS (h * 2) z → Is r d (h * 2) z
-        → BitIs (doubling_long_bit (With (cond subtract Sub Add)) d a b (h * 2)) (beyond_s (h * 2) (x *ℤ y *ℤ pos 2) || beyond_s (h * 2) (apply_z subtract z (c_s (h * 2) (x *ℤ y *ℤ pos 2))))
+        → BitIs (doubling_long_bit (Some (cond subtract Sub Add)) d a b (h * 2)) (beyond_s (h * 2) (x *ℤ y *ℤ pos 2) || beyond_s (h * 2) (apply_z subtract z (c_s (h * 2) (x *ℤ y *ℤ pos 2))))
     unfolding doubling_long_bit
     bit-dmlal subtract d z k o =
         either (as-bit (beyond_s (h * 2) (x *ℤ y *ℤ pos 2)) bit-dmull)
@@ -118,7 +117,7 @@ module _ (r : ℕ → ℕ) where
 
   -- ---- shifts by an immediate, 2 to 4
   module _ (v : Expr) (n i : ℕ) (x : ℤ) (hn : 0 < n) (f : FitsS n x) (p : Is r v n x) where
-    pub bit-sqshlu : Is r (shift_bit (LeftImmediate i (Into SignedToUnsigned)) true v v n) 1 (pos (bit (beyond_u n (scale x i))))
+    pub bit-sqshlu : Is r (shift_bit (LeftImmediate i (Some SignedToUnsigned)) true v v n) 1 (pos (bit (beyond_u n (scale x i))))
     unfolding shift_bit
     bit-sqshlu = is-clipped_su r hn (omega arith) (exact-fits r v n i x hn f p) (is-scaled r v n i x hn f p)
 
@@ -178,9 +177,9 @@ module _ (r : ℕ → ℕ) (n i : ℕ) (d a b : Expr) (w x y : ℕ) (h8 : 8 ≤ 
       (as-bit r _ (bit-dmull r a b (n / 2) (S (n / 2) x) (S (n / 2) y) (omega arith) g.sx g.sy g.qa g.qb))
 
   long-with : (subtract : Bool) → Sources r a b x y (n / 2)
-      → BitIs r (doubling_long_bit (With (cond subtract Sub Add)) d a b n) (beyond_s n (twice n x y) || beyond_s n (apply_z subtract (S n w) (doubled n x y)))
+      → BitIs r (doubling_long_bit (Some (cond subtract Sub Add)) d a b n) (beyond_s n (twice n x y) || beyond_s n (apply_z subtract (S n w) (doubled n x y)))
   long-with subtract g =
-      subst (λ (m : ℕ). FitsS m (S n w) → Is r d m (S n w) → BitIs r (doubling_long_bit (With (cond subtract Sub Add)) d a b m)
+      subst (λ (m : ℕ). FitsS m (S n w) → Is r d m (S n w) → BitIs r (doubling_long_bit (Some (cond subtract Sub Add)) d a b m)
       (beyond_s m (S (n / 2) x *ℤ S (n / 2) y *ℤ pos 2) || beyond_s m (apply_z subtract (S n w) (c_s m (S (n / 2) x *ℤ S (n / 2) y *ℤ pos 2))))) even
       (bit-dmlal r a b (n / 2) (S (n / 2) x) (S (n / 2) y) (omega arith) g.sx g.sy g.qa g.qb subtract d (S n w)) sw qd
 

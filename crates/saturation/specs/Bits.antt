@@ -13,13 +13,12 @@ use Rattle.terms.specs.declared.BinOp.TheVariants.{Add, Or, Shl}
 use Rattle.terms.specs.declared.CmpOp.TheVariants.{Eq, Ult, Slt}
 use Rattle.trees.specs.declared.SaturateTo.{SaturateTo}
 use Rattle.trees.specs.declared.SaturateTo.TheVariants.{Signed, Unsigned, SignedToUnsigned}
-use Rattle.trees.specs.declared.Saturate.{Saturate}
-use Rattle.trees.specs.declared.Saturate.TheVariants.{Never, Into}
+use Rattle.std.specs.declared.option.Option.{Option}
+use Rattle.terms.specs.declared.BinOp.{BinOp}
+use Rattle.std.specs.declared.option.Option.TheVariants.{None, Some}
 use Rattle.trees.specs.declared.ShiftKind.{ShiftKind}
 use Rattle.trees.specs.declared.ShiftKind.TheVariants.{LeftImmediate, RightImmediate, Register}
 use Rattle.trees.specs.declared.SaturatingKind.{SaturatingKind}
-use Rattle.trees.specs.declared.Combine.{Combine}
-use Rattle.trees.specs.declared.Combine.TheVariants.{Nothing, With}
 use Rattle.trees.specs.Arith.{signed_max, shift_by, joined, twice, scaled, exact_lane, exact_bits, kind_to}
 use Rattle.trees.specs.Trees.{extract_lane, read_tree, tree_step, signed_amount, doubling_product}
 
@@ -47,19 +46,19 @@ unfoldable pub lost : (value amount : Expr) (signed : Bool) → Expr
 lost value amount signed = Ite (Compare Eq (shift_by signed (Bv Shl value amount) amount) value) no yes
 
 -- of a lane of `saturating_lane`
-abbrev pub narrow_bit : (value : Expr) (wide n : ℕ) → Saturate → Expr
-narrow_bit value wide n Never = no
-narrow_bit value wide n (Into to) = clipped value wide n to
+abbrev pub narrow_bit : (value : Expr) (wide n : ℕ) → Option SaturateTo → Expr
+narrow_bit value wide n None = no
+narrow_bit value wide n (Some to) = clipped value wide n to
 
 unfoldable pub saturating_bit : SaturatingKind → (a b : Expr) (n : ℕ) (signed : Bool) → Expr
 saturating_bit kind a b n signed = narrow_bit (exact_lane kind a b n signed) (exact_bits kind n) n (kind_to kind)
 
 -- of a lane of `shift_lane`: a shift to the right does not saturate
-abbrev pub left_bit : (saturate : Saturate) (value : Expr) (shift n : ℕ) (signed : Bool) → Expr
-left_bit Never value shift n signed = no
-left_bit (Into Signed) value shift n signed = lost value (Const shift n) signed
-left_bit (Into Unsigned) value shift n signed = lost value (Const shift n) signed
-left_bit (Into SignedToUnsigned) value shift n signed =
+abbrev pub left_bit : (saturate : Option SaturateTo) (value : Expr) (shift n : ℕ) (signed : Bool) → Expr
+left_bit None value shift n signed = no
+left_bit (Some Signed) value shift n signed = lost value (Const shift n) signed
+left_bit (Some Unsigned) value shift n signed = lost value (Const shift n) signed
+left_bit (Some SignedToUnsigned) value shift n signed =
     let wide = n + shift + 1 in
     clipped (scaled value shift wide) wide n SignedToUnsigned
 
@@ -81,9 +80,9 @@ mixed_sign_bit signed d a n =
 abbrev pub product_bit : (a b : Expr) (n : ℕ) → Expr
 product_bit a b n = clipped (twice a b (n + 1)) (n + 1) n Signed
 
-unfoldable pub doubling_long_bit : Combine → (d a b : Expr) (n : ℕ) → Expr
-doubling_long_bit Nothing d a b n = product_bit a b n
-doubling_long_bit (With op) d a b n =
+unfoldable pub doubling_long_bit : Option BinOp → (d a b : Expr) (n : ℕ) → Expr
+doubling_long_bit None d a b n = product_bit a b n
+doubling_long_bit (Some op) d a b n =
     Bv Or (product_bit a b n) (clipped (joined op d true (doubling_product a b n) true (n + 1)) (n + 1) n Signed)
 
 -- the bit of one lane of a family, `no` for those that never saturate
@@ -102,9 +101,9 @@ unfoldable pub instruction_bit : (k : ℕ) (bits : ℕ → Expr) (before : Expr)
 instruction_bit k bits before = Ite (Compare Eq (concat_lanes (k - 1) bits) (Const 0 k)) before yes
 
 -- the families that can saturate: operations 2 to 4, 13 to 16, 19 to 22, 27 to 29 and 32 to 55
-abbrev pub saturable_to : Saturate → Bool
-saturable_to Never = false
-saturable_to (Into to) = true
+abbrev pub saturable_to : Option SaturateTo → Bool
+saturable_to None = false
+saturable_to (Some to) = true
 
 abbrev pub saturable_shift : ShiftKind → Bool
 saturable_shift (LeftImmediate shift saturate) = saturable_to saturate

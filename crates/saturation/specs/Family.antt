@@ -7,16 +7,14 @@ use Rattle.trees.specs.declared.NeonOp.{NeonOp}
 use Rattle.trees.specs.declared.NeonOp.TheVariants.{Shift, ShiftInsert, MixedSignAdd, DoublingLong, Saturating, BitwiseUnary, AbsoluteDifference, HighNarrow}
 use Rattle.trees.specs.declared.SaturateTo.{SaturateTo}
 use Rattle.trees.specs.declared.SaturateTo.TheVariants.{Signed, Unsigned, SignedToUnsigned}
-use Rattle.trees.specs.declared.Saturate.{Saturate}
-use Rattle.trees.specs.declared.Saturate.TheVariants.{Never, Into}
+use Rattle.std.specs.declared.option.Option.{Option}
+use Rattle.std.specs.declared.option.Option.TheVariants.{None, Some}
 use Rattle.trees.specs.declared.ShiftKind.{ShiftKind}
 use Rattle.trees.specs.declared.ShiftKind.TheVariants.{LeftImmediate, RightImmediate, Register}
 use Rattle.trees.specs.declared.SaturatingKind.{SaturatingKind}
 use Rattle.trees.specs.declared.SaturatingKind.TheVariants.{AddSub, Halving, Narrow, ShiftNarrow, DoublingMultiplyHigh, Unary}
 use Rattle.trees.specs.declared.BitwiseUnary.{BitwiseUnary as Unaries}
 use Rattle.trees.specs.declared.BitwiseUnary.TheVariants.{PopulationCount, LeadingZeros, LeadingSignBits, ReverseBits}
-use Rattle.trees.specs.declared.Combine.{Combine}
-use Rattle.trees.specs.declared.Combine.TheVariants.{Nothing, With}
 use Rattle.saturation.specs.Saturates.{beyond_s, beyond_u, twice}
 
 -- a lane as it is read, signed if the flag is true
@@ -35,19 +33,19 @@ beyond_to Signed n z = beyond_s n z
 beyond_to Unsigned n z = beyond_u n z
 beyond_to SignedToUnsigned n z = beyond_u n z
 
-abbrev pub limited : Saturate → ℕ → ℤ → ℤ
-limited Never n z = z
-limited (Into to) n z = clamp_to to n z
+abbrev pub limited : Option SaturateTo → ℕ → ℤ → ℤ
+limited None n z = z
+limited (Some to) n z = clamp_to to n z
 
-abbrev pub beyond_limit : Saturate → ℕ → ℤ → Bool
-beyond_limit Never n z = false
-beyond_limit (Into to) n z = beyond_to to n z
+abbrev pub beyond_limit : Option SaturateTo → ℕ → ℤ → Bool
+beyond_limit None n z = false
+beyond_limit (Some to) n z = beyond_to to n z
 
 -- a register shift clamps into the range that it reads
-abbrev pub own_range : Bool → Bool → Saturate
-own_range true true = Into Signed
-own_range true false = Into Unsigned
-own_range false s = Never
+abbrev pub own_range : Bool → Bool → Option SaturateTo
+own_range true true = Some Signed
+own_range true false = Some Unsigned
+own_range false s = None
 
 abbrev pub join_z : BinOp → ℤ → ℤ → ℤ
 join_z Sub x y = x -ℤ y
@@ -93,9 +91,9 @@ abbrev pub mixed_lane_z : Bool → (n d a : ℕ) → ℕ
 mixed_lane_z true n d a = wrap n (c_s n (S n d +ℤ U a))
 mixed_lane_z false n d a = wrap n (c_u n (U d +ℤ S n a))
 
-abbrev pub doubling_lane_z : Combine → (n d a b : ℕ) → ℕ
-doubling_lane_z Nothing n d a b = wrap n (doubled n a b)
-doubling_lane_z (With op) n d a b = wrap n (c_s n (join_z op (S n d) (doubled n a b)))
+abbrev pub doubling_lane_z : Option BinOp → (n d a b : ℕ) → ℕ
+doubling_lane_z None n d a b = wrap n (doubled n a b)
+doubling_lane_z (Some op) n d a b = wrap n (c_s n (join_z op (S n d) (doubled n a b)))
 
 abbrev pub saturating_lane_z : SaturatingKind → (signed : Bool) (n a b : ℕ) → ℕ
 saturating_lane_z (AddSub op to) signed n a b = wrap n (clamp_to to n (join_z op (read_z signed n a) (read_z signed n b)))
@@ -135,9 +133,9 @@ abbrev pub mixed_beyond : Bool → (n d a : ℕ) → Bool
 mixed_beyond true n d a = beyond_s n (S n d +ℤ U a)
 mixed_beyond false n d a = beyond_u n (U d +ℤ S n a)
 
-abbrev pub doubling_beyond : Combine → (n d a b : ℕ) → Bool
-doubling_beyond Nothing n d a b = beyond_s n (twice n a b)
-doubling_beyond (With op) n d a b = beyond_s n (twice n a b) || beyond_s n (join_z op (S n d) (doubled n a b))
+abbrev pub doubling_beyond : Option BinOp → (n d a b : ℕ) → Bool
+doubling_beyond None n d a b = beyond_s n (twice n a b)
+doubling_beyond (Some op) n d a b = beyond_s n (twice n a b) || beyond_s n (join_z op (S n d) (doubled n a b))
 
 abbrev pub saturating_beyond : SaturatingKind → (signed : Bool) (n a b : ℕ) → Bool
 saturating_beyond (AddSub op to) signed n a b = beyond_to to n (join_z op (read_z signed n a) (read_z signed n b))

@@ -16,8 +16,8 @@ use Rattle.trees.specs.declared.SaturatingKind.{SaturatingKind}
 use Rattle.trees.specs.declared.SaturatingKind.TheVariants.{AddSub, Halving, Narrow, ShiftNarrow, DoublingMultiplyHigh, Unary}
 use Rattle.trees.specs.declared.ShiftKind.{ShiftKind}
 use Rattle.trees.specs.declared.ShiftKind.TheVariants.{LeftImmediate, RightImmediate, Register}
-use Rattle.trees.specs.declared.Combine.{Combine}
-use Rattle.trees.specs.declared.Combine.TheVariants.{Nothing, With}
+use Rattle.std.specs.declared.option.Option.{Option}
+use Rattle.std.specs.declared.option.Option.TheVariants.{None, Some}
 use Rattle.trees.specs.Arith.{joined, twice, kind_bits}
 use Rattle.trees.specs.Trees.{extract_lane, clamp, signed_amount}
 use Rattle.trees.specs.Arith as Arith
@@ -146,7 +146,7 @@ pub either : {w0 w1 w2 w3 w4 w5 : List ℕ} {k : ℕ} {r1 r2 r3 r4 r5 : Built} {
     → Builds1 w2 r2.count w3 r3 7 r1.node (n + 1) n (λ v. clamp v (n + 1) n Signed) (r1.node.0 ∷ [])
     → Builds2 w3 r3.count w4 r4 12 d n r3.node n 1 (λ d p. clipped (joined op d true p true (n + 1)) (n + 1) n Signed) (d.0 ∷ r3.node.0 ∷ [])
     → MadeBv w4 r4.count w5 r5 Or r2.node r4.node
-    → Lowers w0 k w5 r5 34 1 (read d n) (read a (n / 2)) (read b (n / 2)) (λ d a b. doubling_long_bit (With op) d a b n) (a.0 ∷ b.0 ∷ d.0 ∷ [])
+    → Lowers w0 k w5 r5 34 1 (read d n) (read a (n / 2)) (read b (n / 2)) (λ d a b. doubling_long_bit (Some op) d a b n) (a.0 ∷ b.0 ∷ d.0 ∷ [])
 unfolding doubling_long_bit Arith.doubling_product
 either {d = d} {a = a} {b = b} op n e1 e2 e3 e4 e5 =
     record {
@@ -160,10 +160,10 @@ either {d = d} {a = a} {b = b} op n e1 e2 e3 e4 e5 =
           finish (step s4 (2 ∷ 0 ∷ []) (e5.made s4.valid (omega arith) (omega arith) s4.env.1.1.0 s4.env.0)) tt;
     }
 
-pub at-nothing : {w0 w1 w2 w3 : List ℕ} {k : ℕ} {r1 r2 r3 : Built} {first second d : Node} {combine : Combine} (n f g j : ℕ)
+pub at-nothing : {w0 w1 w2 w3 : List ℕ} {k : ℕ} {r1 r2 r3 : Built} {first second d : Node} {combine : Option BinOp} (n f g j : ℕ)
     → n / 2 * f + n / 2 ≤ 128
     → n / 2 * g + n / 2 ≤ 128
-    → combine ≡ Nothing
+    → combine ≡ None
     → MadeLane w0 k w1 r1 first (n / 2) f
     → MadeLane w1 r1.count w2 r2 second (n / 2) g
     → Builds2 w2 r2.count w3 r3 14 r1.node (n / 2) r2.node (n / 2) 1 (λ a b. product_bit a b n) (r1.node.0 ∷ r2.node.0 ∷ [])
@@ -181,15 +181,15 @@ at-nothing {first = first} {second = second} n f g j hf hg q e1 e2 e3 =
           finish (step s2 (1 ∷ 0 ∷ []) (e3.made s2.valid s2.env.1.0 s2.env.0)) tt;
     })
 
-pub at_with : {w0 w1 w2 w3 w4 : List ℕ} {k : ℕ} {r1 r2 r3 r4 : Built} {first second d : Node} {combine : Combine} {op : BinOp} (n f g j : ℕ)
+pub at_with : {w0 w1 w2 w3 w4 : List ℕ} {k : ℕ} {r1 r2 r3 r4 : Built} {first second d : Node} {combine : Option BinOp} {op : BinOp} (n f g j : ℕ)
     → n / 2 * f + n / 2 ≤ 128
     → n / 2 * g + n / 2 ≤ 128
     → n * j + n ≤ 128
-    → combine ≡ With op
+    → combine ≡ Some op
     → MadeLane w0 k w1 r1 first (n / 2) f
     → MadeLane w1 r1.count w2 r2 second (n / 2) g
     → MadeLane w2 r2.count w3 r3 d n j
-    → Lowers w3 r3.count w4 r4 34 1 (read r3.node n) (read r1.node (n / 2)) (read r2.node (n / 2)) (λ d a b. doubling_long_bit (With op) d a b n)
+    → Lowers w3 r3.count w4 r4 34 1 (read r3.node n) (read r1.node (n / 2)) (read r2.node (n / 2)) (λ d a b. doubling_long_bit (Some op) d a b n)
     (r1.node.0 ∷ r2.node.0 ∷ r3.node.0 ∷ [])
     → Lowers w0 k w4 r4 37 1 (read_if (accumulates combine) d 128) (read first 128) (read second 128)
     (λ d a b. doubling_long_bit combine (extract_lane d n j) (extract_lane a (n / 2) f) (extract_lane b (n / 2) g) n) []

@@ -1,7 +1,6 @@
 // SQDMULL, SQDMLAL and SQDMLSL: either clamp counts.
 ghost use Rattle.std.specs.Prelude.{true, [], ◌∷◌, ◌+◌, ◌*◌, ◌/◌, ◌≤◌, ◌<◌};
 ghost use Rattle.pool.specs.Growth.{Room};
-ghost use Rattle.trees.specs.declared.Combine.{Combine};
 ghost use Rattle.trees.specs.Arith.{joined};
 ghost use Rattle.trees.specs.Trees.{extract_lane};
 ghost use Rattle.lower.specs.Builds.{Builds2, Lowers, read, read_if, Below};
@@ -12,7 +11,7 @@ use neon::Lane;
 use pool::{Built, Node};
 use saturation_lane::clip::clip;
 use terms::BinOp;
-use trees::{Combine, SaturateTo};
+use trees::SaturateTo;
 
 // The doubled product.
 fn product_bit(pool: &mut [u64], count: usize, a: Node, b: Node, lane_bits: u64) -> Built
@@ -60,7 +59,7 @@ fn either_bit(
     requires room { Room pool.old count 34 }
     requires d_lt_count { (d.0 < count) × (a.0 < count) × (b.0 < count) × (2 ≤ lane_bits) × (lane_bits ≤ 64) }
     ensures { Lowers pool.old count pool.new result 34 1 (read d lane_bits) (read a (lane_bits / 2)) (read b (lane_bits / 2))
-        (λ d a b. doubling_long_bit (Combine.With op) d a b lane_bits) (a.0 ∷ b.0 ∷ d.0 ∷ []) }
+        (λ d a b. doubling_long_bit (Some op) d a b lane_bits) (a.0 ∷ b.0 ∷ d.0 ∷ []) }
 {
     let wide = lane_bits + 1;
     let to = SaturateTo::Signed;
@@ -75,7 +74,7 @@ fn either_bit(
 pub fn doubling_at(
     pool: &mut [u64],
     count: usize,
-    combine: Combine,
+    combine: Option<BinOp>,
     first: Node,
     second: Node,
     d: Node,
@@ -96,8 +95,8 @@ pub fn doubling_at(
     let a = lower_simd::extract_lane(pool, count, first, narrow, from);
     let b = lower_simd::extract_lane(pool, a.count, second, narrow, with);
     match combine {
-        Combine::Nothing => product_bit(pool, b.count, a.node, b.node, lane_bits),
-        Combine::With(op) => {
+        None => product_bit(pool, b.count, a.node, b.node, lane_bits),
+        Some(op) => {
             let prior = lower_simd::extract_lane(pool, b.count, d, lane_bits, index);
             either_bit(pool, prior.count, op, prior.node, a.node, b.node, lane_bits)
         }

@@ -4,7 +4,6 @@
 
 ghost use Rattle.std.specs.Prelude.{true, ◌≡◌, [], ◌+◌, ◌*◌, ◌≤◌, ◌<◌};
 ghost use Rattle.pool.specs.Growth.{Room};
-ghost use Rattle.trees.specs.declared.Saturate.{Saturate};
 ghost use Rattle.trees.specs.Arith.{kind_to, kind_bits};
 ghost use Rattle.trees.specs.Trees.{extract_lane};
 ghost use Rattle.lower.specs.Builds.{Lowers, read, read_if, unread, Below};
@@ -101,7 +100,7 @@ pub fn saturating_at(
 ) -> Built
     requires room { Room pool.old count 20 }
     requires first_lt_count { (first.0 < count) × Below (read_if (uses_second kind) second 0) count }
-    requires le_lane_bits { (1 ≤ lane_bits) × (lane_bits ≤ 64) × KindIn kind lane_bits × (kind_to kind ≡ Saturate.Into to)
+    requires le_lane_bits { (1 ≤ lane_bits) × (lane_bits ≤ 64) × KindIn kind lane_bits × (kind_to kind ≡ Some to)
         × (kind_bits kind lane_bits * index.0 + kind_bits kind lane_bits ≤ 128) }
     ensures { Lowers pool.old count pool.new result 20 1 unread (read first 128) (read_if (uses_second kind) second 128)
         (λ d a b. saturating_bit kind (extract_lane a (kind_bits kind lane_bits) index.0) (extract_lane b (kind_bits kind lane_bits) index.0)

@@ -12,15 +12,16 @@ use Rattle.pool_nodes.specs.Builders.{MadeConst, MadeCompare, MadeIte}
 use Rattle.pool.proofs.Steps.{start, step, finish, given}
 use Rattle.trees.specs.declared.NeonOp.{NeonOp}
 use Rattle.trees.specs.declared.NeonShape.{NeonShape}
-use Rattle.trees.specs.declared.Saturate.{Saturate}
-use Rattle.trees.specs.declared.Saturate.TheVariants.{Never}
+use Rattle.std.specs.declared.option.Option.{Option}
+use Rattle.trees.specs.declared.SaturateTo.{SaturateTo}
+use Rattle.terms.specs.declared.BinOp.{BinOp}
+use Rattle.std.specs.declared.option.Option.TheVariants.{None}
 use Rattle.trees.specs.declared.SaturatingKind.{SaturatingKind}
 use Rattle.trees.specs.Simd.{concat_lanes}
 use Rattle.trees.specs.Arith.{kind_to, source_lane}
 use Rattle.trees.specs.Trees.{extract_lane}
 use Rattle.lower.specs.Builds.{Source, Lowers, read, read_if, unread}
 use Rattle.lower_doubling_long.specs.Elements.{accumulates}
-use Rattle.trees.specs.declared.Combine.{Combine}
 use Rattle.trees.specs.declared.NeonOp.TheVariants.{DoublingLong}
 use Rattle.lower_neon.proofs.Sources.{Weaker}
 use Rattle.lower_doubling_long.proofs.Multiplying.{factor-fits, factor-most}
@@ -29,7 +30,7 @@ use Rattle.saturation.specs.Bits.{saturable, saturable_kind, saturable_to, doubl
 use Rattle.saturation_bits.specs.Lanes.{family_bit, lane_at, BitMade}
 
 -- a kind that clamps has a range
-pub not-never : (kind : SaturatingKind) {range : Saturate} → range ≡ kind_to kind → range ≡ Never → saturable_kind kind ≡ true → ⊥
+pub not-never : (kind : SaturatingKind) {range : Option SaturateTo} → range ≡ kind_to kind → range ≡ None → saturable_kind kind ≡ true → ⊥
 not-never kind e q h = false≢true (sym (ap saturable_to q) ∙ ap saturable_to e ∙ h)
 
 -- an operation that cannot saturate is none of these
@@ -37,11 +38,11 @@ pub not_op : {op op' : NeonOp} → op ≡ op' → saturable op' ≡ false → sa
 not_op e f h = false≢true (sym f ∙ sym (ap saturable e) ∙ h)
 
 -- the lane of the first factor, and of the second, lies within a register
-pub from-fits : {op : NeonOp} {combine : Combine} {upper element : Bool} → op ≡ DoublingLong combine upper element → (n lanes : ℕ) {j lane : ℕ} → j < lanes → n * lanes ≤ 128
+pub from-fits : {op : NeonOp} {combine : Option BinOp} {upper element : Bool} → op ≡ DoublingLong combine upper element → (n lanes : ℕ) {j lane : ℕ} → j < lanes → n * lanes ≤ 128
     → lane ≡ source_lane upper lanes j → n / 2 * lane + n / 2 ≤ 128
 from-fits {upper = upper} q n lanes h l e = omega (arith, factor-fits upper n lanes h e, factor-most upper n lanes l)
 
-pub with-fits : {op : NeonOp} {combine : Combine} {upper element : Bool} → op ≡ DoublingLong combine upper element → (n i f : ℕ) {g : ℕ} → g ≡ cond element i f
+pub with-fits : {op : NeonOp} {combine : Option BinOp} {upper element : Bool} → op ≡ DoublingLong combine upper element → (n i f : ℕ) {g : ℕ} → g ≡ cond element i f
     → n / 2 * i + n / 2 ≤ 128 → n / 2 * f + n / 2 ≤ 128 → n / 2 * g + n / 2 ≤ 128
 with-fits {element = element} q n i f e h l = rw e (go element)
   where
@@ -53,7 +54,7 @@ with-fits {element = element} q n i f e h l = rw e (go element)
 pub any-source : (s : Source) → Weaker unread s
 any-source s ws c t x e = absurd (false≢true e)
 
-pub doubled : {w0 w1 : List ℕ} {k : ℕ} {r : Built} {first second d : Node} {op : NeonOp} {combine : Combine} {upper element : Bool} (n lanes i j : ℕ) {f g : ℕ}
+pub doubled : {w0 w1 : List ℕ} {k : ℕ} {r : Built} {first second d : Node} {op : NeonOp} {combine : Option BinOp} {upper element : Bool} (n lanes i j : ℕ) {f g : ℕ}
     → op ≡ DoublingLong combine upper element
     → f ≡ source_lane upper lanes j
     → g ≡ cond element i f

@@ -19,7 +19,7 @@ use pool::{Built, Node};
 use saturation_at::doubling::doubling_at;
 use saturation_at::{mixed_at, saturating_at, shift_at};
 use terms::CmpOp;
-use trees::{NeonOp, NeonShape, Saturate, SaturatingKind, ShiftKind};
+use trees::{NeonOp, NeonShape, SaturatingKind, ShiftKind};
 
 // A kind that clamps; there are no others here.
 fn saturating_some(
@@ -42,8 +42,8 @@ fn saturating_some(
 {
     let range = kind_to(kind);
     match range {
-        Saturate::Never => Built { node: first, count },
-        Saturate::Into(to) => {
+        None => Built { node: first, count },
+        Some(to) => {
             saturating_at(
                 pool,
                 count,

@@ -15,7 +15,7 @@ use Rattle.pool_nodes.specs.Builders.{MadeConst, MadeCompare, MadeIte}
 use Rattle.pool.proofs.Steps.{start, step, finish, given}
 use Rattle.trees.specs.declared.SaturateTo.{SaturateTo}
 use Rattle.trees.specs.declared.SaturateTo.TheVariants.{Signed, Unsigned, SignedToUnsigned}
-use Rattle.trees.specs.declared.Saturate.TheVariants.{Into}
+use Rattle.std.specs.declared.option.Option.TheVariants.{Some}
 use Rattle.trees.specs.declared.SaturatingKind.{SaturatingKind}
 use Rattle.trees.specs.Lower.{unsigned_max}
 use Rattle.trees.specs.Arith.{joined, exact_lane, exact_bits, kind_to, kind_bits}
@@ -114,7 +114,7 @@ module _ {w0 w1 : List ℕ} {k : ℕ} {r : Built} {value : Node} {wide : ℕ} (n
 -- its exact value, and the bit of the range that it is clamped into
 pub saturating : {w0 w1 w2 : List ℕ} {k : ℕ} {r1 r2 : Built} (kind : SaturatingKind) (to : SaturateTo) {a b : Node} (n : ℕ) (signed : Bool) {wide : ℕ}
     → wide ≡ exact_bits kind n
-    → kind_to kind ≡ Into to
+    → kind_to kind ≡ Some to
     → BuildsIf w0 k w1 r1 9 a (kind_bits kind n) (uses_second kind) b (kind_bits kind n) (exact_bits kind n) (λ a b. exact_lane kind a b n signed)
     → Builds1 w1 r1.count w2 r2 9 r1.node wide 1 (λ v. clipped v wide n to) (r1.node.0 ∷ [])
     → BuildsIf w0 k w2 r2 18 a (kind_bits kind n) (uses_second kind) b (kind_bits kind n) 1 (λ a b. saturating_bit kind a b n signed)

@@ -16,8 +16,8 @@ use Rattle.pool_nodes.specs.Builders.{MadeConst, MadeBv, MadeCompare, MadeIte}
 use Rattle.pool.proofs.Steps.{start, step, finish, given}
 use Rattle.trees.specs.declared.SaturateTo.{SaturateTo}
 use Rattle.trees.specs.declared.SaturateTo.TheVariants.{Signed, Unsigned, SignedToUnsigned}
-use Rattle.trees.specs.declared.Saturate.{Saturate}
-use Rattle.trees.specs.declared.Saturate.TheVariants.{Never, Into}
+use Rattle.std.specs.declared.option.Option.{Option}
+use Rattle.std.specs.declared.option.Option.TheVariants.{None, Some}
 use Rattle.trees.specs.declared.ShiftKind.{ShiftKind}
 use Rattle.trees.specs.declared.ShiftKind.TheVariants.{LeftImmediate, RightImmediate, Register}
 use Rattle.lower.specs.Builds.{Builds1, Builds2, BuildsIf}
@@ -52,11 +52,11 @@ is_lost {value = value} {amount = amount} {n = n} signed l m f e1 e2 e3 e4 e5 e6
 
 pub left-exact : {w0 w1 : List ℕ} {k : ℕ} {r : Built} {value : Node} {to : SaturateTo} (shift n : ℕ) (signed : Bool)
     → to ≡ SignedToUnsigned
-    → Builds1 w0 k w1 r 12 value n 1 (λ v. left_bit (Into SignedToUnsigned) v shift n true) (value.0 ∷ [])
-    → Builds1 w0 k w1 r 12 value n 1 (λ v. left_bit (Into to) v shift n signed) (value.0 ∷ [])
+    → Builds1 w0 k w1 r 12 value n 1 (λ v. left_bit (Some SignedToUnsigned) v shift n true) (value.0 ∷ [])
+    → Builds1 w0 k w1 r 12 value n 1 (λ v. left_bit (Some to) v shift n signed) (value.0 ∷ [])
 left-exact shift n signed q e = rw q e
 
-left-plain : (to : SaturateTo) (v : Expr) (shift n : ℕ) (signed : Bool) → (to ≡ SignedToUnsigned → ⊥) → left_bit (Into to) v shift n signed ≡ lost v (Const shift n) signed
+left-plain : (to : SaturateTo) (v : Expr) (shift n : ℕ) (signed : Bool) → (to ≡ SignedToUnsigned → ⊥) → left_bit (Some to) v shift n signed ≡ lost v (Const shift n) signed
 left-plain Signed v shift n signed h = refl
 left-plain Unsigned v shift n signed h = refl
 left-plain SignedToUnsigned v shift n signed h = absurd (h refl)
@@ -67,7 +67,7 @@ pub left-lost : {w0 w1 w2 : List ℕ} {k : ℕ} {r1 r2 : Built} {value : Node} {
     → (to ≡ SignedToUnsigned → ⊥)
     → MadeConst w0 k w1 r1 shift 0 n
     → Builds2 w1 r1.count w2 r2 6 value n r1.node n 1 (λ v a. lost v a signed) (value.0 ∷ r1.node.0 ∷ [])
-    → Builds1 w0 k w2 r2 12 value n 1 (λ v. left_bit (Into to) v shift n signed) (value.0 ∷ [])
+    → Builds1 w0 k w2 r2 12 value n 1 (λ v. left_bit (Some to) v shift n signed) (value.0 ∷ [])
 left-lost {value = value} {to = to} shift n signed l m h e1 e2 =
     let fits : shift < 2 ^ n = small n shift n (omega arith) (omega arith) in
     record {
@@ -100,19 +100,19 @@ register {value = value} {amount = amount} n rounding signed l m e1 e2 e3 e4 e5 
     }
 
 -- ---- each kind
-pub some-into : {w0 w1 : List ℕ} {k : ℕ} {r : Built} {value : Node} {saturate : Saturate} {to : SaturateTo} (shift n : ℕ) (signed : Bool) → saturate ≡ Into to
-    → Builds1 w0 k w1 r 12 value n 1 (λ v. left_bit (Into to) v shift n signed) (value.0 ∷ [])
+pub some-into : {w0 w1 : List ℕ} {k : ℕ} {r : Built} {value : Node} {saturate : Option SaturateTo} {to : SaturateTo} (shift n : ℕ) (signed : Bool) → saturate ≡ Some to
+    → Builds1 w0 k w1 r 12 value n 1 (λ v. left_bit (Some to) v shift n signed) (value.0 ∷ [])
     → Builds1 w0 k w1 r 12 value n 1 (λ v. left_bit saturate v shift n signed) (value.0 ∷ [])
 some-into shift n signed q e = rw q e
 
-pub not-never : (saturate : Saturate) → saturate ≡ Never → saturable_to saturate ≡ true → ⊥
+pub not-never : (saturate : Option SaturateTo) → saturate ≡ None → saturable_to saturate ≡ true → ⊥
 not-never saturate q h = false≢true (sym (ap saturable_to q) ∙ h)
 
 pub not_right : (kind : ShiftKind) {shift : ℕ} {rounding : Bool} → kind ≡ RightImmediate shift rounding → saturable_shift kind ≡ true → ⊥
 not_right kind q h = false≢true (sym (ap saturable_shift q) ∙ h)
 
 module _ {w0 w1 : List ℕ} {k : ℕ} {r : Built} {kind : ShiftKind} {value amount : Node} {n : ℕ} (signed : Bool) where
-  pub is-left : {shift : ℕ} {saturate : Saturate} → kind ≡ LeftImmediate shift saturate
+  pub is-left : {shift : ℕ} {saturate : Option SaturateTo} → kind ≡ LeftImmediate shift saturate
       → Builds1 w0 k w1 r 12 value n 1 (λ v. left_bit saturate v shift n signed) (value.0 ∷ [])
       → BuildsIf w0 k w1 r 12 value n (is_register kind) amount n 1 (λ v a. shifted_bit kind signed v a n)
   is-left q e = rw q (record { sized = e.sized; made = λ v x y. e.made v x })

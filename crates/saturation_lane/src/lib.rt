@@ -3,7 +3,6 @@
 
 ghost use Rattle.std.specs.Prelude.{◌≡◌, [], ◌∷◌, ◌+◌, ◌≤◌, ◌<◌};
 ghost use Rattle.pool.specs.Growth.{Room};
-ghost use Rattle.trees.specs.declared.Saturate.{Saturate};
 ghost use Rattle.trees.specs.Arith.{kind_to, kind_bits};
 ghost use Rattle.lower.specs.Builds.{Builds2, BuildsIf};
 ghost use Rattle.lower_kinds.specs.Sources.{uses_second, KindIn};
@@ -29,7 +28,7 @@ pub fn saturating_bit(
     signed_sources: bool,
 ) -> Built
     requires room { Room pool.old count 18 }
-    requires a_lt_count { (a.0 < count) × (b.0 < count) × (1 ≤ lane_bits) × (lane_bits ≤ 64) × KindIn kind lane_bits × (kind_to kind ≡ Saturate.Into to) }
+    requires a_lt_count { (a.0 < count) × (b.0 < count) × (1 ≤ lane_bits) × (lane_bits ≤ 64) × KindIn kind lane_bits × (kind_to kind ≡ Some to) }
     ensures { BuildsIf pool.old count pool.new result 18 a (kind_bits kind lane_bits) (uses_second kind) b (kind_bits kind lane_bits)
         1 (λ a b. saturating_bit kind a b lane_bits signed_sources) }
 {

@@ -1,7 +1,6 @@
 // Whether a shift saturates.
 ghost use Rattle.std.specs.Prelude.{true, ◌≡◌, [], ◌∷◌, ◌≤◌, ◌<◌};
 ghost use Rattle.pool.specs.Growth.{Room};
-ghost use Rattle.trees.specs.declared.Saturate.{Saturate};
 ghost use Rattle.trees.specs.declared.SaturateTo.{SaturateTo};
 ghost use Rattle.lower.specs.Builds.{Builds1, Builds2, BuildsIf};
 ghost use Rattle.lower_kinds.specs.Sources.{is_register, AmountIn};
@@ -10,7 +9,7 @@ ghost use Rattle.saturation.specs.Bits.{lost as lostTree, left_bit, shifted_bit,
 use lower_kinds::operators::shift_op;
 use pool::{Built, Node};
 use terms::{BinOp, CmpOp};
-use trees::{Saturate, SaturateTo, ShiftKind};
+use trees::{SaturateTo, ShiftKind};
 
 // Whether a shift to the left, undone, gives another value.
 fn lost(
@@ -40,7 +39,7 @@ fn exact_left_bit(pool: &mut [u64], count: usize, value: Node, shift: u64, lane_
     requires room { Room pool.old count 12 }
     requires value_lt_count { (value.0 < count) × (shift < lane_bits) × (lane_bits ≤ 64) }
     ensures { Builds1 pool.old count pool.new result 12 value lane_bits 1
-        (λ v. left_bit (Saturate.Into SaturateTo.SignedToUnsigned) v shift lane_bits true) (value.0 ∷ []) }
+        (λ v. left_bit (Some SaturateTo.SignedToUnsigned) v shift lane_bits true) (value.0 ∷ []) }
 {
     let wide = lane_bits + shift + 1;
     let exact = lower_exact::shift_up(pool, count, value, shift, lane_bits, wide);
@@ -67,7 +66,7 @@ fn left_bit(
     requires room { Room pool.old count 12 }
     requires value_lt_count { (value.0 < count) × (shift < lane_bits) × (lane_bits ≤ 64) }
     ensures { Builds1 pool.old count pool.new result 12 value lane_bits 1
-        (λ v. left_bit (Saturate.Into to) v shift lane_bits signed) (value.0 ∷ []) }
+        (λ v. left_bit (Some to) v shift lane_bits signed) (value.0 ∷ []) }
 {
     if let SaturateTo::SignedToUnsigned = to {
         return exact_left_bit(pool, count, value, shift, lane_bits);
@@ -80,7 +79,7 @@ fn left_bit(
 fn left_some(
     pool: &mut [u64],
     count: usize,
-    saturate: Saturate,
+    saturate: Option<SaturateTo>,
     value: Node,
     shift: u64,
     lane_bits: u64,
@@ -92,8 +91,8 @@ fn left_some(
         (λ v. left_bit saturate v shift lane_bits signed) (value.0 ∷ []) }
 {
     match saturate {
-        Saturate::Never => Built { node: value, count },
-        Saturate::Into(to) => left_bit(pool, count, to, value, shift, lane_bits, signed),
+        None => Built { node: value, count },
+        Some(to) => left_bit(pool, count, to, value, shift, lane_bits, signed),
     }
 }
 

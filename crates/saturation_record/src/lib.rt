@@ -11,14 +11,14 @@ ghost use Rattle.saturation_record.specs.Record.{RecordBit};
 use lower_exact::kind_to;
 use pool::{Built, Node};
 use saturation_bits::instruction_bit;
-use trees::{NeonOp, Saturate, SaturatingKind, ShiftKind};
+use trees::{NeonOp, SaturateTo, SaturatingKind, ShiftKind};
 
-fn clamps(saturate: Saturate) -> bool
+fn clamps(saturate: Option<SaturateTo>) -> bool
     ensures { result ≡ saturable_to saturate }
 {
     match saturate {
-        Saturate::Never => false,
-        Saturate::Into(_) => true,
+        None => false,
+        Some(_) => true,
     }
 }
 

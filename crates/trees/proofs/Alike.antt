@@ -5,6 +5,8 @@ use mathlib.Core.List.{List, [], ◌∷◌}
 use Prim.Native.Nat.{ℕ, zero, suc, ◌+◌, ◌-◌, ◌*◌, ◌/◌, ◌≤◌, ◌<◌}
 use native.Mathlib.Omega.{arith}
 use lib.Dec.{ltb, eqb}
+use Rattle.std.specs.declared.option.Option.{Option}
+use Rattle.std.specs.declared.option.Option.TheVariants.{None, Some}
 use Rattle.terms.specs.Expr.{Expr, Const, Bv, Compare, Ite, Concat, ZeroExtend, SignExtend}
 use Rattle.neon.specs.declared.Instruction.{Instruction}
 use Rattle.neon.specs.Op.{Op, op_at, Arrangement, arrangement_at, bits_of_lane, full}
@@ -16,9 +18,9 @@ use Rattle.trees.specs.declared.NeonOp.TheVariants.{AbsoluteDifference, HighNarr
 use Rattle.trees.specs.Simd.{Cutter, concat_lanes}
 use Rattle.trees.specs.Lower.{extend}
 use Rattle.trees.specs.Arith.{BinOp, Add, Sub, Mul, And, Or, Xor, Shl, CmpOp, Eq, Ult, Slt, SaturateTo, Signed, Unsigned, SignedToUnsigned}
-use Rattle.trees.specs.Arith.{Saturate, Never, Into, ShiftKind, LeftImmediate, RightImmediate, Register, SaturatingKind, AddSub, Halving, Narrow}
-use Rattle.trees.specs.Arith.{ShiftNarrow, DoublingMultiplyHigh, Unary, PopulationCount, LeadingZeros, LeadingSignBits, ReverseBits, Combine, Nothing}
-use Rattle.trees.specs.Arith.{With, clamped, plus_if, negated, joined, twice, exact_lane, exact_bits, kind_to, rounding_bits, shift_bound, saturating_shift_left}
+use Rattle.trees.specs.Arith.{ShiftKind, LeftImmediate, RightImmediate, Register, SaturatingKind, AddSub, Halving, Narrow}
+use Rattle.trees.specs.Arith.{ShiftNarrow, DoublingMultiplyHigh, Unary, PopulationCount, LeadingZeros, LeadingSignBits, ReverseBits}
+use Rattle.trees.specs.Arith.{clamped, plus_if, negated, joined, twice, exact_lane, exact_bits, kind_to, rounding_bits, shift_bound, saturating_shift_left}
 use Rattle.trees.specs.Arith.{register_shift_max, left_by, absolute_difference_lane, accumulated, narrowing, kind_bits}
 use Rattle.trees.specs.Neon.{neon_op}
 use Rattle.trees.specs.Block.{widen_tree}
@@ -72,9 +74,9 @@ module _ {R : Expr → Expr → Type 0} {c c' : Cutter} (k : Alike R c c') where
   like-clamp wide n to p = bits (n - 1) 0 (omega arith) (like-clamped wide n to p)
 
   -- ---- saturating lanes
-  like-narrowed : {a a' : Expr} (wide n : ℕ) (to : Saturate) → R a a' → R (Arith.narrowed c a wide n to) (Arith.narrowed c' a' wide n to)
-  like-narrowed wide n Never p = bits (n - 1) 0 (omega arith) p
-  like-narrowed wide n (Into to) p = like-clamp wide n to p
+  like-narrowed : {a a' : Expr} (wide n : ℕ) (to : Option SaturateTo) → R a a' → R (Arith.narrowed c a wide n to) (Arith.narrowed c' a' wide n to)
+  like-narrowed wide n None p = bits (n - 1) 0 (omega arith) p
+  like-narrowed wide n (Some to) p = like-clamp wide n to p
 
   like-negated : {a a' : Expr} (t : Bool) (wide : ℕ) → R a a' → R (negated t a wide) (negated t a' wide)
   like-negated true wide p = bv Sub (const 0 wide) p
@@ -117,11 +119,11 @@ module _ {R : Expr → Expr → Type 0} {c c' : Cutter} (k : Alike R c c') where
   unfolding saturating_shift_left
   like-saturating-left n s p q = ite (compare Eq (bv _ (bv Shl p q) q) p) (bv Shl p q) (like-bound n s p)
 
-  like-left-immediate : {a a' : Expr} (to : Saturate) (i n : ℕ) (s : Bool) → R a a' → R (Arith.left_immediate c to a i n s) (Arith.left_immediate c' to a' i n s)
-  like-left-immediate Never i n s p = bv Shl p (const i n)
-  like-left-immediate (Into Signed) i n s p = like-saturating-left n s p (const i n)
-  like-left-immediate (Into Unsigned) i n s p = like-saturating-left n s p (const i n)
-  like-left-immediate (Into SignedToUnsigned) i n s p = like-clamp _ n SignedToUnsigned (bv Shl (sext _ p) (const _ _))
+  like-left-immediate : {a a' : Expr} (to : Option SaturateTo) (i n : ℕ) (s : Bool) → R a a' → R (Arith.left_immediate c to a i n s) (Arith.left_immediate c' to a' i n s)
+  like-left-immediate None i n s p = bv Shl p (const i n)
+  like-left-immediate (Some Signed) i n s p = like-saturating-left n s p (const i n)
+  like-left-immediate (Some Unsigned) i n s p = like-saturating-left n s p (const i n)
+  like-left-immediate (Some SignedToUnsigned) i n s p = like-clamp _ n SignedToUnsigned (bv Shl (sext _ p) (const _ _))
 
   like_left : {a a' b b' : Expr} (t : Bool) (n : ℕ) (s : Bool) → R a a' → R b b' → R (left_by t a b n s) (left_by t a' b' n s)
   like_left true n s p q = like-saturating-left n s p q
@@ -182,11 +184,11 @@ module _ {R : Expr → Expr → Type 0} {c c' : Cutter} (k : Alike R c c') where
   unfolding Arith.doubling_product
   like-product n p q = like-clamp _ n Signed (like-twice _ p q)
 
-  like-combined : {d d' a a' : Expr} (t : Combine) (n : ℕ) → R d d' → R a a' → R (Arith.combined c t d a n) (Arith.combined c' t d' a' n)
-  like-combined Nothing n p q = q
-  like-combined (With op) n p q = like-clamp _ n Signed (like-joined op true true _ p q)
+  like-combined : {d d' a a' : Expr} (t : Option BinOp) (n : ℕ) → R d d' → R a a' → R (Arith.combined c t d a n) (Arith.combined c' t d' a' n)
+  like-combined None n p q = q
+  like-combined (Some op) n p q = like-clamp _ n Signed (like-joined op true true _ p q)
 
-  like-long : {d d' a a' b b' : Expr} (t : Combine) (n : ℕ) → R d d' → R a a' → R b b'
+  like-long : {d d' a a' b b' : Expr} (t : Option BinOp) (n : ℕ) → R d d' → R a a' → R b b'
       → R (Arith.doubling_long_lane c t d a b n) (Arith.doubling_long_lane c' t d' a' b' n)
   unfolding Arith.doubling_long_lane
   like-long t n o p q = like-combined t n o (like-product n p q)

@@ -8,16 +8,14 @@ pub use Rattle.terms.specs.declared.CmpOp.TheVariants.{Eq, Ult, Slt}
 use Rattle.terms.specs.Expr.{Expr, Const, Bv, Compare, Ite, Concat, ZeroExtend, SignExtend}
 pub use Rattle.trees.specs.declared.SaturateTo.{SaturateTo}
 pub use Rattle.trees.specs.declared.SaturateTo.TheVariants.{Signed, Unsigned, SignedToUnsigned}
-pub use Rattle.trees.specs.declared.Saturate.{Saturate}
-pub use Rattle.trees.specs.declared.Saturate.TheVariants.{Never, Into}
+use Rattle.std.specs.declared.option.Option.{Option}
+use Rattle.std.specs.declared.option.Option.TheVariants.{None, Some}
 pub use Rattle.trees.specs.declared.ShiftKind.{ShiftKind}
 pub use Rattle.trees.specs.declared.ShiftKind.TheVariants.{LeftImmediate, RightImmediate, Register}
 pub use Rattle.trees.specs.declared.SaturatingKind.{SaturatingKind}
 pub use Rattle.trees.specs.declared.SaturatingKind.TheVariants.{AddSub, Halving, Narrow, ShiftNarrow, DoublingMultiplyHigh, Unary}
 pub use Rattle.trees.specs.declared.BitwiseUnary.{BitwiseUnary}
 pub use Rattle.trees.specs.declared.BitwiseUnary.TheVariants.{PopulationCount, LeadingZeros, LeadingSignBits, ReverseBits}
-pub use Rattle.trees.specs.declared.Combine.{Combine}
-pub use Rattle.trees.specs.declared.Combine.TheVariants.{Nothing, With}
 use Rattle.trees.specs.Simd.{Cutter, extract_lane, concat_lanes}
 use Rattle.trees.specs.Lower.{extend, unsigned_max}
 
@@ -54,9 +52,9 @@ narrow_bits n = n * 2 + 1
 abbrev pub doubled_bits : ℕ → ℕ
 doubled_bits n = n * 2 + 1
 
-abbrev pub narrowed : Cutter → (value : Expr) (wide n : ℕ) → Saturate → Expr
-narrowed cut value wide n Never = cut.bits value (n - 1) 0
-narrowed cut value wide n (Into to) = clamp cut value wide n to
+abbrev pub narrowed : Cutter → (value : Expr) (wide n : ℕ) → Option SaturateTo → Expr
+narrowed cut value wide n None = cut.bits value (n - 1) 0
+narrowed cut value wide n (Some to) = clamp cut value wide n to
 
 abbrev pub negated : Bool → Expr → ℕ → Expr
 negated negate value wide = let minus = Bv Sub (Const 0 wide) value in cond negate minus (Ite (Compare Slt value (Const 0 wide)) minus value)
@@ -94,13 +92,13 @@ exact_bits (ShiftNarrow shift rounding to) n = narrow_bits n
 exact_bits (DoublingMultiplyHigh rounding) n = doubled_bits n
 exact_bits (Unary negate) n = n + 1
 
-abbrev pub kind_to : SaturatingKind → Saturate
-kind_to (AddSub op to) = Into to
-kind_to (Halving rounding) = Never
-kind_to (Narrow to) = Into to
+abbrev pub kind_to : SaturatingKind → Option SaturateTo
+kind_to (AddSub op to) = Some to
+kind_to (Halving rounding) = None
+kind_to (Narrow to) = Some to
 kind_to (ShiftNarrow shift rounding to) = to
-kind_to (DoublingMultiplyHigh rounding) = Into Signed
-kind_to (Unary negate) = Into Signed
+kind_to (DoublingMultiplyHigh rounding) = Some Signed
+kind_to (Unary negate) = Some Signed
 
 -- `saturating_lane`
 unfoldable pub saturating_lane : Cutter → SaturatingKind → (a b : Expr) (n : ℕ) (signed : Bool) → Expr
@@ -132,11 +130,11 @@ abbrev pub register_shift_max : ℕ
 register_shift_max = 128
 
 -- SQSHLU is computed with room for the exact product and one bit for its sign
-abbrev pub left_immediate : Cutter → (saturate : Saturate) (value : Expr) (shift n : ℕ) (signed : Bool) → Expr
-left_immediate cut Never value shift n signed = Bv Shl value (Const shift n)
-left_immediate cut (Into Signed) value shift n signed = saturating_shift_left value (Const shift n) n signed
-left_immediate cut (Into Unsigned) value shift n signed = saturating_shift_left value (Const shift n) n signed
-left_immediate cut (Into SignedToUnsigned) value shift n signed =
+abbrev pub left_immediate : Cutter → (saturate : Option SaturateTo) (value : Expr) (shift n : ℕ) (signed : Bool) → Expr
+left_immediate cut None value shift n signed = Bv Shl value (Const shift n)
+left_immediate cut (Some Signed) value shift n signed = saturating_shift_left value (Const shift n) n signed
+left_immediate cut (Some Unsigned) value shift n signed = saturating_shift_left value (Const shift n) n signed
+left_immediate cut (Some SignedToUnsigned) value shift n signed =
     let wide = n + shift + 1 in
     clamp cut (scaled value shift wide) wide n SignedToUnsigned
 
@@ -207,11 +205,11 @@ unfoldable pub doubling_product : Cutter → (a b : Expr) (n : ℕ) → Expr
 doubling_product cut a b n = clamp cut (twice a b (n + 1)) (n + 1) n Signed
 
 -- a product joined to d, under a second clamp
-abbrev pub combined : Cutter → Combine → (d product : Expr) (n : ℕ) → Expr
-combined cut Nothing d product n = product
-combined cut (With op) d product n = clamp cut (joined op d true product true (n + 1)) (n + 1) n Signed
+abbrev pub combined : Cutter → Option BinOp → (d product : Expr) (n : ℕ) → Expr
+combined cut None d product n = product
+combined cut (Some op) d product n = clamp cut (joined op d true product true (n + 1)) (n + 1) n Signed
 
-unfoldable pub doubling_long_lane : Cutter → Combine → (d a b : Expr) (n : ℕ) → Expr
+unfoldable pub doubling_long_lane : Cutter → Option BinOp → (d a b : Expr) (n : ℕ) → Expr
 doubling_long_lane cut combine d a b n = combined cut combine d (doubling_product cut a b n) n
 
 abbrev pub accumulated : Bool → Expr → Expr → Expr
@@ -245,10 +243,10 @@ abbrev pub source_lane : Bool → ℕ → ℕ → ℕ
 source_lane upper k j = cond upper (j + k) j
 
 -- b is the lane of the second source, or its element
-abbrev pub doubling_at : Cutter → Combine → (upper : Bool) (n k : ℕ) (d a b : Expr) → ℕ → Expr
+abbrev pub doubling_at : Cutter → Option BinOp → (upper : Bool) (n k : ℕ) (d a b : Expr) → ℕ → Expr
 doubling_at cut combine upper n k d a b j = doubling_long_lane cut combine (extract_lane cut d n j) (extract_lane cut a (n / 2) (source_lane upper k j)) b n
 
-unfoldable pub doubling_long_lanes : Cutter → Combine → (upper by_element : Bool) (i : ℕ) (first second d : Expr) (n k : ℕ) → Expr
+unfoldable pub doubling_long_lanes : Cutter → Option BinOp → (upper by_element : Bool) (i : ℕ) (first second d : Expr) (n k : ℕ) → Expr
 doubling_long_lanes cut combine upper by_element i first second d n k =
     concat_lanes (k - 1) λ j. doubling_at cut combine upper n k d first (extract_lane cut second (n / 2) (cond by_element i (source_lane upper k j))) j
 

@@ -1,4 +1,5 @@
 -- The Rust's arguments for each operation (document 01, "Forms"), and `neon_value` of neon/lower.rs, which builds its term.
+use Rattle.std.specs.declared.option.Option.TheVariants.{None, Some}
 use Rattle.std.specs.Prelude.{Bool, true, false, ℕ}
 use Rattle.terms.specs.Expr.{Expr}
 use Rattle.neon.specs.Op.{Op, Arrangement, bits_of_lane, full}
@@ -7,17 +8,17 @@ use Rattle.trees.specs.declared.NeonOp.{NeonOp}
 use Rattle.trees.specs.declared.NeonOp.TheVariants.{Shift, ShiftInsert, MixedSignAdd, DoublingLong, Saturating, BitwiseUnary, AbsoluteDifference, HighNarrow}
 use Rattle.trees.specs.declared.NeonShape.{NeonShape}
 use Rattle.trees.specs.Simd.{Cutter}
-use Rattle.trees.specs.Arith.{Add, Sub, Signed, Unsigned, SignedToUnsigned, Never, Into, LeftImmediate, RightImmediate, Register, AddSub, Halving, Narrow, ShiftNarrow, DoublingMultiplyHigh}
-use Rattle.trees.specs.Arith.{Unary, PopulationCount, LeadingZeros, LeadingSignBits, ReverseBits, Nothing, With, shift_lanes, shift_insert_lanes, mixed_sign_add_lanes, doubling_long_lanes}
+use Rattle.trees.specs.Arith.{Add, Sub, Signed, Unsigned, SignedToUnsigned, LeftImmediate, RightImmediate, Register, AddSub, Halving, Narrow, ShiftNarrow, DoublingMultiplyHigh}
+use Rattle.trees.specs.Arith.{Unary, PopulationCount, LeadingZeros, LeadingSignBits, ReverseBits, shift_lanes, shift_insert_lanes, mixed_sign_add_lanes, doubling_long_lanes}
 use Rattle.trees.specs.Arith.{saturating_lanes, bitwise_unary_lanes, absolute_difference_lanes}
 use Rattle.trees.specs.Width.{high_narrow_lanes}
 
 -- i is the immediate; `upper` is that of a narrowing 2 form
 abbrev pub neon_op : Op → ℕ → Bool → NeonOp
-neon_op Op.SHL i upper = Shift (LeftImmediate i Never) false
-neon_op Op.SQSHLI i upper = Shift (LeftImmediate i (Into Signed)) true
-neon_op Op.UQSHLI i upper = Shift (LeftImmediate i (Into Unsigned)) false
-neon_op Op.SQSHLU i upper = Shift (LeftImmediate i (Into SignedToUnsigned)) true
+neon_op Op.SHL i upper = Shift (LeftImmediate i None) false
+neon_op Op.SQSHLI i upper = Shift (LeftImmediate i (Some Signed)) true
+neon_op Op.UQSHLI i upper = Shift (LeftImmediate i (Some Unsigned)) false
+neon_op Op.SQSHLU i upper = Shift (LeftImmediate i (Some SignedToUnsigned)) true
 neon_op Op.SSHR i upper = Shift (RightImmediate i false) true
 neon_op Op.USHR i upper = Shift (RightImmediate i false) false
 neon_op Op.SRSHR i upper = Shift (RightImmediate i true) true
@@ -43,30 +44,30 @@ neon_op Op.URHADD i upper = Saturating (Halving true) false false
 neon_op Op.SQXTN i upper = Saturating (Narrow Signed) true upper
 neon_op Op.UQXTN i upper = Saturating (Narrow Unsigned) false upper
 neon_op Op.SQXTUN i upper = Saturating (Narrow SignedToUnsigned) true upper
-neon_op Op.SHRN i upper = Saturating (ShiftNarrow i false Never) false upper
-neon_op Op.RSHRN i upper = Saturating (ShiftNarrow i true Never) false upper
-neon_op Op.SQSHRN i upper = Saturating (ShiftNarrow i false (Into Signed)) true upper
-neon_op Op.SQRSHRN i upper = Saturating (ShiftNarrow i true (Into Signed)) true upper
-neon_op Op.UQSHRN i upper = Saturating (ShiftNarrow i false (Into Unsigned)) false upper
-neon_op Op.UQRSHRN i upper = Saturating (ShiftNarrow i true (Into Unsigned)) false upper
-neon_op Op.SQSHRUN i upper = Saturating (ShiftNarrow i false (Into SignedToUnsigned)) true upper
-neon_op Op.SQRSHRUN i upper = Saturating (ShiftNarrow i true (Into SignedToUnsigned)) true upper
+neon_op Op.SHRN i upper = Saturating (ShiftNarrow i false None) false upper
+neon_op Op.RSHRN i upper = Saturating (ShiftNarrow i true None) false upper
+neon_op Op.SQSHRN i upper = Saturating (ShiftNarrow i false (Some Signed)) true upper
+neon_op Op.SQRSHRN i upper = Saturating (ShiftNarrow i true (Some Signed)) true upper
+neon_op Op.UQSHRN i upper = Saturating (ShiftNarrow i false (Some Unsigned)) false upper
+neon_op Op.UQRSHRN i upper = Saturating (ShiftNarrow i true (Some Unsigned)) false upper
+neon_op Op.SQSHRUN i upper = Saturating (ShiftNarrow i false (Some SignedToUnsigned)) true upper
+neon_op Op.SQRSHRUN i upper = Saturating (ShiftNarrow i true (Some SignedToUnsigned)) true upper
 neon_op Op.SQABS i upper = Saturating (Unary false) true false
 neon_op Op.SQNEG i upper = Saturating (Unary true) true false
 neon_op Op.SQDMULH i upper = Saturating (DoublingMultiplyHigh false) true false
 neon_op Op.SQRDMULH i upper = Saturating (DoublingMultiplyHigh true) true false
-neon_op Op.SQDMULL i upper = DoublingLong Nothing false false
-neon_op Op.SQDMLAL i upper = DoublingLong (With Add) false false
-neon_op Op.SQDMLSL i upper = DoublingLong (With Sub) false false
-neon_op Op.SQDMULL2 i upper = DoublingLong Nothing true false
-neon_op Op.SQDMLAL2 i upper = DoublingLong (With Add) true false
-neon_op Op.SQDMLSL2 i upper = DoublingLong (With Sub) true false
-neon_op Op.SQDMULLE i upper = DoublingLong Nothing false true
-neon_op Op.SQDMLALE i upper = DoublingLong (With Add) false true
-neon_op Op.SQDMLSLE i upper = DoublingLong (With Sub) false true
-neon_op Op.SQDMULL2E i upper = DoublingLong Nothing true true
-neon_op Op.SQDMLAL2E i upper = DoublingLong (With Add) true true
-neon_op Op.SQDMLSL2E i upper = DoublingLong (With Sub) true true
+neon_op Op.SQDMULL i upper = DoublingLong None false false
+neon_op Op.SQDMLAL i upper = DoublingLong (Some Add) false false
+neon_op Op.SQDMLSL i upper = DoublingLong (Some Sub) false false
+neon_op Op.SQDMULL2 i upper = DoublingLong None true false
+neon_op Op.SQDMLAL2 i upper = DoublingLong (Some Add) true false
+neon_op Op.SQDMLSL2 i upper = DoublingLong (Some Sub) true false
+neon_op Op.SQDMULLE i upper = DoublingLong None false true
+neon_op Op.SQDMLALE i upper = DoublingLong (Some Add) false true
+neon_op Op.SQDMLSLE i upper = DoublingLong (Some Sub) false true
+neon_op Op.SQDMULL2E i upper = DoublingLong None true true
+neon_op Op.SQDMLAL2E i upper = DoublingLong (Some Add) true true
+neon_op Op.SQDMLSL2E i upper = DoublingLong (Some Sub) true true
 neon_op Op.SUQADD i upper = MixedSignAdd true
 neon_op Op.USQADD i upper = MixedSignAdd false
 neon_op Op.SABD i upper = AbsoluteDifference true false

@@ -1,5 +1,7 @@
 -- The trees of this port: the Rust's functions with the cutter that joins (document 02, S-8). Contracts and theorems speak of these; the definitions
 -- are in Simd, Arith, Width, Neon and Block under the same names. The Rust's own trees are in Rust.antt.
+use Rattle.std.specs.declared.option.Option.{Option}
+use Rattle.terms.specs.declared.BinOp.{BinOp}
 use Rattle.std.specs.Prelude.{Bool, List, ℕ}
 use Rattle.terms.specs.Expr.{Expr}
 use Rattle.neon.specs.declared.Instruction.{Instruction}
@@ -7,7 +9,7 @@ use Rattle.neon.specs.Op.{Op, Arrangement}
 use Rattle.trees.specs.declared.NeonOp.{NeonOp}
 use Rattle.trees.specs.declared.NeonShape.{NeonShape}
 use Rattle.trees.specs.Simd.{joining}
-use Rattle.trees.specs.Arith.{SaturateTo, Saturate, ShiftKind, SaturatingKind, BitwiseUnary, Combine}
+use Rattle.trees.specs.Arith.{SaturateTo, ShiftKind, SaturatingKind, BitwiseUnary}
 use Rattle.trees.specs.Simd as Simd
 use Rattle.trees.specs.Arith as Arith
 use Rattle.trees.specs.Width as Width
@@ -24,7 +26,7 @@ extract_lane = Simd.extract_lane joining
 abbrev pub clamp : (value : Expr) (wide n : ℕ) → SaturateTo → Expr
 clamp = Arith.clamp joining
 
-abbrev pub narrowed : (value : Expr) (wide n : ℕ) → Saturate → Expr
+abbrev pub narrowed : (value : Expr) (wide n : ℕ) → Option SaturateTo → Expr
 narrowed = Arith.narrowed joining
 
 abbrev pub saturating_lane : SaturatingKind → (a b : Expr) (n : ℕ) (signed : Bool) → Expr
@@ -33,7 +35,7 @@ saturating_lane = Arith.saturating_lane joining
 abbrev pub shift_right : (value amount : Expr) (n : ℕ) (signed rounding : Bool) (most : ℕ) → Expr
 shift_right = Arith.shift_right joining
 
-abbrev pub left_immediate : (saturate : Saturate) (value : Expr) (shift n : ℕ) (signed : Bool) → Expr
+abbrev pub left_immediate : (saturate : Option SaturateTo) (value : Expr) (shift n : ℕ) (signed : Bool) → Expr
 left_immediate = Arith.left_immediate joining
 
 abbrev pub signed_amount : Expr → ℕ → Expr
@@ -66,10 +68,10 @@ mixed_sign_add_lane = Arith.mixed_sign_add_lane joining
 abbrev pub doubling_product : (a b : Expr) (n : ℕ) → Expr
 doubling_product = Arith.doubling_product joining
 
-abbrev pub combined : Combine → (d product : Expr) (n : ℕ) → Expr
+abbrev pub combined : Option BinOp → (d product : Expr) (n : ℕ) → Expr
 combined = Arith.combined joining
 
-abbrev pub doubling_long_lane : Combine → (d a b : Expr) (n : ℕ) → Expr
+abbrev pub doubling_long_lane : Option BinOp → (d a b : Expr) (n : ℕ) → Expr
 doubling_long_lane = Arith.doubling_long_lane joining
 
 abbrev pub shift_at : ShiftKind → (signed : Bool) (n : ℕ) (a b : Expr) → ℕ → Expr
@@ -90,10 +92,10 @@ mixed_at = Arith.mixed_at joining
 abbrev pub mixed_sign_add_lanes : (signed : Bool) (first d : Expr) (n k : ℕ) → Expr
 mixed_sign_add_lanes = Arith.mixed_sign_add_lanes joining
 
-abbrev pub doubling_at : Combine → (upper : Bool) (n k : ℕ) (d a b : Expr) → ℕ → Expr
+abbrev pub doubling_at : Option BinOp → (upper : Bool) (n k : ℕ) (d a b : Expr) → ℕ → Expr
 doubling_at = Arith.doubling_at joining
 
-abbrev pub doubling_long_lanes : Combine → (upper by_element : Bool) (i : ℕ) (first second d : Expr) (n k : ℕ) → Expr
+abbrev pub doubling_long_lanes : Option BinOp → (upper by_element : Bool) (i : ℕ) (first second d : Expr) (n k : ℕ) → Expr
 doubling_long_lanes = Arith.doubling_long_lanes joining
 
 abbrev pub saturating_at : SaturatingKind → (signed : Bool) (n : ℕ) (a b : Expr) → ℕ → Expr

@@ -13,19 +13,21 @@ pub enum SaturateTo {
     SignedToUnsigned,
 }
 
-// The Rust's Option<SaturateTo>: bits that do not fit are dropped, or the value is clamped.
-#[derive(Clone, Copy)]
-pub enum Saturate {
-    Never,
-    Into(SaturateTo),
-}
-
 // The shifts whose source and destination lanes have one width.
 #[derive(Clone, Copy)]
 pub enum ShiftKind {
-    LeftImmediate { shift: u64, saturate: Saturate },
-    RightImmediate { shift: u64, rounding: bool },
-    Register { rounding: bool, saturate: bool },
+    LeftImmediate {
+        shift: u64,
+        saturate: Option<SaturateTo>,
+    },
+    RightImmediate {
+        shift: u64,
+        rounding: bool,
+    },
+    Register {
+        rounding: bool,
+        saturate: bool,
+    },
 }
 
 // The saturating, halving and narrowing lane operations.
@@ -44,7 +46,7 @@ pub enum SaturatingKind {
     ShiftNarrow {
         shift: u64,
         rounding: bool,
-        to: Saturate,
+        to: Option<SaturateTo>,
     },
     DoublingMultiplyHigh {
         rounding: bool,
@@ -63,13 +65,6 @@ pub enum BitwiseUnary {
     ReverseBits,
 }
 
-// The Rust's Option<BinOp>: what joins a doubled product to the old destination.
-#[derive(Clone, Copy)]
-pub enum Combine {
-    Nothing,
-    With(BinOp),
-}
-
 // The families, each with its arguments. The Rust's AbsDiffKind has a float kind too, which is left aside, so its integer
 // kind is given here by its two flags.
 #[derive(Clone, Copy)]
@@ -86,7 +81,7 @@ pub enum NeonOp {
         destination_signed: bool,
     },
     DoublingLong {
-        combine: Combine,
+        combine: Option<BinOp>,
         upper: bool,
         by_element: bool,
     },

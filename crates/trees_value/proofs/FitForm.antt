@@ -16,7 +16,7 @@ use Rattle.neon.specs.Refusal.{Legal, AllLegal}
 use Rattle.neon.proofs.Geometry.{sized, source-some, filled, made-max, made-view, inside, first_in, second_in}
 use Rattle.neon.proofs.Legal.{accepted, m-le}
 use Rattle.trees.specs.declared.SaturateTo.TheVariants.{Signed, Unsigned, SignedToUnsigned}
-use Rattle.trees.specs.declared.Saturate.TheVariants.{Never, Into}
+use Rattle.std.specs.declared.option.Option.TheVariants.{None, Some}
 use Rattle.trees.specs.Simd.{concat_lanes}
 use Rattle.trees.specs.Neon.{neon_op}
 use Rattle.trees.specs.Block.{widen_tree}
@@ -61,14 +61,14 @@ fit_lane Op.URHADD n i d a b h8 h64 l h o p q u = fit-halving n h8 h64 true fals
 fit_lane Op.SQXTN n i d a b h8 h64 l h o p q u = fit-narrow n h8 h64 Signed true b p
 fit_lane Op.UQXTN n i d a b h8 h64 l h o p q u = fit-narrow n h8 h64 Unsigned false b p
 fit_lane Op.SQXTUN n i d a b h8 h64 l h o p q u = fit-narrow n h8 h64 SignedToUnsigned true b p
-fit_lane Op.SHRN n i d a b h8 h64 l h o p q u = fit-shift-narrow n h8 h64 i false Never false b h p
-fit_lane Op.RSHRN n i d a b h8 h64 l h o p q u = fit-shift-narrow n h8 h64 i true Never false b h p
-fit_lane Op.SQSHRN n i d a b h8 h64 l h o p q u = fit-shift-narrow n h8 h64 i false (Into Signed) true b h p
-fit_lane Op.SQRSHRN n i d a b h8 h64 l h o p q u = fit-shift-narrow n h8 h64 i true (Into Signed) true b h p
-fit_lane Op.UQSHRN n i d a b h8 h64 l h o p q u = fit-shift-narrow n h8 h64 i false (Into Unsigned) false b h p
-fit_lane Op.UQRSHRN n i d a b h8 h64 l h o p q u = fit-shift-narrow n h8 h64 i true (Into Unsigned) false b h p
-fit_lane Op.SQSHRUN n i d a b h8 h64 l h o p q u = fit-shift-narrow n h8 h64 i false (Into SignedToUnsigned) true b h p
-fit_lane Op.SQRSHRUN n i d a b h8 h64 l h o p q u = fit-shift-narrow n h8 h64 i true (Into SignedToUnsigned) true b h p
+fit_lane Op.SHRN n i d a b h8 h64 l h o p q u = fit-shift-narrow n h8 h64 i false None false b h p
+fit_lane Op.RSHRN n i d a b h8 h64 l h o p q u = fit-shift-narrow n h8 h64 i true None false b h p
+fit_lane Op.SQSHRN n i d a b h8 h64 l h o p q u = fit-shift-narrow n h8 h64 i false (Some Signed) true b h p
+fit_lane Op.SQRSHRN n i d a b h8 h64 l h o p q u = fit-shift-narrow n h8 h64 i true (Some Signed) true b h p
+fit_lane Op.UQSHRN n i d a b h8 h64 l h o p q u = fit-shift-narrow n h8 h64 i false (Some Unsigned) false b h p
+fit_lane Op.UQRSHRN n i d a b h8 h64 l h o p q u = fit-shift-narrow n h8 h64 i true (Some Unsigned) false b h p
+fit_lane Op.SQSHRUN n i d a b h8 h64 l h o p q u = fit-shift-narrow n h8 h64 i false (Some SignedToUnsigned) true b h p
+fit_lane Op.SQRSHRUN n i d a b h8 h64 l h o p q u = fit-shift-narrow n h8 h64 i true (Some SignedToUnsigned) true b h p
 fit_lane Op.SQABS n i d a b h8 h64 l h o p q u = fit-unary n h8 h64 false true b p
 fit_lane Op.SQNEG n i d a b h8 h64 l h o p q u = fit-unary n h8 h64 true true b p
 fit_lane Op.SQDMULH n i d a b h8 h64 l h o p q u = fit-dmulh n h8 h64 false true p q

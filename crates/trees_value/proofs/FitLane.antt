@@ -19,12 +19,11 @@ use Rattle.trees.specs.Arith as Arith
 use Rattle.trees.specs.Width as Width
 use Rattle.trees.specs.declared.SaturateTo.TheVariants.{Signed, SignedToUnsigned}
 use Rattle.trees.specs.declared.SaturateTo.{SaturateTo}
-use Rattle.trees.specs.declared.Saturate.TheVariants.{Never, Into}
-use Rattle.trees.specs.declared.Saturate.{Saturate}
+use Rattle.std.specs.declared.option.Option.{Option}
+use Rattle.std.specs.declared.option.Option.TheVariants.{None, Some}
 use Rattle.trees.specs.declared.ShiftKind.TheVariants.{Register}
 use Rattle.trees.specs.declared.SaturatingKind.TheVariants.{AddSub, Halving, Narrow, ShiftNarrow, DoublingMultiplyHigh, Unary}
 use Rattle.trees.specs.declared.BitwiseUnary.TheVariants.{LeadingSignBits, ReverseBits}
-use Rattle.trees.specs.declared.Combine.TheVariants.{With}
 use Rattle.trees_value.proofs.Wrap.{half}
 use Rattle.trees_value.proofs.Fit.{Fit, test, fit-as, fit-const, fit-bv, fit-ite, fit-extract, fit_cut, fit-zext, fit-sext, fit-extend, fit-shift, fit-plus, fit-clamp, fit-concat-lanes}
 
@@ -53,11 +52,11 @@ module _ (n : ℕ) (h8 : 8 ≤ n) (h64 : n ≤ 64) where
   unfolding Arith.saturating_lane
   fit-narrow to s b p = fit-clamp to n hn (omega arith) (omega arith) p
 
-  fit_narrowed : (to : Saturate) {v : Expr} → Fit v (n * 2 + 1) → Fit (narrowed v (n * 2 + 1) n to) n
-  fit_narrowed Never p = fit_cut n hn (omega arith) p
-  fit_narrowed (Into to) p = fit-clamp to n hn (omega arith) (omega arith) p
+  fit_narrowed : (to : Option SaturateTo) {v : Expr} → Fit v (n * 2 + 1) → Fit (narrowed v (n * 2 + 1) n to) n
+  fit_narrowed None p = fit_cut n hn (omega arith) p
+  fit_narrowed (Some to) p = fit-clamp to n hn (omega arith) (omega arith) p
 
-  pub fit-shift-narrow : (i : ℕ) (t : Bool) (to : Saturate) (s : Bool) {a : Expr} (b : Expr) → i ≤ n → Fit a (n * 2) → Fit (saturating_lane (ShiftNarrow i t to) a b n s) n
+  pub fit-shift-narrow : (i : ℕ) (t : Bool) (to : Option SaturateTo) (s : Bool) {a : Expr} (b : Expr) → i ≤ n → Fit a (n * 2) → Fit (saturating_lane (ShiftNarrow i t to) a b n s) n
   unfolding Arith.saturating_lane
   fit-shift-narrow i t to s b h p =
       fit_narrowed to
@@ -129,7 +128,7 @@ module _ (n : ℕ) (h8 : 8 ≤ n) (h64 : n ≤ 64) where
   pub fit-imm : (i : ℕ) → i ≤ n → Fit (Const i n) n
   fit-imm i h = fit-const i n hn (omega arith) (small i n h (omega arith))
 
-  pub fit-sqshlu : (i : ℕ) {v : Expr} → i < n → Fit v n → Fit (left_immediate (Into SignedToUnsigned) v i n true) n
+  pub fit-sqshlu : (i : ℕ) {v : Expr} → i < n → Fit v n → Fit (left_immediate (Some SignedToUnsigned) v i n true) n
   fit-sqshlu i h p =
       fit-clamp SignedToUnsigned n hn (omega arith) (omega arith)
       (fit-bv Shl (fit-sext (n + i + 1) (omega arith) (omega arith) p) (fit-const i (n + i + 1) (omega arith) (omega arith) (small i (n + i + 1) (omega arith) (omega arith))))
@@ -175,7 +174,7 @@ module _ (n : ℕ) (h8 : 8 ≤ n) (h64 : n ≤ 64) where
       (fit-bv Shl (fit-bv Mul (fit-sext (n + 1) (omega arith) (omega arith) p) (fit-sext (n + 1) (omega arith) (omega arith) q))
       (fit-const 1 (n + 1) (omega arith) (omega arith) (small 1 (n + 1) (omega arith) (omega arith))))
 
-  pub fit-combined : (op : BinOp) {d a b : Expr} → Fit d n → Fit a (n / 2) → Fit b (n / 2) → Fit (doubling_long_lane (With op) d a b n) n
+  pub fit-combined : (op : BinOp) {d a b : Expr} → Fit d n → Fit a (n / 2) → Fit b (n / 2) → Fit (doubling_long_lane (Some op) d a b n) n
   unfolding Arith.doubling_long_lane
   fit-combined op o p q =
       fit-clamp Signed n hn (omega arith) (omega arith)

@@ -11,7 +11,7 @@ use Rattle.neon.specs.Arm.{S, c_s, bit_at, doubled, arm_lane}
 use Rattle.neon.specs.Form.{form, least, most, source_bits}
 use Rattle.trees.specs.declared.NeonOp.{NeonOp}
 use Rattle.trees.specs.declared.NeonOp.TheVariants.{Shift, ShiftInsert, MixedSignAdd, DoublingLong, Saturating, BitwiseUnary, AbsoluteDifference, HighNarrow}
-use Rattle.trees.specs.declared.Combine.TheVariants.{With}
+use Rattle.std.specs.declared.option.Option.TheVariants.{Some}
 use Rattle.trees.specs.Arith.{shift_insert_lane, accumulated, absolute_difference_lane}
 use Rattle.trees.specs.Neon.{neon_op}
 use Rattle.trees.specs.Trees.{shift_lane, mixed_sign_add_lane, doubling_product, doubling_long_lane, saturating_lane, bitwise_unary_lane, high_narrow_lane}
@@ -101,10 +101,10 @@ module _ (r : ℕ → ℕ) (n i : ℕ) (d a b : Expr) (w x y : ℕ) (h8 : 8 ≤ 
       subst (λ (m : ℕ). Is r (doubling_product a b m) m (c_s m (S (n / 2) x *ℤ S (n / 2) y *ℤ pos 2))) even
       (is-dmull r a b (n / 2) (S (n / 2) x) (S (n / 2) y) (omega arith) g.sx g.sy g.qa g.qb)
 
-  long-combined : (subtract : Bool) → Sources r a b x y (n / 2) → Is r (doubling_long_lane (With (cond subtract Sub Add)) d a b n) n (c_s n (apply_z subtract (S n w) (doubled n x y)))
+  long-combined : (subtract : Bool) → Sources r a b x y (n / 2) → Is r (doubling_long_lane (Some (cond subtract Sub Add)) d a b n) n (c_s n (apply_z subtract (S n w) (doubled n x y)))
   long-combined subtract g =
       subst (λ (m : ℕ). FitsS m (S n w) → Is r d m (S n w)
-      → Is r (doubling_long_lane (With (cond subtract Sub Add)) d a b m) m (c_s m (apply_z subtract (S n w) (c_s m (S (n / 2) x *ℤ S (n / 2) y *ℤ pos 2))))) even
+      → Is r (doubling_long_lane (Some (cond subtract Sub Add)) d a b m) m (c_s m (apply_z subtract (S n w) (c_s m (S (n / 2) x *ℤ S (n / 2) y *ℤ pos 2))))) even
       (is-dmlal r a b (n / 2) (S (n / 2) x) (S (n / 2) y) (omega arith) g.sx g.sy g.qa g.qb subtract d (S n w)) sw qd
 
   pub lane-is : (o : Op) → least o ≤ i → i ≤ most o n → Sources r a b x y (source_bits (form o).lanes n) → (upper : Bool) → Has r (lane_tree (neon_op o i upper) n d a b) n (arm_lane o n i w x y)

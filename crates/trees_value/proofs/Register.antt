@@ -18,7 +18,7 @@ use Rattle.trees.specs.Arith.{shift_by, scaled, saturating_shift_left, register_
 use Rattle.trees.specs.Trees.{shift_right, left_immediate, signed_amount, shift_lane}
 use Rattle.trees.specs.Arith as Arith
 use Rattle.trees.specs.declared.SaturateTo.TheVariants.{SignedToUnsigned}
-use Rattle.trees.specs.declared.Saturate.TheVariants.{Never, Into}
+use Rattle.std.specs.declared.option.Option.TheVariants.{None, Some}
 use Rattle.trees.specs.declared.ShiftKind.TheVariants.{Register}
 use Rattle.trees_value.specs.Fits.{up, dn, FitsS, Fits}
 use Rattle.trees_value.proofs.Z.{sum, Floor, floored, ge-is}
@@ -181,7 +181,7 @@ module _ (r : ℕ → ℕ) (rounding saturate s : Bool) (v raw : Expr) (n : ℕ)
 
 -- ---- the immediate forms
 module _ (r : ℕ → ℕ) (s : Bool) (v : Expr) (n i : ℕ) (x : ℤ) (hn : 0 < n) (f : Fits s n x) (p : Is r v n x) where
-  pub is-shl-immediate : Is r (left_immediate Never v i n s) n (scale x i)
+  pub is-shl-immediate : Is r (left_immediate None v i n s) n (scale x i)
   is-shl-immediate = is-shl r p (by-const r i n)
 
   pub is-sqshl-immediate : Is r (saturating_shift_left v (Const i n) n s) n (clamp_to s n (scale x i))
@@ -203,5 +203,5 @@ module _ (r : ℕ → ℕ) (v : Expr) (n i : ℕ) (x : ℤ) (hn : 0 < n) (f : Fi
   pub is-scaled : Is r (scaled v i (n + i + 1)) (n + i + 1) (scale x i)
   is-scaled = is-shl r (is-sext r hn (omega arith) f p) (by-const r i (n + i + 1))
 
-  pub is-sqshlu : Is r (left_immediate (Into SignedToUnsigned) v i n true) n (c_u n (scale x i))
+  pub is-sqshlu : Is r (left_immediate (Some SignedToUnsigned) v i n true) n (c_u n (scale x i))
   is-sqshlu = is-clamp_su r hn (omega arith) exact-fits is-scaled

@@ -15,9 +15,8 @@ use Rattle.trees.specs.Arith.{plus_if, joined, twice, shifted, exact_lane}
 use Rattle.trees.specs.Trees.{saturating_lane, mixed_sign_add_lane, doubling_product, doubling_long_lane}
 use Rattle.trees.specs.Arith as Arith
 use Rattle.trees.specs.declared.SaturateTo.TheVariants.{Signed, Unsigned, SignedToUnsigned}
-use Rattle.trees.specs.declared.Saturate.TheVariants.{Never, Into}
+use Rattle.std.specs.declared.option.Option.TheVariants.{None, Some}
 use Rattle.trees.specs.declared.SaturatingKind.TheVariants.{AddSub, Halving, Narrow, ShiftNarrow, DoublingMultiplyHigh, Unary}
-use Rattle.trees.specs.declared.Combine.TheVariants.{With}
 use Rattle.trees_value.specs.Fits.{up, dn, FitsS, FitsU, Fits}
 use Rattle.trees_value.proofs.Z.{sum, less, times, neg-up, neg-dn, ge-is}
 use Rattle.trees_value.proofs.Wrap.{half}
@@ -256,22 +255,22 @@ module _ (r : ℕ → ℕ) where
           (by-const r i (n * 2 + 1))
 
     pub is-shrn : (s rounding : Bool) (i : ℕ) → Fits s (n * 2) x → 0 < i → i ≤ n
-        → Is r (saturating_lane (ShiftNarrow i rounding Never) a b n s) n (floor (plus rounding x (2 ^ (i - 1))) i)
+        → Is r (saturating_lane (ShiftNarrow i rounding None) a b n s) n (floor (plus rounding x (2 ^ (i - 1))) i)
     unfolding Arith.saturating_lane
     is-shrn s rounding i f hi h = is_cut r hn (omega arith) (is-shifted s rounding i f hi h)
 
     pub is-sqshrn : (rounding : Bool) (i : ℕ) → FitsS (n * 2) x → 0 < i → i ≤ n
-        → Is r (saturating_lane (ShiftNarrow i rounding (Into Signed)) a b n true) n (c_s n (floor (plus rounding x (2 ^ (i - 1))) i))
+        → Is r (saturating_lane (ShiftNarrow i rounding (Some Signed)) a b n true) n (c_s n (floor (plus rounding x (2 ^ (i - 1))) i))
     unfolding Arith.saturating_lane
     is-sqshrn rounding i f hi h = is-clamp_s r hn (omega arith) (narrow-fits true rounding i f hi h) (is-shifted true rounding i f hi h)
 
     pub is-uqshrn : (rounding : Bool) (i : ℕ) → FitsU (n * 2) x → 0 < i → i ≤ n
-        → Is r (saturating_lane (ShiftNarrow i rounding (Into Unsigned)) a b n false) n (c_u n (floor (plus rounding x (2 ^ (i - 1))) i))
+        → Is r (saturating_lane (ShiftNarrow i rounding (Some Unsigned)) a b n false) n (c_u n (floor (plus rounding x (2 ^ (i - 1))) i))
     unfolding Arith.saturating_lane
     is-uqshrn rounding i f hi h = is-clamp_u r hn (omega arith) (narrow-fits false rounding i f hi h) (is-shifted false rounding i f hi h)
 
     pub is-sqshrun : (rounding : Bool) (i : ℕ) → FitsS (n * 2) x → 0 < i → i ≤ n
-        → Is r (saturating_lane (ShiftNarrow i rounding (Into SignedToUnsigned)) a b n true) n (c_u n (floor (plus rounding x (2 ^ (i - 1))) i))
+        → Is r (saturating_lane (ShiftNarrow i rounding (Some SignedToUnsigned)) a b n true) n (c_u n (floor (plus rounding x (2 ^ (i - 1))) i))
     unfolding Arith.saturating_lane
     is-sqshrun rounding i f hi h = is-clamp_su r hn (omega arith) (narrow-fits true rounding i f hi h) (is-shifted true rounding i f hi h)
 
@@ -282,7 +281,7 @@ module _ (r : ℕ → ℕ) where
     is-dmull = is-clamp_s r (omega arith) (omega arith) (doubled_fits h x y hh f g) (is-doubled a b h x y hh f g p q (h * 2 + 1) (omega arith))
 
     pub is-dmlal : (subtract : Bool) (d : Expr) (z : ℤ) → FitsS (h * 2) z → Is r d (h * 2) z
-        → Is r (doubling_long_lane (With (cond subtract Sub Add)) d a b (h * 2)) (h * 2) (c_s (h * 2) (apply_z subtract z (c_s (h * 2) (x *ℤ y *ℤ pos 2))))
+        → Is r (doubling_long_lane (Some (cond subtract Sub Add)) d a b (h * 2)) (h * 2) (c_s (h * 2) (apply_z subtract z (c_s (h * 2) (x *ℤ y *ℤ pos 2))))
     unfolding Arith.doubling_long_lane
     is-dmlal subtract d z k o =
         is-clamp_s r (omega arith) (omega arith) (apply-fits subtract (omega arith) k (clamp-fits (h * 2) (x *ℤ y *ℤ pos 2)))

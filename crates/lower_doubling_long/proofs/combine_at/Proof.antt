@@ -24,7 +24,7 @@ extract-lane-requires c κs =
     omega (
       arith,
       s.requires,
-      s.requires.1.0.1 (ap accumulates k.in-With.is),
+      s.requires.1.0.1 (ap accumulates k.in-Some.is),
       lane-fits s.args.lane_bits s.args.index.0 s.args.lanes s.requires.1.1.2 s.requires.1.1.3,
     )
 
@@ -34,22 +34,22 @@ join-requires c κs = search rules
 clamp-requires : tie.Need-clamp-requires
 clamp-requires c κs = search rules
 
-returns : tie.Need-returns-in-Nothing
+returns : tie.Need-returns-in-None
 returns c =
     let s = c in
-    combined-nothing s.args.lane_bits s.args.lanes s.args.index.0 c.in-Nothing.is s.requires.1.0.0 refl refl
+    combined-nothing s.args.lane_bits s.args.lanes s.args.index.0 c.in-None.is s.requires.1.0.0 refl refl
 
 same_length : tie.Need-shape_of-pool
 same_length c = search rules
 
-returns-2 : tie.Need-returns-in-With
+returns-2 : tie.Need-returns-in-Some
 returns-2 c =
     let clamp = c in
     let sum = c in
     let prior = c in
     let k = c in
     let p = k.requires.1.1 in
-    combined-with p.0 p.2 k.in-With.is prior.extract_lane-prior.ensures sum.join-sum.ensures clamp.clamp.ensures
+    combined-with p.0 p.2 k.in-Some.is prior.extract_lane-prior.ensures sum.join-sum.ensures clamp.clamp.ensures
 
 pub combine_at_spec : {M : Type 1} → statement M
 combine_at_spec =

@@ -19,24 +19,24 @@ enum-known-to c = search rules
 clamp-requires : tie.Need-clamp-requires
 clamp-requires c κs = search rules
 
-same_length : tie.Need-shape_of-pool-in-Never
+same_length : tie.Need-shape_of-pool-in-None
 same_length c = search rules
 
-returns : tie.Need-returns-in-Never
+returns : tie.Need-returns-in-None
 returns c =
     let l-extract = c in
     let l-enum-told = c in
     let st = c in
-    narrowed-never st.requires.1.1 st.requires.1.3 l-enum-told.in-Never.is l-extract.extract.ensures
+    narrowed-never st.requires.1.1 st.requires.1.3 l-enum-told.in-None.is l-extract.extract.ensures
 
-same-length-2 : tie.Need-shape_of-pool-in-Into
+same-length-2 : tie.Need-shape_of-pool-in-Some
 same-length-2 c = search rules
 
-returns-2 : tie.Need-returns-in-Into
+returns-2 : tie.Need-returns-in-Some
 returns-2 c =
     let l-clamp = c in
     let l-to = c in
-    narrowed-into l-to.in-Into.is l-clamp.clamp.ensures
+    narrowed-into l-to.in-Some.is l-clamp.clamp.ensures
 
 pub narrowed_spec : {M : Type 1} → statement M
 narrowed_spec =

@@ -16,11 +16,11 @@ enum-known-saturate c = search rules
 clamp-to-requires : tie.Need-clamp_to-requires
 clamp-to-requires c κs = search rules
 
-returns : tie.Need-returns-in-Never
-returns c = λ z p. rw c.in-Never.is (record { bits_are = c.keep.ensures 192 z p; saturated_is = refl })
+returns : tie.Need-returns-in-None
+returns c = λ z p. rw c.in-None.is (record { bits_are = c.keep.ensures 192 z p; saturated_is = refl })
 
-returns-2 : tie.Need-returns-in-Into
-returns-2 c = λ z p. rw c.in-Into.is (c.clamp_to.ensures z p)
+returns-2 : tie.Need-returns-in-Some
+returns-2 c = λ z p. rw c.in-Some.is (c.clamp_to.ensures z p)
 
 pub limit_spec : {M : Type 1} → statement M
 limit_spec =

@@ -21,7 +21,7 @@ enum-known-combine c = search rules
 read-requires : tie.Need-read-requires
 read-requires c κs = search rules
 
-read-requires-2 : tie.Need-read-requires-in-With
+read-requires-2 : tie.Need-read-requires-in-Some
 read-requires-2 c κs =
     let at-limit = c in
     let at-doubled-product = c in
@@ -38,10 +38,10 @@ join-requires c κs = search rules
 limit-requires-2 : tie.Need-limit-q-requires
 limit-requires-2 c κs = search rules
 
-returns : tie.Need-returns-in-Nothing
-returns c = rw c.in-Nothing.is (c.limit-p.ensures _ (fitting (omega arith) c.doubled_product.ensures))
+returns : tie.Need-returns-in-None
+returns c = rw c.in-None.is (c.limit-p.ensures _ (fitting (omega arith) c.doubled_product.ensures))
 
-returns-2 : tie.Need-returns-in-With
+returns-2 : tie.Need-returns-in-Some
 returns-2 c =
     let at-limit = c in
     let at_join = c in
@@ -52,9 +52,9 @@ returns-2 c =
     let at-doubled-product = c in
     let s = c in
     let p = at-limit2.limit-p.ensures _ (fitting (omega arith) at-doubled-product.doubled_product.ensures) in
-    rw at-combine.in-With.is (both p (at-limit.limit-q.ensures _
+    rw at-combine.in-Some.is (both p (at-limit.limit-q.ensures _
     (fitting (omega arith) (at_join.join.ensures 65 _ _ (omega arith) at-read2.read.ensures
-    (again s.args.n _ (omega arith) p at_read.read-in-With.ensures)))))
+    (again s.args.n _ (omega arith) p at_read.read-in-Some.ensures)))))
 
 pub doubling_lane_spec : {M : Type 1} → statement M
 doubling_lane_spec =

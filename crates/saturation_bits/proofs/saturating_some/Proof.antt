@@ -19,18 +19,18 @@ saturating-at-requires c κs =
     let l-range = c in
     let l-kind-to = c in
     let st = c in
-    (st.requires.0, (st.requires.1.0, (st.requires.1.1.0, st.requires.1.1.1, st.requires.1.1.2, sym l-kind-to.kind_to-range.ensures ∙ l-range.in-Into.is, st.requires.1.1.4)))
+    (st.requires.0, (st.requires.1.0, (st.requires.1.1.0, st.requires.1.1.1, st.requires.1.1.2, sym l-kind-to.kind_to-range.ensures ∙ l-range.in-Some.is, st.requires.1.1.4)))
 
-returns : tie.Need-returns-in-Never
+returns : tie.Need-returns-in-None
 returns c =
     let to = c in
     let st = c in
-    absurd (not-never st.args.kind to.kind_to-range.ensures c.in-Never.is st.requires.1.1.3)
+    absurd (not-never st.args.kind to.kind_to-range.ensures c.in-None.is st.requires.1.1.3)
 
 same_length : tie.Need-shape_of-pool
 same_length c = search rules
 
-returns-2 : tie.Need-returns-in-Into
+returns-2 : tie.Need-returns-in-Some
 returns-2 c = search rules
 
 pub saturating_some_spec : {M : Type 1} → statement M

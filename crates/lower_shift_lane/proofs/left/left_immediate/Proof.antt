@@ -20,26 +20,26 @@ enum-known-saturate c = search rules
 saturated-left-requires : tie.Need-saturated_left-requires
 saturated-left-requires c κs = search rules
 
-same_length : tie.Need-shape_of-pool-in-Never
+same_length : tie.Need-shape_of-pool-in-None
 same_length c = search rules
 
-returns : tie.Need-returns-in-Never
+returns : tie.Need-returns-in-None
 returns c =
     let l-bv = c in
     let l-konst = c in
     let l-enum-told = c in
     let st = c in
-    left-wrapping st.args.signed l-enum-told.in-Never.is (omega (arith, st.requires)) st.requires.1.1 st.requires.1.2 l-konst.konst-by.ensures l-bv.bv.ensures
+    left-wrapping st.args.signed l-enum-told.in-None.is (omega (arith, st.requires)) st.requires.1.1 st.requires.1.2 l-konst.konst-by.ensures l-bv.bv.ensures
 
-same-length-2 : tie.Need-shape_of-pool-in-Into
+same-length-2 : tie.Need-shape_of-pool-in-Some
 same-length-2 c = search rules
 
-returns-2 : tie.Need-returns-in-Into
+returns-2 : tie.Need-returns-in-Some
 returns-2 c =
     let l-saturated-left = c in
     let l-saturate = c in
     let st = c in
-    left-into st.args.shift st.args.signed l-saturate.in-Into.is l-saturated-left.saturated_left.ensures
+    left-into st.args.shift st.args.signed l-saturate.in-Some.is l-saturated-left.saturated_left.ensures
 
 pub left_immediate_spec : {M : Type 1} → statement M
 left_immediate_spec =

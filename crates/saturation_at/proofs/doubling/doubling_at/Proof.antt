@@ -3,7 +3,8 @@ use native.Mathlib.Omega.{arith}
 use mathlib.Core.Path.{refl, subst}
 use mathlib.Core.List.{[]}
 use Rattle.lower.proofs.Run.{Begun, begun, Next, next}
-use Rattle.trees.specs.declared.Combine.{Combine}
+use Rattle.std.specs.declared.option.Option.{Option}
+use Rattle.terms.specs.declared.BinOp.{BinOp}
 use Rattle.lower.specs.Builds.{Below, read_if}
 use Rattle.lower_doubling_long.specs.Elements.{accumulates}
 use Rattle.saturation_at.proofs.At.{at-nothing, at_with}
@@ -49,35 +50,35 @@ extract-lane-requires-3 c κs =
     omega (
       arith,
       second_run c.before.before.before.before,
-      subst (λ (k : Combine). Below (read_if (accumulates k) s.args.d 0) s.args.count) o.in-With.is s.requires.1.0.2 refl,
+      subst (λ (k : Option BinOp). Below (read_if (accumulates k) s.args.d 0) s.args.count) o.in-Some.is s.requires.1.0.2 refl,
     )
 
 either-bit-requires : tie.Need-either_bit-requires
 either-bit-requires c κs = omega (arith, third-run c.before.before.before.before.before.before)
 
-same_length : tie.Need-shape_of-pool-in-Nothing
+same_length : tie.Need-shape_of-pool-in-None
 same_length c = search rules
 
-returns : tie.Need-returns-in-Nothing
+returns : tie.Need-returns-in-None
 returns c =
     let l-product-bit = c in
     let told = c in
     let second = c in
     let st = c in
-    at-nothing st.args.lane_bits st.args.from.0 st.args.with.0 st.args.index.0 st.requires.1.1.2 st.requires.1.1.3 told.in-Nothing.is
+    at-nothing st.args.lane_bits st.args.from.0 st.args.with.0 st.args.index.0 st.requires.1.1.2 st.requires.1.1.3 told.in-None.is
     second.extract_lane-a.ensures second.extract_lane-b.ensures l-product-bit.product_bit.ensures
 
-same-length-2 : tie.Need-shape_of-pool-in-With
+same-length-2 : tie.Need-shape_of-pool-in-Some
 same-length-2 c = search rules
 
-returns-2 : tie.Need-returns-in-With
+returns-2 : tie.Need-returns-in-Some
 returns-2 c =
     let l-either-bit = c in
     let third = c in
     let second = c in
     let st = c in
     at_with st.args.lane_bits st.args.from.0 st.args.with.0 st.args.index.0 st.requires.1.1.2 st.requires.1.1.3 st.requires.1.1.4
-    third.in-With.is second.extract_lane-a.ensures second.extract_lane-b.ensures third.extract_lane-prior.ensures l-either-bit.either_bit.ensures
+    third.in-Some.is second.extract_lane-a.ensures second.extract_lane-b.ensures third.extract_lane-prior.ensures l-either-bit.either_bit.ensures
 
 pub doubling_at_spec : {M : Type 1} → statement M
 doubling_at_spec =
