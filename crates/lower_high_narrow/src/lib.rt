@@ -3,10 +3,10 @@
 
 ghost use Rattle.std.specs.Prelude.{[], ◌∷◌, ◌+◌, ◌-◌, ◌*◌, ◌≤◌, ◌<◌};
 ghost use Rattle.pool.specs.Growth.{Room};
-ghost use Rattle.trees.specs.Simd.{concat_lanes};
 ghost use Rattle.trees.specs.Trees.{high_at, high_narrow_lane, high_narrow_lanes};
 ghost use Rattle.lower.specs.Builds.{Builds2, Lowers, read, read_if, unread, with_lower, Below};
 
+use lower::family::{Lanes, concat_each};
 use lower_kinds::operators::sum_op;
 use neon::Lane;
 use pool::{Bit, Built, Node};
@@ -41,76 +41,48 @@ fn high_narrow_lane(
     )
 }
 
-// Lane `index`, of source lanes twice as wide.
-fn high_at(
-    pool: &mut [u64],
-    count: usize,
+// The new lanes alone, of source lanes twice as wide.
+#[derive(Clone, Copy)]
+struct HighHalves {
     subtract: bool,
     rounding: bool,
     first: Node,
     second: Node,
     lane_bits: u64,
     lanes: u64,
-    index: Lane,
-) -> Built
-    requires room { Room pool.old count 6 }
-    requires first_lt_count { (first.0 < count) × (second.0 < count) }
-    requires le_lane_bits { (1 ≤ lane_bits) × (lane_bits ≤ 64) × (index.0 < lanes) × (lane_bits * 2 * lanes ≤ 128) }
-    ensures { Lowers pool.old count pool.new result 6 lane_bits unread (read first (lane_bits * 2 * lanes))
-        (read second (lane_bits * 2 * lanes)) (λ d a b. high_at subtract rounding lane_bits a b index.0) [] }
-{
-    let source_bits = lane_bits * 2;
-    let a = lower_simd::extract_lane(pool, count, first, source_bits, index);
-    let b = lower_simd::extract_lane(pool, a.count, second, source_bits, index);
-    high_narrow_lane(pool, b.count, subtract, rounding, a.node, b.node, lane_bits)
+    ghost fits: { (1 ≤ lane_bits) × (lane_bits ≤ 64) × (lane_bits * 2 * lanes ≤ 128) },
 }
 
-// The new lanes alone.
-fn narrowed_lanes(
-    pool: &mut [u64],
-    count: usize,
-    subtract: bool,
-    rounding: bool,
-    first: Node,
-    second: Node,
-    lane_bits: u64,
-    lanes: u64,
-) -> Built
-    requires room { Room pool.old count (7 * lanes) }
-    requires first_lt_count { (first.0 < count) × (second.0 < count) }
-    requires le_lane_bits { (1 ≤ lane_bits) × (lane_bits ≤ 64) × (1 ≤ lanes) × (lane_bits * 2 * lanes ≤ 128) }
-    ensures { Lowers pool.old count pool.new result (7 * lanes) (lane_bits * lanes) unread
-        (read first (lane_bits * 2 * lanes)) (read second (lane_bits * 2 * lanes))
-        (λ d a b. concat_lanes (lanes - 1) (high_at subtract rounding lane_bits a b)) [] }
-{
-    let mut acc = high_at(
-        pool,
-        count,
-        subtract,
-        rounding,
-        first,
-        second,
-        lane_bits,
-        lanes,
-        Lane::first(),
-    );
-    let mut i = 1;
-    while i < lanes {
-        let lane = high_at(
-            pool,
-            acc.count,
-            subtract,
-            rounding,
-            first,
-            second,
-            lane_bits,
-            lanes,
-            Lane(i),
-        );
-        acc = lower_simd::concat_lanes(pool, lane.count, lane.node, acc.node);
-        i += 1;
+impl Lanes for HighHalves {
+    ghost plan = { λ s. record {
+      lanes = s.lanes;
+      bits = s.lane_bits;
+      nodes = 6;
+      d = unread;
+      first = read s.first (s.lane_bits * 2 * s.lanes);
+      second = read s.second (s.lane_bits * 2 * s.lanes);
+      tree = λ d a b. high_at s.subtract s.rounding s.lane_bits a b;
+      ins = [];
+    } };
+
+    fn lanes(&self) -> u64 {
+        self.lanes
     }
-    acc
+
+    fn make(&self, pool: &mut [u64], count: usize, index: Lane) -> Built {
+        let source_bits = self.lane_bits * 2;
+        let a = lower_simd::extract_lane(pool, count, self.first, source_bits, index);
+        let b = lower_simd::extract_lane(pool, a.count, self.second, source_bits, index);
+        high_narrow_lane(
+            pool,
+            b.count,
+            self.subtract,
+            self.rounding,
+            a.node,
+            b.node,
+            self.lane_bits,
+        )
+    }
 }
 
 // ADDHN, SUBHN, RADDHN and RSUBHN, and their 2 forms, which keep the lower half of the old destination.
@@ -133,8 +105,14 @@ pub fn high_narrow_lanes(
         (read_if upper d (lane_bits * lanes * 2)) (read first (lane_bits * 2 * lanes)) (read second (lane_bits * 2 * lanes))
         (λ d a b. high_narrow_lanes subtract rounding upper a b d lane_bits lanes) [] }
 {
-    let new = narrowed_lanes(
-        pool, count, subtract, rounding, first, second, lane_bits, lanes,
-    );
+    let halves = HighHalves {
+        subtract,
+        rounding,
+        first,
+        second,
+        lane_bits,
+        lanes,
+    };
+    let new = concat_each(pool, count, &halves);
     lower::arith::keep_lower(pool, new.count, upper, new.node, d, lane_bits, lanes)
 }
