@@ -6,7 +6,7 @@ use Prim.Native.Nat.{ℕ, zero, suc, ◌+◌, ◌<◌}
 use native.Mathlib.Omega.{arith}
 use native.Mathlib.Nat.{add-zero, zero-add, add-suc, suc-add, le_of_suc-le-suc, not-suc-le-zero}
 use lib.Dec.{eqb}
-use lib.ListN.{length, get_or, set}
+use lib.ListN.{length, get_or}
 use lib.Seq.{ext_get_or, get_or-set_same, get_or-set_other}
 use borrow.Author.Tests.{eqb-true, eqb-false}
 use Rattle.pool.specs.declared.Node.{Node}
@@ -29,14 +29,6 @@ pub is-first : (l : List Node) → length l ≡ 32 → ((i : ℕ) → i < 32 →
 is-first l e f =
     ext_get_or (node 0) l (nodes_from 0 32) (rw (e, from-length 0 32))
     (λ i h. f i (omega (arith, e)) ∙ rw (from_at 0 32 i (omega (arith, e)), zero-add i))
-
--- one more entry
-pub one_more : (l : List Node) (k : ℕ) → length l ≡ 32 → k < 32 → ((i : ℕ) → i < k → get_or l i (node 0) ≡ node i) → (i : ℕ) → i < k + 1 → get_or (set l k (node k)) i (node 0) ≡ node i
-one_more l k e h f i g = go (eqb i k) refl
-  where
-    go : (b : Bool) → eqb i k ≡ b → get_or (set l k (node k)) i (node 0) ≡ node i
-    go true q = rw (eqb-true i k q) (get_or-set_same l k (node k) (node 0) (omega (arith, e)))
-    go false q = get_or-set_other l k i (node k) (node 0) (eqb-false i k q) ∙ f i (omega (arith, eqb-false i k q))
 
 -- ---- what the maps hold
 

@@ -5,6 +5,7 @@ ghost use Rattle.std.specs.Prelude.{◌≡◌, ◌<◌};
 ghost use Rattle.block_map.specs.Map.{node_of, first_map, no_map, written};
 
 use pool::Node;
+use std::array;
 
 #[derive(Clone, Copy)]
 pub struct RegisterMap {
@@ -17,13 +18,10 @@ impl RegisterMap {
     pub fn initial() -> Self
         ensures { result ≡ first_map }
     {
-        let mut nodes = [Node(0); 32];
-        let mut r: usize = 0;
-        while r < 32 {
-            nodes[r] = Node(r);
-            r += 1;
+        Self {
+            nodes: array::from_fn(Node),
+            count: 32,
         }
-        Self { nodes, count: 32 }
     }
 
     // The map of a block that is refused.
