@@ -1,2 +1,2 @@
--- The words of a block's answer: put one by one into 34 zeros or before a 35th, and read back.
+-- The words of a block's answer: put one by one into 34 zeros, and read back.
 pub mod Putting

@@ -1,11 +1,11 @@
--- The words of a block's answer: put one by one into 34 zeros or before a 35th, and read back. Assumes nothing.
+-- The words of a block's answer: put one by one into 34 zeros, and read back. Assumes nothing.
 use mathlib.Core.Path.{◌≡◌, refl, sym, ap, ◌∙◌}
 use mathlib.Core.List.{List, [], ◌∷◌, ◌++◌, append_assoc, append-nil}
 use Prim.Native.Nat.{ℕ, zero, suc, ◌+◌, ◌<◌}
 use native.Mathlib.Nat.{add-zero, zero-add, add-suc, suc-add, le_of_suc-le-suc, not-suc-le-zero}
 use native.Mathlib.Omega.{arith}
-use lib.ListN.{length, get_or, set, take, drop, replicate, length-append, get_or-append}
-use lib.Seq.{sets, sets-eq, take-suc, get_or-append-add, length-take-le, take_all}
+use lib.ListN.{length, get_or, set, drop, replicate, length-append, get_or-append}
+use lib.Seq.{sets, sets-eq, get_or-append-add}
 use Rattle.block_map.specs.declared.RegisterMap.{RegisterMap}
 use Rattle.block_map.specs.Map.{node_of}
 use Rattle.text_digits.proofs.Laws.{sets-append}
@@ -51,20 +51,6 @@ put_all m position =
 pub answer-length : (m : RegisterMap) (position : ℕ) → length (answer_words m position) ≡ 34
 unfolding answer_words
 answer-length m position = length-append (nodes_of m 0 32) (m.count ∷ position ∷ []) ∙ ap (λ (j : ℕ). j + 2) (nodes-length m 0 32)
-
--- one word more of a list
-pub put-word : (l xs : List ℕ) (k : ℕ) → k < length xs → set (sets l 0 (take k xs)) k (get_or xs k 0) ≡ sets l 0 (take (k + 1) xs)
-put-word l xs k h =
-    put_one l (take k xs) k (get_or xs k 0) (length-take-le k xs (omega arith))
-    ∙ ap (λ (ys : List ℕ). sets l 0 ys) (sym (take-suc xs k 0 h) ∙ ap (λ (j : ℕ). take j xs) {x = suc k} {y = k + 1} (omega arith))
-
--- all words before the last
-pub put-before : (m : RegisterMap) (position bit : ℕ) → sets (replicate 35 bit) 0 (take 34 (answer_words m position)) ≡ flagged_words m position bit
-put-before m position bit =
-    let words = answer_words m position in
-    ap (λ (xs : List ℕ). sets (replicate 35 bit) 0 xs) (take_all 34 words (omega (arith, answer-length m position)))
-    ∙ sets-eq words (replicate 35 bit) 0 (omega (arith, answer-length m position))
-    ∙ ap (λ (j : ℕ). words ++ drop j (replicate 35 bit)) (zero-add (length words) ∙ answer-length m position)
 
 -- ---- read back
 

@@ -12,11 +12,9 @@ pub fn answer_words(map: RegisterMap, position: usize) -> [u64; 34]
     ensures { result ≡ answer_words map position }
 {
     let mut words = [0u64; 34];
-    let mut r: usize = 0;
-    while r < 32 {
+    for r in 0..32 {
         let node = map.get(r as u64);
         words[r] = node.0 as u64;
-        r += 1;
     }
     words[32] = map.count as u64;
     words[33] = position as u64;
@@ -27,12 +25,7 @@ pub fn answer_words(map: RegisterMap, position: usize) -> [u64; 34]
 pub fn flagged_words(map: RegisterMap, position: usize, bit: Node) -> [u64; 35]
     ensures { result ≡ flagged_words map position bit.0 }
 {
-    let first = answer_words(map, position);
     let mut words = [bit.0 as u64; 35];
-    let mut i: usize = 0;
-    while i < 34 {
-        words[i] = first[i];
-        i += 1;
-    }
+    words[..34].copy_from_slice(&answer_words(map, position));
     words
 }
