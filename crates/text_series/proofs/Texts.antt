@@ -1,13 +1,15 @@
 -- Texts that are written one after the other. Assumes nothing.
-use mathlib.Core.Path.{◌≡◌, sym, ap, ◌∙◌, subst}
+use mathlib.Core.Path.{◌≡◌, refl, sym, ap, ◌∙◌, subst}
 use mathlib.Core.Logic.{⊎_elim}
 use mathlib.Core.List.{List, ◌++◌, append-nil}
 use Prim.Native.Nat.{ℕ, zero, suc, ◌+◌, ◌-◌, ◌≤◌, ◌<◌}
 use native.Mathlib.Nat.{eq-or-lt_of_le, le_of_suc-le-suc, not-suc-le-zero, zero-add}
 use native.Mathlib.Numerals.{add-one}
 use native.Mathlib.Omega.{arith}
-use lib.ListN.{length, drop, length-append}
-use lib.Seq.{sets-eq, drop-length}
+use lib.ListN.{length, take, drop, length-append}
+use lib.Seq.{sets-eq, drop-length, take_all}
+use borrow.Rule.Slice.PartMut.{put_mid}
+use Rattle.std.proofs.lemmas.Slice.{put_mid-paste}
 use Rattle.text_digits.specs.Writing.{Room, Wrote}
 use Rattle.text_digits.proofs.Laws.{wrote_none, wrote_then, wrote-length}
 use Rattle.text_series.specs.Series.{up_to}
@@ -39,6 +41,16 @@ wrote-row {b} {buf} {buf'} {at} {end} {end'} row least i h w u =
     let q : i - least + 1 ≡ i + 1 - least = omega arith in
     subst (λ (j : ℕ). Wrote b at (up_to j (λ j. row (least + j))) end' buf') q
     (wrote-next (λ j. row (least + j)) (i - least) w (subst (λ (j : ℕ). Wrote buf end (row j) end' buf') e u))
+
+-- a text that was copied into a part of a buffer
+pub wrote-copied : (l : List ℕ) (at k next : ℕ) (s t : List ℕ) → t ≡ s → k ≡ length s → next ≡ at + length s → at + length s ≤ length l
+    → Wrote l at s next (put_mid at k l t)
+wrote-copied l at k next s t e q n h = record {
+  next_is = n;
+  after_is = put_mid-paste at k l t s (length s) e (sym q) refl
+      ∙ ap (λ (x : List ℕ). take at l ++ x ++ drop (at + length s) l) (take_all (length s) s (omega arith))
+      ∙ sym (sets-eq s l at h);
+}
 
 -- a text that fills a buffer is what the buffer then holds
 pub filled : {b buf : List ℕ} {end : ℕ} (s : List ℕ) → length s ≡ length b → Wrote b 0 s end buf → buf ≡ s

@@ -2,7 +2,7 @@
 -- Assumes nothing.
 use mathlib.Core.Path.{◌≡◌, refl, sym, ap, ◌∙◌, subst}
 use mathlib.Core.Bool.{Bool, true, false, cond, ◌&&◌}
-use Prim.Native.Nat.{ℕ, ◌-◌, ◌/◌, ◌≤◌}
+use Prim.Native.Nat.{ℕ, ◌/◌, ◌≤◌}
 use native.Mathlib.Omega.{arith}
 use lib.Dec.{eqb}
 use Rattle.neon.specs.declared.Instruction.{Instruction}
@@ -10,7 +10,7 @@ use Rattle.neon.specs.Op.{Op, op_at, Arrangement, B8, B16, H4, H8, S2, S4, D2, a
 use Rattle.neon.specs.Form.{form, has_second, by_element}
 use Rattle.neon.specs.Refusal.{most_m, Legal}
 use Rattle.neon.proofs.Legal.{Accepted, accepted}
-use Rattle.words_encoding.specs.declared.Decoded.TheVariants.{Record}
+use Rattle.std.specs.Prelude.{Some}
 use Rattle.words_encoding.specs.Encoding.{encoding}
 use Rattle.words_encoding.specs.Word.{Qof, encode_of, encode}
 use Rattle.words_encoding.specs.Decode.{bits, class_number, operation_at, size_at, arrangement_of, second_at, fields_of, decoded_if, is_word_of, decode}
@@ -100,7 +100,7 @@ module _ (c : Instruction) (legal : Legal c) where
       ∙ last-back
 
   -- going and returning
-  back-again : decode (encode c) ≡ Record c
+  back-again : decode (encode c) ≡ Some c
   back-again = sym (read_as (encode c) c fields_back legal refl)
 
 pub decode-encode : DecodeEncode
@@ -110,11 +110,11 @@ pub word_fits : WordFits
 word_fits c h = (whole c h).common.fits
 
 -- a word is decoded only to a legal record, whose word it is
-decoded : (w : ℕ) (c : Instruction) → decode w ≡ Record c → Legal c × (encode c ≡ w)
+decoded : (w : ℕ) (c : Instruction) → decode w ≡ Some c → Legal c × (encode c ≡ w)
 unfolding decode
 decoded w c e = go (is_word_of w (fields_of w)) refl e
   where
-    go : (b : Bool) → is_word_of w (fields_of w) ≡ b → decoded_if b (fields_of w) ≡ Record c → Legal c × (encode c ≡ w)
+    go : (b : Bool) → is_word_of w (fields_of w) ≡ b → decoded_if b (fields_of w) ≡ Some c → Legal c × (encode c ≡ w)
     go true h q =
         let s : fields_of w ≡ c = cc in
         rw s at (word_of (fields_of w) w h)
@@ -125,6 +125,6 @@ decoded-where w c = (λ e. decoded w c e, λ p. ap decode (sym p.1) ∙ decode-e
 
 pub one_word : OneWord
 one_word c c' h h' e =
-    let p : decode (encode c) ≡ Record c = decode-encode c h in
-    let q : decode (encode c') ≡ Record c' = decode-encode c' h' in
+    let p : decode (encode c) ≡ Some c = decode-encode c h in
+    let q : decode (encode c') ≡ Some c' = decode-encode c' h' in
     cc

@@ -12,7 +12,7 @@ use Rattle.neon.specs.Form.{form, has_form, form_code_at}
 use Rattle.neon.specs.Refusal.{record_number, Legal}
 use Rattle.neon_form.proofs.Parts.{without}
 use Rattle.block_record_check.specs.Record.{instruction}
-use Rattle.words_encoding.specs.declared.Decoded.TheVariants.{Record, Nothing}
+use Rattle.std.specs.Prelude.{Some, None}
 use Rattle.words_encoding.specs.Encoding.{encoding}
 use Rattle.words_encoding.specs.Word.{encode}
 use Rattle.words_encoding.specs.Decode.{bits, operation_at, size_at, arrangement_of, immediate_at, second_at, fields_of, decoded_if, is_word_of, decode}
@@ -56,16 +56,16 @@ module _ (w : ℕ) (c : Instruction) (e : fields_of w ≡ c) where
   unfolding decode
   by-test h = ap (λ (t : Bool). decoded_if t c) (sym h) ∙ ap (λ (x : Instruction). decoded_if (is_word_of w x) x) (sym e)
 
-  pub refused : (k : ℕ) → record_number c ≡ suc k → Nothing ≡ decode w
+  pub refused : (k : ℕ) → record_number c ≡ suc k → None ≡ decode w
   refused k q = by-test (no_word c w (λ p. omega (arith, p.0, q)))
 
-  pub read_as : Legal c → encode c ≡ w → Record c ≡ decode w
+  pub read_as : Legal c → encode c ≡ w → Some c ≡ decode w
   read_as l q = by-test (its-word c w l q)
 
-  pub other_word : (encode c ≡ w → ⊥) → Nothing ≡ decode w
+  pub other_word : (encode c ≡ w → ⊥) → None ≡ decode w
   other_word q = by-test (no_word c w (λ p. q p.1))
 
-pub no-operation : (w : ℕ) → operation_at w ≡ 0 → Nothing ≡ decode w
+pub no-operation : (w : ℕ) → operation_at w ≡ 0 → None ≡ decode w
 unfolding fields_of
 no-operation w e = refused w (fields_of w) refl 1 (number-2 (fields_of w) e)
 
@@ -88,7 +88,7 @@ module _ (w k a : ℕ) (ek : k ≡ operation_at w) (ea : a ≡ arrangement_of (f
   unfolding fields_of
   partly = ap (by-operation w) (sym ek) ∙ ap (by-arrangement w k) (sym ea)
 
-  pub no-form : 1 ≤ k → k ≤ 67 → form_code_at k a ≡ 0 → Nothing ≡ decode w
+  pub no-form : 1 ≤ k → k ≤ 67 → form_code_at k a ≡ 0 → None ≡ decode w
   no-form l h e = refused w (by-arrangement w k a) partly 2 (number-3 (by-arrangement w k a) l h (without k a l h e))
 
   pub all-fields : (i m : ℕ) → i ≡ immediate_at (form (op_at k)).immediate (bits_of_lane (arrangement_at a)) w → m ≡ second_at (op_at k) (bits_of_lane (arrangement_at a)) w

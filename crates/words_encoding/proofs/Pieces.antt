@@ -1,18 +1,17 @@
 -- The parts of a word, by the arrangement's number and the row. Assumes nothing.
-use mathlib.Core.Path.{◌≡◌, refl, sym, ap}
-use mathlib.Core.Bool.{Bool, true, false, ◌&&◌, false≢true}
-use Prim.Native.Nat.{ℕ, ◌+◌, ◌-◌, ◌*◌, ◌/◌, ◌≤◌, min}
+use mathlib.Core.Path.{◌≡◌, refl, ap}
+use mathlib.Core.Bool.{true, false, ◌&&◌, false≢true}
+use Prim.Native.Nat.{ℕ, ◌+◌, ◌-◌, ◌*◌, ◌/◌, ◌≤◌}
 use native.Mathlib.Omega.{arith}
 use lib.Dec.{ltb}
 use borrow.Author.Tests.{ltb-false}
 use Rattle.facts.proofs.Table.{tabulate, agree}
-use Rattle.neon.specs.Op.{Arrangement, B8, B16, H4, H8, S2, S4, D2, arrangements, arrangement_at, bits_of_lane, full}
+use Rattle.neon.specs.Op.{Arrangement, B8, B16, H4, H8, S2, S4, D2, arrangements, arrangement_at, bits_of_lane}
 use Rattle.neon.specs.Form.{Lanes, Same, Narrow, Long, Immediate, None, Left, Right, Element, most_of, immediate_code}
 use Rattle.neon.proofs.Geometry.{sized}
-use Rattle.terms.specs.Value.{bit}
 use Rattle.words_encoding.specs.Word.{size_of}
-use Rattle.words_encoding.specs.Decode.{bits, arrangement_of, element_at, immediate_at}
-use Rattle.words_encoding.specs.Parts.{is_long, view_part, size_part, element_part, place_part}
+use Rattle.words_encoding.specs.Decode.{bits, element_at, immediate_at}
+use Rattle.words_encoding.specs.Parts.{is_long, size_part, element_part, place_part}
 
 sizes : tabulate (λ a. size_of (arrangement_at a)) 0 7 ≡ tabulate (λ a. a / 2) 0 7
 unfolding tabulate arrangement_at arrangements
@@ -30,16 +29,6 @@ pub size-other : (l : Lanes) (a : ℕ) → a ≤ 6 → (is_long l && ltb 0 (a / 
 size-other Same a h e = omega (arith, size_is a h)
 size-other Narrow a h e = omega (arith, size_is a h)
 size-other (Long u) a h e = omega (arith, size_is a h, ltb-false 0 (a / 2) e)
-
-pub view-long : (l : Lanes) (v : Arrangement) → is_long l ≡ true → 0 ≡ view_part l v
-view-long Same v e = absurd (false≢true e)
-view-long Narrow v e = absurd (false≢true e)
-view-long (Long u) v e = refl
-
-pub view-other : (l : Lanes) (v : Arrangement) (b : Bool) → is_long l ≡ false → full v ≡ b → 1073741824 * bit b ≡ view_part l v
-view-other Same v b e f = rw f
-view-other Narrow v b e f = rw f
-view-other (Long u) v b e f = absurd (false≢true (sym e))
 
 module _ (K : Immediate) (n s i m : ℕ) where
   pub row-none : immediate_code K ≡ 1 → s + 65536 * m ≡ place_part K n s i m
@@ -94,16 +83,6 @@ most-small Element S4 = omega arith
 most-small Element D2 = omega arith
 
 -- ---- a word's fields
-
-pub arrangement-long : (l : Lanes) (q s : ℕ) → is_long l ≡ true → min (2 * s + 3) 6 ≡ arrangement_of l q s
-arrangement-long Same q s e = absurd (false≢true e)
-arrangement-long Narrow q s e = absurd (false≢true e)
-arrangement-long (Long u) q s e = refl
-
-pub arrangement-other : (l : Lanes) (q s : ℕ) → is_long l ≡ false → min (2 * s + q) 6 ≡ arrangement_of l q s
-arrangement-other Same q s e = refl
-arrangement-other Narrow q s e = refl
-arrangement-other (Long u) q s e = absurd (false≢true (sym e))
 
 pub at_none : (K : Immediate) (n w : ℕ) → immediate_code K ≡ 1 → 0 ≡ immediate_at K n w
 at_none None n w e = refl

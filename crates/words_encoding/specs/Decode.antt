@@ -1,11 +1,9 @@
 -- The record of an A64 word, by the word's fields.
-use Rattle.std.specs.Prelude.{Bool, true, false, cond, ◌&&◌, ℕ, zero, suc, ◌+◌, ◌-◌, ◌*◌, ◌/◌, ◌%◌, ◌^◌, min, ltb, eqb}
+use Rattle.std.specs.Prelude.{Bool, true, false, cond, ◌&&◌, ℕ, zero, suc, ◌+◌, ◌-◌, ◌*◌, ◌/◌, ◌%◌, ◌^◌, min, ltb, eqb, Option, Some, None as none}
 use Rattle.neon.specs.declared.Instruction.{Instruction}
 use Rattle.neon.specs.Op.{Op, op_at, arrangement_at, bits_of_lane}
 use Rattle.neon.specs.Form.{Lanes, Same, Narrow, Long, Immediate, None, Left, Right, Element, form, has_second, by_element}
 use Rattle.neon.specs.Refusal.{record_number}
-use Rattle.words_encoding.specs.declared.Decoded.{Decoded}
-use Rattle.words_encoding.specs.declared.Decoded.TheVariants.{Record, Nothing}
 use Rattle.words_encoding.specs.Encoding.{Class, ShiftByImmediate, ThreeSame, ThreeDifferent, TwoMiscellaneous, ByElement, TwoMiscellaneous01, encoding}
 use Rattle.terms.specs.Value.{bit}
 use Rattle.words_encoding.specs.Word.{encode}
@@ -94,14 +92,14 @@ fields_of w =
     let n = bits_of_lane (arrangement_at a) in
     record { operation = k; arrangement = a; i = immediate_at (form o).immediate n w; d = bits 4 0 w; n = bits 9 5 w; m = second_at o n w }
 
-abbrev pub decoded_if : Bool → Instruction → Decoded
-decoded_if true c = Record c
-decoded_if false c = Nothing
+abbrev pub decoded_if : Bool → Instruction → Option Instruction
+decoded_if true c = Some c
+decoded_if false c = none
 
 -- w is the word of the legal record c: each field that c does not carry is then what the manual fixes
 abbrev pub is_word_of : ℕ → Instruction → Bool
 is_word_of w c = eqb (record_number c) 0 && eqb (encode c) w
 
 -- the record that the fields name, if w is its word
-unfoldable pub decode : ℕ → Decoded
+unfoldable pub decode : ℕ → Option Instruction
 decode w = decoded_if (is_word_of w (fields_of w)) (fields_of w)

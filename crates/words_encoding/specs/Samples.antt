@@ -1,11 +1,9 @@
 -- Sample words: for each operation two lines of the project's list of words, which two assemblers made, for each element of 16 bits three more, and
 -- words beside them that encode no form of ours. They check the encodings against Arm's; the theorems of Inverse.antt say only that going and
 -- returning agree.
-use Rattle.std.specs.Prelude.{Bool, true, false, ◌&&◌, List, [], ◌∷◌, ◌≡◌, ℕ, eqb}
+use Rattle.std.specs.Prelude.{Bool, true, false, ◌&&◌, List, [], ◌∷◌, ◌≡◌, ℕ, eqb, Option, Some, None}
 use Rattle.neon.specs.declared.Instruction.{Instruction}
 use Rattle.block_record_check.specs.Record.{instruction}
-use Rattle.words_encoding.specs.declared.Decoded.{Decoded}
-use Rattle.words_encoding.specs.declared.Decoded.TheVariants.{Record, Nothing}
 use Rattle.words_encoding.specs.Word.{encode}
 use Rattle.words_encoding.specs.Decode.{decode}
 
@@ -204,14 +202,14 @@ others =
 
 -- ---- the theorem, which proofs/Samples.antt computes
 
-abbrev pub is_record : Decoded → Instruction → Bool
-is_record (Record c) e =
+abbrev pub is_record : Option Instruction → Instruction → Bool
+is_record (Some c) e =
     eqb c.operation e.operation && eqb c.arrangement e.arrangement && eqb c.i e.i && eqb c.d e.d && eqb c.n e.n && eqb c.m e.m
-is_record Nothing e = false
+is_record None e = false
 
-abbrev pub is_nothing : Decoded → Bool
-is_nothing (Record c) = false
-is_nothing Nothing = true
+abbrev pub is_nothing : Option Instruction → Bool
+is_nothing (Some c) = false
+is_nothing None = true
 
 -- each record has that word, and each word that record
 unfoldable pub both_ways : List Sample → Bool

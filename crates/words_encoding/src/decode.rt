@@ -1,5 +1,5 @@
 // The record of a word, by the word's fields.
-ghost use Rattle.std.specs.Prelude.{◌≡◌, ◌-◌, ◌≤◌, ◌<◌, min};
+ghost use Rattle.std.specs.Prelude.{◌≡◌, ◌≤◌, ◌<◌};
 ghost use Rattle.neon.specs.Op.{op_at};
 ghost use Rattle.neon.specs.Form.{form};
 ghost use Rattle.neon_form.specs.Code.{OfCode};
@@ -7,7 +7,6 @@ ghost use Rattle.words_encoding.specs.Encoding.{encoding};
 ghost use Rattle.words_encoding.specs.Parts.{key_of};
 ghost use Rattle.words_encoding.specs.Decode.{class_number, class_at, operation_at, size_of_immh, size_at, arrangement_of, element_at, immediate_at, second_at, decode};
 
-use crate::Decoded;
 use crate::encode::{encode_word, is_long};
 use block_record_check::record_number;
 use neon::{Instruction, form_code};
@@ -132,22 +131,9 @@ fn arrangement_of(operation: u64, q: u64, size: u64) -> u64
     ensures { (result ≡ arrangement_of (form (op_at operation)).lanes q size) × (result ≤ 6) }
 {
     if is_long(operation) {
-        return at_most_6(2 * size + 3);
+        return (2 * size + 3).min(6);
     }
-    at_most_6(2 * size + q)
-}
-
-fn at_most_6(x: u64) -> u64
-    ensures { (result ≡ min x 6) × (result ≤ 6) }
-{
-    if x < 6 { x } else { 6 }
-}
-
-// What is left of x when y is taken off, and 0 if y is larger.
-fn minus_or_zero(x: u64, y: u64) -> u64
-    ensures { result ≡ x - y }
-{
-    if x < y { 0 } else { x - y }
+    (2 * size + q).min(6)
 }
 
 // The number of an element.
@@ -168,8 +154,8 @@ fn immediate_at(code: u64, bits: u64, w: u64) -> u64
     let row = code % 8;
     match row {
         1 => 0,
-        2 => minus_or_zero(w / 65536 % 128, bits),
-        3 => minus_or_zero(2 * bits, w / 65536 % 128),
+        2 => (w / 65536 % 128).saturating_sub(bits),
+        3 => (2 * bits).saturating_sub(w / 65536 % 128),
         _ => element_at(bits, w),
     }
 }
@@ -187,13 +173,13 @@ fn second_at(code: u64, bits: u64, w: u64) -> u64
     w / 65536 % 32
 }
 
-// The record that a word encodes.
-pub fn decode_word(w: u64) -> Decoded
+// The record that a word encodes, if any.
+pub fn decode_word(w: u64) -> Option<Instruction>
     ensures { result ≡ decode w }
 {
     let operation = operation_at(w);
     if operation == 0 {
-        return Decoded::Nothing;
+        return None;
     }
     let arrangement = arrangement_of(
         operation,
@@ -202,7 +188,7 @@ pub fn decode_word(w: u64) -> Decoded
     );
     let code = form_code(operation, arrangement);
     if code == 0 {
-        return Decoded::Nothing;
+        return None;
     }
     let bits = lane_bits(arrangement);
     let i = immediate_at(code, bits, w);
@@ -210,10 +196,10 @@ pub fn decode_word(w: u64) -> Decoded
     let d = w % 32;
     let n = w / 32 % 32;
     if 0 < record_number(operation, arrangement, i, d, n, m) {
-        return Decoded::Nothing;
+        return None;
     }
     if encode_word(operation, arrangement, i, d, n, m) == w {
-        Decoded::Record(Instruction {
+        Some(Instruction {
             operation,
             arrangement,
             i,
@@ -222,6 +208,6 @@ pub fn decode_word(w: u64) -> Decoded
             m,
         })
     } else {
-        Decoded::Nothing
+        None
     }
 }

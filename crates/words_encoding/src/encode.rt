@@ -133,14 +133,6 @@ fn element_part(bits: u64, i: u64) -> u64
     2048 * (i / 2) + 2097152 * (i % 2)
 }
 
-// immh:immb of a shift to the right.
-fn to_right(bits: u64, i: u64) -> u64
-    requires { bits ≤ 64 }
-    ensures { (result ≡ 2 * bits - i) × (result ≤ 128) }
-{
-    if 2 * bits < i { 0 } else { 2 * bits - i }
-}
-
 // The fields that go by the immediate: size and Rm; immh:immb; or size, H, L, M and Rm.
 fn place(code: u64, bits: u64, size: u64, i: u64, m: u64) -> u64
     requires { (bits ≤ 64) × (size ≤ 12582912) × (i ≤ 256) × (m ≤ 31) }
@@ -150,7 +142,7 @@ fn place(code: u64, bits: u64, size: u64, i: u64, m: u64) -> u64
     match row {
         1 => size + 65536 * m,
         2 => 65536 * (bits + i),
-        3 => 65536 * to_right(bits, i),
+        3 => 65536 * (2 * bits).saturating_sub(i),
         _ => size + 65536 * m + element_part(bits, i),
     }
 }

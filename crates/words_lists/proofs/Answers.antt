@@ -1,8 +1,8 @@
 -- What reading and writing words answer, by the way that they took. Assumes nothing.
 use mathlib.Core.Path.{◌≡◌, refl, sym, ap, ◌∙◌, subst}
-use mathlib.Core.Bool.{true, false, false≢true}
+use mathlib.Core.Bool.{true, false≢true}
 use mathlib.Core.List.{List, ◌++◌}
-use Prim.Native.Nat.{ℕ, suc, ◌+◌, ◌*◌, ◌/◌, ◌%◌, ◌≤◌, ◌<◌}
+use Prim.Native.Nat.{ℕ, suc, ◌*◌, ◌/◌, ◌%◌, ◌≤◌, ◌<◌}
 use native.Mathlib.Nat.{zero-add}
 use native.Mathlib.Omega.{arith}
 use lib.ListN.{length, drop}
@@ -14,8 +14,8 @@ use Rattle.block_record_check.specs.Record.{record_at}
 use Rattle.block_check.specs.Records.{records_of}
 use Rattle.block_check.proofs.Refusals.{all-legal, legal-at}
 use Rattle.words_encoding.specs.Word.{encode}
-use Rattle.words_encoding.specs.declared.Decoded.{Decoded}
-use Rattle.words_encoding.specs.declared.Decoded.TheVariants.{Record, Nothing}
+use Rattle.std.specs.Prelude.{Option, Some, None}
+use Rattle.neon.specs.declared.Instruction.{Instruction}
 use Rattle.words_encoding.specs.Decode.{decode}
 use Rattle.words_encoding.proofs.Decoding.{positive}
 use Rattle.text_digits.specs.Writing.{Wrote}
@@ -23,9 +23,9 @@ use Rattle.text_series.proofs.Places.{rows-length}
 use Rattle.words_lists.specs.Words.{word_at, whole_words, is_record, flat, read_refusal, records_in, WordsRead, Good, word_bytes, write_refusal, words_in, WordsWritten, AllGood}
 
 module _ (bs : List ℕ) where
-  pub flat-length : (d : Decoded) → is_record d ≡ true → length (flat d) ≡ 6
-  flat-length (Record c) h = refl
-  flat-length Nothing h = absurd (false≢true h)
+  pub flat-length : (d : Option Instruction) → is_record d ≡ true → length (flat d) ≡ 6
+  flat-length (Some c) h = refl
+  flat-length None h = absurd (false≢true h)
 
   pub records-length : (r : ℕ) → Good bs r → whole_words bs ≤ r → length (records_in bs) ≡ 6 * whole_words bs
   unfolding records_in

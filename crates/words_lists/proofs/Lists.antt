@@ -1,6 +1,6 @@
 -- Going and returning, on lists: the words of records are read back as these, and the records of words are written back as these. Assumes nothing.
 use mathlib.Core.Path.{◌≡◌, refl, sym, ap, ◌∙◌}
-use mathlib.Core.Bool.{true, false, false≢true}
+use mathlib.Core.Bool.{true, false≢true}
 use mathlib.Core.List.{List, [], ◌∷◌}
 use Prim.Native.Nat.{ℕ, zero, suc, ◌+◌, ◌*◌, ◌/◌, ◌%◌, ◌^◌, ◌≤◌, ◌<◌}
 use native.Mathlib.Nat.{add-zero, add_assoc}
@@ -16,8 +16,7 @@ use Rattle.neon.specs.Refusal.{Refusal, refusal, record_number, records_refusal,
 use Rattle.neon.proofs.First.{first-zero, none-refused}
 use Rattle.block_record_check.specs.Record.{instruction, record_at}
 use Rattle.block_check.specs.Records.{records_from, records_of}
-use Rattle.words_encoding.specs.declared.Decoded.{Decoded}
-use Rattle.words_encoding.specs.declared.Decoded.TheVariants.{Record, Nothing}
+use Rattle.std.specs.Prelude.{Option, Some, None}
 use Rattle.words_encoding.specs.Word.{encode}
 use Rattle.words_encoding.specs.Decode.{decode}
 use Rattle.words_encoding.proofs.Back.{decode-encode, decoded-where, word_fits}
@@ -85,7 +84,7 @@ module _ (fs : List ℕ) (good : AllGood fs) where
       let z = ap (λ (i : ℕ). get_or written i 0) (sym (add-zero (4 * j))) ∙ byte_at j 0 h (omega arith) in
       rw (z, byte_at j 1 h (omega arith), byte_at j 2 h (omega arith), byte_at j 3 h (omega arith)) (word-of-bytes w (word_fits (record_at fs j) (good j h)))
 
-  record-at : (j : ℕ) → j < count → decode (word_at written j) ≡ Record (record_at fs j)
+  record-at : (j : ℕ) → j < count → decode (word_at written j) ≡ Some (record_at fs j)
   record-at j h = ap decode (word-at j h) ∙ decode-encode (record_at fs j) (good j h)
 
   all_read : Good written count
@@ -117,9 +116,9 @@ reads-written fs room e room' h = let g = all-good fs (no_record fs room e) in (
 
 -- ---- writing what was read
 
-the-record : (d : Decoded) → is_record d ≡ true → (c : Instruction) × (d ≡ Record c)
-the-record (Record c) h = (c, refl)
-the-record Nothing h = absurd (false≢true h)
+the-record : (d : Option Instruction) → is_record d ≡ true → (c : Instruction) × (d ≡ Some c)
+the-record (Some c) h = (c, refl)
+the-record None h = absurd (false≢true h)
 
 all-legal : (fs : List ℕ) (k j : ℕ) → ((i : ℕ) → j ≤ i → i < j + k → Legal (record_at fs i)) → records_refusal j (records_from fs j k) ≡ refusal 0 0
 unfolding records_from records_refusal
@@ -156,13 +155,13 @@ module _ (bs : List ℕ) (byte : (j : ℕ) → get_or bs j 0 < 256) where
     number_at j i h l = row-entry 6 row many j i (λ j l. flat-length bs (decode (word_at bs j)) (is-record j l)) h l
 
     -- record j is the one that word j is decoded to
-    back_at : (j : ℕ) → j < many → decode (word_at bs j) ≡ Record (record_at (records_in bs) j)
+    back_at : (j : ℕ) → j < many → decode (word_at bs j) ≡ Some (record_at (records_in bs) j)
     back_at j h =
         let r = the-record (decode (word_at bs j)) (is-record j h) in
-        let n : (i : ℕ) → i < 6 → get_or (records_in bs) (6 * j + i) 0 ≡ get_or (numbers r.0) i 0 = λ i l. number_at j i h l ∙ ap (λ (d : Decoded). get_or (flat d) i 0) r.1 in
+        let n : (i : ℕ) → i < 6 → get_or (records_in bs) (6 * j + i) 0 ≡ get_or (numbers r.0) i 0 = λ i l. number_at j i h l ∙ ap (λ (d : Option Instruction). get_or (flat d) i 0) r.1 in
         let z = ap (λ (i : ℕ). get_or (records_in bs) i 0) (sym (add-zero (6 * j))) ∙ n 0 (omega arith) in
         r.1
-        ∙ ap Record
+        ∙ ap Some
         (sym (λ k. instruction (z k) (n 1 (omega arith) k) (n 2 (omega arith) k) (n 3 (omega arith) k) (n 4 (omega arith) k) (n 5 (omega arith) k)))
 
     legal-back : (j : ℕ) → j < many → Legal (record_at (records_in bs) j) × (encode (record_at (records_in bs) j) ≡ word_at bs j)

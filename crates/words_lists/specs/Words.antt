@@ -1,10 +1,8 @@
 -- Lists of A64 words (document 02, S-7): little endian bytes, and records as flat numbers, six each.
-use Rattle.std.specs.Prelude.{Bool, true, false, List, [], ◌∷◌, ◌≡◌, ℕ, ◌+◌, ◌*◌, ◌/◌, ◌%◌, ◌<◌, leb, eqb, length, get_or}
+use Rattle.std.specs.Prelude.{Bool, true, false, List, [], ◌∷◌, ◌≡◌, ℕ, ◌+◌, ◌*◌, ◌/◌, ◌%◌, ◌<◌, leb, eqb, length, get_or, Option, Some, None}
 use Rattle.facts.specs.Refuse.{by_number, list_by, unless}
 use Rattle.neon.specs.declared.Instruction.{Instruction}
 use Rattle.neon.specs.Refusal.{Refusal, refusal, first_of, first_refusal, PassedTo, records_refusal, Legal}
-use Rattle.words_encoding.specs.declared.Decoded.{Decoded}
-use Rattle.words_encoding.specs.declared.Decoded.TheVariants.{Record, Nothing}
 use Rattle.words_encoding.specs.Decode.{decode}
 use Rattle.words_encoding.specs.Word.{encode}
 use Rattle.block_record_check.specs.Record.{record_at}
@@ -20,22 +18,22 @@ word_at bs j = get_or bs (4 * j) 0 + 256 * get_or bs (4 * j + 1) 0 + 65536 * get
 abbrev pub whole_words : List ℕ → ℕ
 whole_words bs = length bs / 4
 
-abbrev pub is_record : Decoded → Bool
-is_record (Record c) = true
-is_record Nothing = false
+abbrev pub is_record : Option Instruction → Bool
+is_record (Some c) = true
+is_record None = false
 
 -- a record as six numbers
 abbrev pub numbers : Instruction → List ℕ
 numbers c = c.operation ∷ c.arrangement ∷ c.i ∷ c.d ∷ c.n ∷ c.m ∷ []
 
-abbrev pub flat : Decoded → List ℕ
-flat (Record c) = numbers c
-flat Nothing = []
+abbrev pub flat : Option Instruction → List ℕ
+flat (Some c) = numbers c
+flat None = []
 
 -- a record as a line of columns
-abbrev pub listed : Decoded → List ℕ
-listed (Record c) = line c
-listed Nothing = []
+abbrev pub listed : Option Instruction → List ℕ
+listed (Some c) = line c
+listed None = []
 
 -- word j encodes a legal form
 abbrev pub is_legal_word : List ℕ → ℕ → Bool

@@ -10,15 +10,8 @@ use block_check::{ListAnswer, records_refusal};
 use block_record_check::record_at;
 use line_records::put_line;
 use neon::Instruction;
-use words_encoding::Decoded;
 use words_encoding::decode::decode_word;
 use words_encoding::encode::encode_word;
-
-fn wide(b: u8) -> u64
-    ensures { (result ≡ b) × (result < 256) }
-{
-    b as u64
-}
 
 // Word j.
 pub fn word_at(bytes: &[u8], j: usize) -> u64
@@ -26,22 +19,15 @@ pub fn word_at(bytes: &[u8], j: usize) -> u64
     ensures { result ≡ word_at bytes.now j }
 {
     let at = 4 * j;
-    wide(bytes[at])
-        + 256 * wide(bytes[at + 1])
-        + 65536 * wide(bytes[at + 2])
-        + 16777216 * wide(bytes[at + 3])
+    let four = [bytes[at], bytes[at + 1], bytes[at + 2], bytes[at + 3]];
+    u64::from(u32::from_le_bytes(four))
 }
 
 // Whether a word encodes a legal form.
 pub fn is_record(w: u64) -> bool
     ensures { result ≡ is_record (decode w) }
 {
-    let r = decode_word(w);
-    if let Decoded::Record(_) = r {
-        true
-    } else {
-        false
-    }
+    decode_word(w).is_some()
 }
 
 // The number of whole words before the first that encodes no legal form.
@@ -49,12 +35,10 @@ fn good_words(bytes: &[u8]) -> usize
     ensures { Good bytes.now result }
 {
     let count = bytes.len() / 4;
-    let mut j = 0;
-    while j < count {
+    for j in 0..count {
         if !is_record(word_at(bytes, j)) {
             return j;
         }
-        j += 1;
     }
     count
 }
@@ -64,13 +48,9 @@ fn put_six(c: Instruction, records: &mut [u64], at: usize) -> usize
     requires { at + 6 ≤ length records.old }
     ensures { Wrote records.old at (numbers c) result records.new }
 {
-    records[at] = c.operation;
-    records[at + 1] = c.arrangement;
-    records[at + 2] = c.i;
-    records[at + 3] = c.d;
-    records[at + 4] = c.n;
-    records[at + 5] = c.m;
-    at + 6
+    let end = at + 6;
+    records[at..end].copy_from_slice(&[c.operation, c.arrangement, c.i, c.d, c.n, c.m]);
+    end
 }
 
 // Writes the record of a word.
@@ -78,8 +58,7 @@ fn put_record(w: u64, records: &mut [u64], at: usize) -> usize
     requires { Room records.old at (flat (decode w)) }
     ensures { Wrote records.old at (flat (decode w)) result records.new }
 {
-    let r = decode_word(w);
-    let Decoded::Record(c) = r else {
+    let Some(c) = decode_word(w) else {
         return at;
     };
     put_six(c, records, at)
@@ -91,8 +70,7 @@ pub fn list_word(w: u64, out: &mut [u8], at: usize) -> usize
     ensures wrote { Wrote out.old at (listed (decode w)) result out.new }
     ensures lower_bound { (at ≤ result) × (result ≤ at + 25) }
 {
-    let r = decode_word(w);
-    let Decoded::Record(c) = r else {
+    let Some(c) = decode_word(w) else {
         return at;
     };
     put_line(c.operation, c.arrangement, c.i, c.d, c.n, c.m, out, at)
@@ -104,11 +82,9 @@ fn put_records(bytes: &[u8], records: &mut [u64]) -> usize
     ensures { Wrote records.old 0 (records_in bytes.now) result records.new }
 {
     let count = bytes.len() / 4;
-    let mut j = 0;
     let mut end = 0;
-    while j < count {
+    for j in 0..count {
         end = put_record(word_at(bytes, j), records, end);
-        j += 1;
     }
     end
 }
@@ -150,15 +126,13 @@ pub fn read_words(bytes: &[u8], records: &mut [u64]) -> ListAnswer
 }
 
 // Writes the four bytes of a word.
-fn put_word(w: u64, bytes: &mut [u8], at: usize) -> usize
+fn put_word(w: u32, bytes: &mut [u8], at: usize) -> usize
     requires { at + 4 ≤ length bytes.old }
     ensures { Wrote bytes.old at (word_bytes w) result bytes.new }
 {
-    bytes[at] = (w % 256) as u8;
-    bytes[at + 1] = (w / 256 % 256) as u8;
-    bytes[at + 2] = (w / 65536 % 256) as u8;
-    bytes[at + 3] = (w / 16777216 % 256) as u8;
-    at + 4
+    let end = at + 4;
+    bytes[at..end].copy_from_slice(&w.to_le_bytes());
+    end
 }
 
 // Writes the words of all records, which are legal.
@@ -168,16 +142,11 @@ fn put_words(records: &[u64], bytes: &mut [u8]) -> usize
     ensures { Wrote bytes.old 0 (words_in records.now) result bytes.new }
 {
     let count = records.len() / 6;
-    let mut j = 0;
     let mut end = 0;
-    while j < count {
+    for j in 0..count {
         let c = record_at(records, j);
-        end = put_word(
-            encode_word(c.operation, c.arrangement, c.i, c.d, c.n, c.m),
-            bytes,
-            end,
-        );
-        j += 1;
+        let w = encode_word(c.operation, c.arrangement, c.i, c.d, c.n, c.m);
+        end = put_word(w as u32, bytes, end);
     }
     end
 }

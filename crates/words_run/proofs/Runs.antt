@@ -13,8 +13,8 @@ use Rattle.text_digits.specs.Writing.{Wrote}
 use Rattle.text_digits.proofs.Laws.{wrote-length}
 use Rattle.text_series.specs.Series.{up_to}
 use Rattle.text_series.proofs.Places.{rows_eq}
-use Rattle.words_run.specs.Rows.{word_count, row, listing, report, Goes}
-use Rattle.words_run.specs.Run.{Run, Program, errors_of, output_of, ProgramWrites}
+use Rattle.words_run.specs.Rows.{word_count, row, report}
+use Rattle.words_run.specs.Run.{Run, Program, ProgramWrites}
 
 -- rows, and the rows after them
 rows_append : (f : ℕ → List ℕ) (k m : ℕ) → up_to (k + m) f ≡ up_to k f ++ up_to m (λ i. f (k + i))

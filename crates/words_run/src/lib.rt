@@ -100,14 +100,15 @@ pub fn put_rows(refusals: bool, bytes: &[u8], from: usize, out: &mut [u8]) -> Pr
     ensures { Goes refusals bytes.now from out.old result out.new }
 {
     let count = word_count(bytes);
-    let mut next = from;
     let mut output = 0;
-    while next < count {
+    for next in from..count {
         if out.len() - output < ROW_ROOM {
             return Progress { next, output };
         }
         output = put_row(refusals, bytes, next, out, output);
-        next += 1;
     }
-    Progress { next, output }
+    Progress {
+        next: count.max(from),
+        output,
+    }
 }
