@@ -1,5 +1,5 @@
 -- Products: a row, rows one after the other, words in either order. Assumes nothing.
-use mathlib.Core.Path.{◌≡◌, sym, ap, ◌∙◌, subst}
+use mathlib.Core.Path.{◌≡◌, sym, ap, ◌∙◌}
 use mathlib.Core.Bool.{Bool, true, false}
 use mathlib.Core.List.{List}
 use Prim.Native.Nat.{ℕ, ◌+◌, ◌-◌, ◌*◌, ◌/◌, ◌%◌, ◌^◌, ◌≤◌, ◌<◌}
@@ -159,10 +159,6 @@ module _ {g bits h new : List ℕ} {k n out w m : ℕ} (a b j : ℕ) (le : out +
             ∙ ap (λ (z : ℕ). (x + y * z) % 2 ^ w) (sym (sum-next (bit_at start g bits b) j)));
       }
 
-pub rows-done : {g bits h new : List ℕ} {k n : ℕ} (a b : ℕ) {out w j : ℕ} → j ≡ w → RowsTo g k bits h n new a b out w j (10 * w * j)
-    → RowsTo g k bits h n new a b out w w (10 * w * w)
-rows-done {g} {bits} {h} {new} {k} {n} a b {out} {w} e d = subst (λ (j : ℕ). RowsTo g k bits h n new a b out w j (10 * w * j)) e d
-
 -- ---- from nothing, and in either order
 
 module _ (g : List ℕ) {bits mid : List ℕ} {k a b out w : ℕ} (le : out + 2 * w ≤ length bits) (two : Two bits a b out w k)
@@ -193,9 +189,6 @@ module _ (g : List ℕ) {bits mid : List ℕ} {k a b out w : ℕ} (le : out + 2 
             (λ i. (nothing.is start i + first-there.is start i * second-there.is start i) % 2 ^ w)
             ∙ ap (λ (t : ℕ). t % 2 ^ w) (zero-add (number start g bits a w * number start g bits b w)));
       }
-
-pub two-swapped : {bits : List ℕ} {a b out w k : ℕ} → Two bits a b out w k → Two bits b a out w k
-two-swapped t = record { first = t.second; second = t.first; low_a = t.low_b; low_b = t.low_a }
 
 pub product-swapped : {g bits h new : List ℕ} {k n out w m : ℕ} (a b : ℕ)
     → Makes g k bits h n new out w m (λ start. bvmul w (number start g bits b w) (number start g bits a w))

@@ -1,14 +1,14 @@
 -- The stages of a shifter, and amounts as far as the width. Assumes nothing.
-use mathlib.Core.Path.{◌≡◌, sym, ap, ◌∙◌}
+use mathlib.Core.Path.{◌≡◌, sym, ap, ◌∙◌, subst}
 use mathlib.Core.Bool.{Bool, cond}
 use mathlib.Core.List.{List}
-use Prim.Native.Nat.{ℕ, ◌+◌, ◌*◌, ◌^◌, ◌≤◌, ◌<◌}
-use native.Mathlib.Nat.{mul-suc, mul-le-mul_left, pow-suc}
+use Prim.Native.Nat.{ℕ, ◌+◌, ◌-◌, ◌*◌, ◌/◌, ◌%◌, ◌^◌, ◌≤◌, ◌<◌, max}
+use native.Mathlib.Nat.{mod-eq_of_lt, mul-suc, mul-le-mul_left, pow-suc}
 use native.Mathlib.Omega.{arith}
 use native.Mathlib.Numerals.{add-one}
 use mathlib.Core.Logic.{⊎_elim}
 use lib.Dec.{eqb}
-use lib.Pow.{pow_mono}
+use lib.Pow.{pow_mono, pow_pos}
 use Rattle.facts.proofs.Numbers.{before-or-from, below}
 use lib.ListN.{length, get_or}
 use Rattle.gates.specs.Graph.{truth}
@@ -19,7 +19,7 @@ use Rattle.gates_words.specs.Words.{Low, Puts, Writes}
 use Rattle.gates_words.specs.Bitwise.{ite_of}
 use Rattle.gates_words.proofs.Sums.{sum-next, sum_lt}
 use Rattle.gates_circuits.specs.Makes.{From, Word, Makes}
-use Rattle.gates_circuits.specs.Shift.{moved, moved_if, filled_with, Stages}
+use Rattle.gates_circuits.specs.Shift.{moved, moved_if, filled_with, Reaches, Stages}
 use Rattle.gates_circuits.proofs.Laws
 use Rattle.gates_circuits.proofs.Moved.{moved_none, moved-bit}
 use Rattle.gates_circuits.proofs.Moves.{fill-word}
@@ -57,13 +57,30 @@ stages-more {g} {bits} {h} {new} {k = k} left l b {out} {w} {i} {c = c} e lb low
           ∙ ap (moved left (truth start g l) w (number start g bits out w)) (sym (sum-next (bit_at start g bits b) i)));
     }
 
--- the numbers of the loop: 2 ^ i is below the width, so i is below 8
-pub bits-few : (i w s : ℕ) → s ≡ 2 ^ i → s < w → w ≤ 129 → (i < 8) × (i < w)
-bits-few i w s e l h =
-    (⊎_elim (λ d. d) (λ d. absurd (omega (arith, e, l, h, pow_mono {i = 8} {j = i} d))) (before-or-from i 8), omega (arith, below i, e, l))
+-- the numbers of the loop
+doubled : (i : ℕ) → 2 * 2 ^ i ≡ 2 ^ (i + 1)
+doubled i = rw (add-one i, pow-suc 2 i) (omega arith)
 
-pub doubled : (i s : ℕ) → s ≡ 2 ^ i → 2 * s ≡ 2 ^ (i + 1)
-doubled i s e = rw (add-one i, pow-suc 2 i) (omega (arith, e))
+-- a power of two at or above the width, and its logarithm
+pub reaches : (w p k r : ℕ) → p ≡ 2 ^ k → w ≤ p → p / 2 < max 1 w → 2 ^ r ≤ p → p < 2 * 2 ^ r → Reaches w r
+reaches w p k r e le half low high =
+    record {
+      near = λ i l. omega (arith, half, low, doubled i, pow_pos i, pow_mono {i = i + 1} {j = r} (omega arith));
+      far = ⊎_elim (λ (l : k < r + 1). omega (arith, e, le, pow_mono {i = k} {j = r} (omega arith)))
+          (λ (l : r + 1 ≤ k). absurd (omega (arith, e, high, doubled r, pow_mono {i = r + 1} {j = k} l)))
+          (before-or-from k (r + 1));
+    }
+
+-- the last place is below the width
+pub few : {w n : ℕ} → Reaches w n → n ≤ w
+few {w} {n} r = ⊎_elim (λ (l : n < 1). omega arith) (λ (l : 1 ≤ n). omega (arith, below (n - 1), r.near (n - 1) (omega arith))) (before-or-from n 1)
+
+pub few-stages : {w n : ℕ} → Reaches w n → w ≤ 129 → n ≤ 8
+few-stages {w} {n} r h = ⊎_elim (λ (l : n < 9). omega arith) (λ (l : 9 ≤ n). absurd (omega (arith, h, r.near 8 (omega arith)))) (before-or-from n 9)
+
+-- the places of a stage
+pub places : {w n i : ℕ} → Reaches w n → w ≤ 129 → i < n → 1 * 2 ^ i % 18446744073709551616 ≡ 2 ^ i
+places {i = i} r h l = let e : 1 * 2 ^ i ≡ 2 ^ i = omega arith in mod-eq_of_lt (omega (arith, h, r.near i l)) ∙ e
 
 pub gates-more : (w i : ℕ) → 3 * w * i + 3 * w ≤ 3 * w * (i + 1)
 gates-more w i = rw (add-one i, mul-suc (3 * w) i) (omega arith)
@@ -78,10 +95,11 @@ pub amount-low : {g bits h new : List ℕ} {k n out m w : ℕ} (b i : ℕ) → F
     → Under (get_or new (b + i) 0) n
 amount-low b i e lb low li = rw (e.before (b + i) (omega arith)) (omega (arith, low i li, e.grown.more))
 
-pub stages-done : {g bits h new : List ℕ} {k n : ℕ} (left : Bool) (l b : ℕ) {out w i m s : ℕ} → MovedTo g k bits h n new left l b out w i m → m ≤ 24 * w
-    → s ≡ 2 ^ i → w ≤ s → i ≤ w
-    → Stages g k bits h n new left l b out w i
-stages-done left l b e le q f t = record { makes = record { goes = Laws.from-most le e.goes; word = e.word }; far = omega (arith, q, f); few = t }
+pub stages-done : {g bits h new : List ℕ} {k m : ℕ} (left : Bool) (l b : ℕ) {out w n i all : ℕ} → MovedTo g k bits h m new left l b out w i all → all ≤ 24 * w
+    → Reaches w n → i ≡ n → Stages g k bits h m new left l b out w n
+stages-done {g} {bits} {h} {new} {k} {m} left l b {out} {w} {n} {i} e le r q =
+    let P : ℕ → Type 0 = λ t. MovedTo g k bits h m new left l b out w t (24 * w) in
+    record { makes = subst P q (record { goes = Laws.from-most le e.goes; word = e.word }); far = r.far; few = few r }
 
 -- ---- far
 

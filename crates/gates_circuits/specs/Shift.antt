@@ -31,6 +31,11 @@ pub record Moves (bits new : List ℕ) (left : Bool) (l out s w : ℕ) : Type 0 
   pub moves : {g : List ℕ} {k : ℕ} {f : (ℕ → ℕ) → ℕ} → Under l k → Word g k bits out w f
       → Word g k new (out + w) w (λ start. moved left (truth start g l) w (f start) s)
 
+-- the places of each of n bits of an amount, 1, 2, 4 .., are below the width, and n bits can move as far as the width
+pub record Reaches (w n : ℕ) : Type 0 where
+  pub near : (i : ℕ) → i < n → 2 ^ i < w
+  pub far : w ≤ 2 ^ n
+
 -- the word at `out` is moved by the number of the low n bits at b, and w places are as far as these can move it
 pub record Stages (g : List ℕ) (k : ℕ) (bits g' : List ℕ) (k' : ℕ) (bits' : List ℕ) (left : Bool) (l b out w n : ℕ) : Type 0 where
   pub makes : Makes g k bits g' k' bits' out w (24 * w) (λ start. moved left (truth start g l) w (number start g bits out w) (number start g bits b n))

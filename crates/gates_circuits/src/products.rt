@@ -53,11 +53,9 @@ fn rows(
         + number start graph.old bits.old a w * number start graph.old bits.old b w) % 2 ^ w) }
 {
     let mut all = count;
-    let mut j = 0;
-    while j < w {
+    for j in 0..w {
         let literal = bits[b + j];
         all = row(graph, all, table, bits, a, literal, out, j, w);
-        j += 1;
     }
     all
 }
@@ -84,14 +82,7 @@ fn multiply(
 fn comes_first(bits: &[u64], a: usize, b: usize, w: usize) -> bool
     requires { (a + w ≤ length bits.now) × (b + w ≤ length bits.now) }
 {
-    let mut i = 0;
-    while i < w {
-        if bits[a + i] != bits[b + i] {
-            return bits[a + i] < bits[b + i];
-        }
-        i += 1;
-    }
-    true
+    &bits[a..a + w] <= &bits[b..b + w]
 }
 
 // a × b. The words are put in order, so that b × a makes the same gates.

@@ -6,7 +6,7 @@ ghost use Rattle.gates.specs.Grow.{Room, Under};
 ghost use Rattle.gates_words.specs.Number.{number};
 ghost use Rattle.gates_words.specs.Words.{Low};
 ghost use Rattle.gates_circuits.specs.Makes.{Makes, Two};
-ghost use Rattle.gates_circuits.specs.Shift.{Moves, Stages, moved_if, moved, filled_with};
+ghost use Rattle.gates_circuits.specs.Shift.{Moves, Reaches, Stages, moved_if, moved, filled_with};
 
 use gates_words::bitwise::mux;
 use gates_words::compare::equal;
@@ -65,14 +65,15 @@ fn stage(
     mux(graph, count, table, bits, c, out + w, out, out, w)
 }
 
-// The count of gates after the stages, and how many bits of the amount they took.
-#[derive(Clone, Copy)]
-pub struct Staged {
-    pub count: usize,
-    pub stages: usize,
+// How many bits of an amount count: those whose places, 1, 2, 4 .., are below the width.
+fn stages_for(w: usize) -> usize
+    requires { w ≤ 129 }
+    ensures { Reaches w result }
+{
+    w.next_power_of_two().ilog2() as usize
 }
 
-// The word at `out` moved by the low bits of the amount at b: 1, 2, 4 .. places, up to the width.
+// The word at `out` moved by the low n bits of the amount at b: 1, 2, 4 .. places.
 fn stages(
     graph: &mut [u64],
     count: usize,
@@ -81,27 +82,21 @@ fn stages(
     left: bool,
     literal: u64,
     b: usize,
+    n: usize,
     out: usize,
     w: usize,
-) -> Staged
+) -> usize
     requires room { Room graph.old count (24 * w) × (out + 2 * w ≤ length bits.old) × (left ≡ true → literal ≡ 0) × (w ≤ 129) × (b + w ≤ out) }
     requires under { Under literal count × Low bits.old out w count × Low bits.old b w count }
-    ensures { Stages graph.old count bits.old graph.new result.count bits.new left literal b out w
-        result.stages }
+    requires reach { Reaches w n }
+    ensures { Stages graph.old count bits.old graph.new result bits.new left literal b out w n }
 {
     let mut all = count;
-    let mut i = 0;
-    let mut s = 1;
-    while s < w {
+    for i in 0..n {
         let c = bits[b + i];
-        all = stage(graph, all, table, bits, left, literal, c, out, s, w);
-        i += 1;
-        s = 2 * s;
+        all = stage(graph, all, table, bits, left, literal, c, out, 1 << i, w);
     }
-    Staged {
-        count: all,
-        stages: i,
-    }
+    all
 }
 
 // The word at `out` if the n bits at b are 0, else the literal w times.
@@ -158,11 +153,11 @@ fn shift(
         (number start graph.old bits.old a w) (number start graph.old bits.old b w)) }
 {
     copy(bits, a, out, w);
-    let near = stages(graph, count, table, bits, left, literal, b, out, w);
-    let taken = near.stages;
+    let taken = stages_for(w);
+    let near = stages(graph, count, table, bits, left, literal, b, taken, out, w);
     far(
         graph,
-        near.count,
+        near,
         table,
         bits,
         literal,
