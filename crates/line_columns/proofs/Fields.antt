@@ -29,7 +29,7 @@ tested : (a b c d : ℕ) (w : List ℕ) (x : ℕ) → w ≡ characters x
 tested a b c d w x e = rw e (simp (and_assoc, and-true))
 
 -- a character is a digit if it is the character of the digit that it shows
-pub digit-test : (b q : ℕ) → shown b ≡ q → (leb 48 b && leb b 57) ≡ eqb b (48 + q)
+digit-test : (b q : ℕ) → shown b ≡ q → (leb 48 b && leb b 57) ≡ eqb b (48 + q)
 digit-test b q e = go (leb 48 b && leb b 57) refl
   where
     go : (t : Bool) → (leb 48 b && leb b 57) ≡ t → (leb 48 b && leb b 57) ≡ eqb b (48 + q)

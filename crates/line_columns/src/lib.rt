@@ -1,23 +1,17 @@
 // Numbers in columns: right-justified decimals in fields of 4 characters, read and written. The Rust has no counterpart.
 #![tactic(auto)]
 
-ghost use Rattle.std.specs.Prelude.{◌≡◌, ◌&&◌, ◌+◌, ◌%◌, ◌≤◌, ◌<◌, leb, eqb, length};
+ghost use Rattle.std.specs.Prelude.{◌≡◌, ◌+◌, ◌%◌, ◌≤◌, ◌<◌, eqb, length};
 ghost use Rattle.text_digits.specs.Writing.{Room, Wrote};
 ghost use Rattle.line_columns.specs.Columns.{columns, character_of, shown, field_at, is_field};
 
 use text_digits::{put, tens_of};
 
-fn is_digit(b: u8) -> bool
-    ensures { result ≡ (leb 48 b && leb b 57) }
-{
-    (48 <= b) & (b <= 57)
-}
-
 // The digit that a character shows.
 fn digit(b: u8) -> u64
     ensures { (result ≡ shown b) × (result ≤ 9) }
 {
-    if is_digit(b) {
+    if b.is_ascii_digit() {
         return (b - 48) as u64;
     }
     0
@@ -65,7 +59,11 @@ fn stands(b: u8, above: u64) -> bool
     requires { shown b ≡ above % 10 }
     ensures { result ≡ eqb b (character_of above) }
 {
-    if above == 0 { b == 32 } else { is_digit(b) }
+    if above == 0 {
+        b == 32
+    } else {
+        b.is_ascii_digit()
+    }
 }
 
 // Whether the 4 characters are a number in columns.
@@ -76,7 +74,10 @@ pub fn is_field(line: &[u8], at: usize) -> bool
     let a = digit(line[at]);
     let b = 10 * a + digit(line[at + 1]);
     let c = 10 * b + digit(line[at + 2]);
-    stands(line[at], a) & stands(line[at + 1], b) & stands(line[at + 2], c) & is_digit(line[at + 3])
+    stands(line[at], a)
+        & stands(line[at + 1], b)
+        & stands(line[at + 2], c)
+        & line[at + 3].is_ascii_digit()
 }
 
 // Writes a number in columns.

@@ -99,9 +99,6 @@ words-part low high = omega arith
 words_last : (low high : ℕ) → wide low high % 16 ≡ low % 16
 words_last low high = omega arith
 
-pub words-fit : (low high : ℕ) → low < 18446744073709551616 → low / 16 + high % 16 * 1152921504606846976 < 18446744073709551616
-words-fit low high h = omega arith
-
 pub words-less : (low high : ℕ) → 16 ≤ wide low high → without-last low high < wide low high
 words-less low high h = subst (λ (k : ℕ). k < wide low high) (words-part low high) (part-less 16 (wide low high) (omega arith) h)
 

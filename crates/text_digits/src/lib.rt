@@ -7,13 +7,6 @@ ghost use Rattle.pool.specs.Node.{wide};
 ghost use Rattle.text_digits.specs.Pairs.{four_pairs};
 ghost use Rattle.text_digits.specs.Writing.{Room, Wrote};
 
-// What is left of x when y is taken off, and 0 if y is larger.
-pub fn minus_or_zero(x: usize, y: usize) -> usize
-    ensures { result ≡ x - y }
-{
-    if x < y { 0 } else { x - y }
-}
-
 // The character of a digit below 10.
 pub fn decimal_digit(d: u64) -> u8
     requires { d < 10 }
@@ -23,7 +16,7 @@ pub fn decimal_digit(d: u64) -> u8
 }
 
 // The character of a digit below 16.
-fn hex_digit(d: u64) -> u8
+pub fn hex_digit(d: u64) -> u8
     requires { d < 16 }
     ensures { result ≡ digit d }
 {
@@ -76,6 +69,7 @@ pub fn decimal_length(x: u64) -> usize
 
 // The characters of the four numbers from 4 × k on, all below 100: two a number, the tens' first, the first number's lowest. Of a `match`
 // the compiler makes a table in read-only memory; a constant array would be copied at each use.
+#[tactic(auto, unfolding(crate::specs::Pairs::four_pairs))]
 fn pairs(k: u64) -> u64
     requires { k < 25 }
     ensures { result ≡ four_pairs k }
@@ -178,7 +172,7 @@ fn one_digit(low: u64, high: u64) -> bool
 pub fn left_after_hex(low: u64, high: u64, b: usize) -> usize
     ensures { result ≡ b - length (hexadecimal (wide low high)) }
 {
-    let c = minus_or_zero(b, 1);
+    let c = b.saturating_sub(1);
     if one_digit(low, high) {
         return c;
     }
@@ -251,12 +245,7 @@ pub fn put(s: &[u8], buf: &mut [u8], at: usize) -> usize
     requires { Room buf.old at s.now }
     ensures { Wrote buf.old at s.now result buf.new }
 {
-    let mut j = 0;
-    let mut i = at;
-    while j < s.len() {
-        buf[i] = s[j];
-        i += 1;
-        j += 1;
-    }
-    i
+    let end = at + s.len();
+    buf[at..end].copy_from_slice(s);
+    end
 }

@@ -12,7 +12,7 @@ use pool::Node;
 use pool::words::{Kind, kind_of, width_of};
 use pool_check::node_number;
 use pool_fields::{cut_hi, cut_lo, first, high, left, low, right};
-use text_digits::{decimal_length, left_after_hex, minus_or_zero};
+use text_digits::{decimal_length, left_after_hex};
 use text_operators::operator_length;
 use text_parts::is_single;
 
@@ -28,9 +28,9 @@ fn left_after_leaf(p: &[u64], n: Node, k: u64, b: usize) -> usize
     ensures { result ≡ b - length (text p.now n.0) }
 {
     if k == Kind::VAR {
-        return minus_or_zero(b, decimal_length(low(p, n)) + 1);
+        return b.saturating_sub(decimal_length(low(p, n)) + 1);
     }
-    let c = minus_or_zero(b, decimal_length(width_of(p, n)) + 3);
+    let c = b.saturating_sub(decimal_length(width_of(p, n)) + 3);
     left_after_hex(low(p, n), high(p, n), c)
 }
 
@@ -40,10 +40,10 @@ fn left_after_single(p: &[u64], n: Node, k: u64, b: usize) -> usize
     ensures { result ≡ b - (length (open_text k) + length (end_text p.now n.0)) }
 {
     if k == Kind::EXTRACT {
-        let c = minus_or_zero(b, decimal_length(cut_hi(p, n).0) + 3);
-        return minus_or_zero(c, decimal_length(cut_lo(p, n).0));
+        let c = b.saturating_sub(decimal_length(cut_hi(p, n).0) + 3);
+        return c.saturating_sub(decimal_length(cut_lo(p, n).0));
     }
-    minus_or_zero(b, decimal_length(width_of(p, n)) + 8)
+    b.saturating_sub(decimal_length(width_of(p, n)) + 8)
 }
 
 // How many characters of its own a node with two operands has, or an Ite. By comparisons: the word of `operator_characters` would be kept
@@ -75,7 +75,7 @@ fn left_after_node(p: &&[u64], n: Node, b: usize) -> usize
     if is_single(k) {
         return left_after_node(p, first(*p, n), left_after_single(*p, n, k, b));
     }
-    let mut c = minus_or_zero(b, own_length(k));
+    let mut c = b.saturating_sub(own_length(k));
     if k == Kind::ITE {
         c = left_after_node(p, first(*p, n), c);
     }
