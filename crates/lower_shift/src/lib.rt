@@ -6,8 +6,10 @@ ghost use Rattle.pool.specs.Growth.{Room};
 ghost use Rattle.trees.specs.Trees.{shift_at, shift_lanes};
 ghost use Rattle.lower.specs.Builds.{Lowers, read, read_if, unread, Below};
 ghost use Rattle.lower_kinds.specs.Sources.{is_register, AmountIn};
+ghost use Rattle.lower_kinds.proofs.Props.{AmountIn-prop};
 ghost use Rattle.lower_shift.specs.Lanes.{MadeAmount};
 
+use lower::family::{Lanes, concat_each};
 use lower_kinds::sources::is_register;
 use lower_shift_lane::shift_lane;
 use neon::Lane;
@@ -35,49 +37,63 @@ pub fn signed_amount(
     lower_simd::extract_lane(pool, count, second, lane_bits, index)
 }
 
-// Lane `index` of the result.
-fn shift_at(
-    pool: &mut [u64],
-    count: usize,
+// The lanes of `first`, shifted by an immediate or by the lanes of `second`.
+#[derive(Clone, Copy)]
+struct Shifts {
     kind: ShiftKind,
     signed: bool,
     first: Node,
     second: Node,
     lane_bits: u64,
     lanes: u64,
-    index: Lane,
-) -> Built
-    requires room { Room pool.old count 24 }
-    requires first_lt_count { (first.0 < count) × Below (read_if (is_register kind) second 0) count }
-    requires le_lane_bits { (8 ≤ lane_bits) × (lane_bits ≤ 64) × AmountIn kind lane_bits × (index.0 < lanes) × (lane_bits * lanes ≤ 128) }
-    ensures { Lowers pool.old count pool.new result 24 lane_bits unread (read first (lane_bits * lanes))
-        (read_if (is_register kind) second (lane_bits * lanes)) (λ d a b. shift_at kind signed lane_bits a b index.0) [] }
-{
-    let value = lower_simd::extract_lane(pool, count, first, lane_bits, index);
-    if is_register(kind) {
-        let amount = signed_amount(pool, value.count, second, lane_bits, index);
-        return shift_lane(
-            pool,
-            amount.count,
-            kind,
-            signed,
-            value.node,
-            amount.node,
-            lane_bits,
-        );
-    }
-    shift_lane(
-        pool,
-        value.count,
-        kind,
-        signed,
-        value.node,
-        value.node,
-        lane_bits,
-    )
+    ghost fits: { (8 ≤ lane_bits) × (lane_bits ≤ 64) × (lane_bits * lanes ≤ 128) },
+    ghost of_row: { AmountIn kind lane_bits } by { AmountIn-prop kind lane_bits },
 }
 
-// The shifts, lane by lane: a lane is put above the lanes so far as it arises.
+impl Lanes for Shifts {
+    ghost plan = { λ s. record {
+      lanes = s.lanes;
+      bits = s.lane_bits;
+      nodes = 24;
+      d = unread;
+      first = read s.first (s.lane_bits * s.lanes);
+      second = read_if (is_register s.kind) s.second (s.lane_bits * s.lanes);
+      tree = λ d a b. shift_at s.kind s.signed s.lane_bits a b;
+      ins = [];
+    } };
+
+    fn lanes(&self) -> u64 {
+        self.lanes
+    }
+
+    fn make(&self, pool: &mut [u64], count: usize, index: Lane) -> Built {
+        let value = lower_simd::extract_lane(pool, count, self.first, self.lane_bits, index);
+        if is_register(self.kind) {
+            let amount = signed_amount(pool, value.count, self.second, self.lane_bits, index);
+            return shift_lane(
+                pool,
+                amount.count,
+                self.kind,
+                self.signed,
+                value.node,
+                amount.node,
+                self.lane_bits,
+            );
+        }
+        shift_lane(
+            pool,
+            value.count,
+            self.kind,
+            self.signed,
+            value.node,
+            value.node,
+            self.lane_bits,
+        )
+    }
+}
+
+// The shifts, lane by lane.
+#[tactic(auto, unfolding(trees::specs::Arith::shift_lanes))]
 pub fn shift_lanes(
     pool: &mut [u64],
     count: usize,
@@ -94,32 +110,13 @@ pub fn shift_lanes(
     ensures { Lowers pool.old count pool.new result (25 * lanes) (lane_bits * lanes) unread (read first (lane_bits * lanes))
         (read_if (is_register kind) second (lane_bits * lanes)) (λ d a b. shift_lanes kind signed a b lane_bits lanes) [] }
 {
-    let mut acc = shift_at(
-        pool,
-        count,
+    let shifts = Shifts {
         kind,
         signed,
         first,
         second,
         lane_bits,
         lanes,
-        Lane::first(),
-    );
-    let mut i = 1;
-    while i < lanes {
-        let lane = shift_at(
-            pool,
-            acc.count,
-            kind,
-            signed,
-            first,
-            second,
-            lane_bits,
-            lanes,
-            Lane(i),
-        );
-        acc = lower_simd::concat_lanes(pool, lane.count, lane.node, acc.node);
-        i += 1;
-    }
-    acc
+    };
+    concat_each(pool, count, &shifts)
 }
