@@ -57,10 +57,8 @@ pub fn nodes(
     ensures { gates.Nodes pool.now count graph.old old bits.old graph.new result bits.new }
 {
     let mut all = old;
-    let mut n = 0;
-    while n < count {
+    for n in 0..count {
         all = node(pool, Node(n), graph, all, table, bits);
-        n += 1;
     }
     all
 }

@@ -70,10 +70,8 @@ pub fn gates_in(pool: &[u64], count: usize) -> u64
     ensures { result ≡ gates_in pool.now count }
 {
     let mut all = 0;
-    let mut n = 0;
-    while n < count {
+    for n in 0..count {
         all += gates_at(pool, Node(n));
-        n += 1;
     }
     all
 }

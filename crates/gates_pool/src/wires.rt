@@ -74,10 +74,7 @@ pub fn wires(pool: &[u64], n: Node, bits: &mut [u64])
 {
     let w = width_of(pool, n) as usize;
     let at = 129 * n.0;
-    let mut j = 0;
-    while j < w {
-        let literal = wire(pool, n, bits, j);
-        bits[at + j] = literal;
-        j += 1;
+    for j in 0..w {
+        bits[at + j] = wire(pool, n, bits, j);
     }
 }
