@@ -18,13 +18,11 @@ pub fn gather(held: &mut [u8], len: usize, input: &[u8], from: usize) -> Gathere
     ensures { Gathers held.old len (drop from input.now) from result held.new }
 {
     let mut n = len;
-    let mut i = from;
-    while i < input.len() {
+    for i in from..input.len() {
         let b = input[i];
-        i += 1;
         if b == 10 {
             return Gathered {
-                taken: i,
+                taken: i + 1,
                 len: n,
                 ended: true,
             };
@@ -35,7 +33,7 @@ pub fn gather(held: &mut [u8], len: usize, input: &[u8], from: usize) -> Gathere
         }
     }
     Gathered {
-        taken: i,
+        taken: input.len().max(from),
         len: n,
         ended: false,
     }

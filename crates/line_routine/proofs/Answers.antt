@@ -4,10 +4,9 @@ use mathlib.Core.Bool.{Bool, true, false, ◌&&◌}
 use mathlib.Core.List.{List, [], ◌∷◌, ◌++◌}
 use Prim.Native.Nat.{ℕ, zero, suc, ◌+◌, ◌*◌, ◌-◌, ◌≤◌, ◌<◌}
 use native.Mathlib.Nat.{zero-add, not-suc-le-zero, le_of_suc-le-suc}
-use native.Mathlib.Numerals.{towards_suc}
 use native.Mathlib.Omega.{arith}
 use lib.Dec.{eqb}
-use lib.ListN.{length, drop, take, get_or, set, length-take, length-drop, get_or-eq_default}
+use lib.ListN.{length, drop, take, get_or, length-take, length-drop, get_or-eq_default}
 use lib.Seq.{sets-eq}
 use borrow.Author.Tests.{eqb-true, ne_eqb, le-leb, lt-leb}
 use Rattle.neon.specs.Refusal.{Refusal, refusal}
@@ -61,12 +60,6 @@ module _ (bs : List ℕ) (j : ℕ) where
   pub none_after : in_columns (line_at bs j) ≡ true → length bs ≤ 25 * j + 24 → is_line bs j ≡ true
   unfolding is_line
   none_after h l = rw (h, get_or-eq_default bs 10 l)
-
--- six numbers, stored one after the other
-pub wrote-six : (l : List ℕ) (at : ℕ) (f line : List ℕ) → f ≡ fields line
-    → Wrote l at (fields line) (at + 6)
-    (set (set (set (set (set (set l at (get_or f 0 0)) (at + 1) (get_or f 1 0)) (at + 2) (get_or f 2 0)) (at + 3) (get_or f 3 0)) (at + 4) (get_or f 4 0)) (at + 5) (get_or f 5 0))
-wrote-six l at f line e = rw e (record { next_is = refl; after_is = simp towards_suc })
 
 -- ---- all lines
 

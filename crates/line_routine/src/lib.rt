@@ -44,12 +44,10 @@ fn good_lines(bytes: &[u8]) -> usize
     ensures { Good bytes.now result }
 {
     let count = line_count(bytes);
-    let mut j = 0;
-    while j < count {
+    for j in 0..count {
         if !is_line(bytes, j) {
             return j;
         }
-        j += 1;
     }
     count
 }
@@ -61,15 +59,10 @@ fn put_fields(bytes: &[u8], j: usize, records: &mut [u64], at: usize) -> usize
     ensures { Wrote records.old at (fields (line_at bytes.now j)) result records.new }
 {
     let from = 25 * j;
-    let end = from + 24;
-    let f = fields_of(&bytes[from..end]);
-    records[at] = f[0];
-    records[at + 1] = f[1];
-    records[at + 2] = f[2];
-    records[at + 3] = f[3];
-    records[at + 4] = f[4];
-    records[at + 5] = f[5];
-    at + 6
+    let to = from + 24;
+    let end = at + 6;
+    records[at..end].copy_from_slice(&fields_of(&bytes[from..to]));
+    end
 }
 
 // Writes the numbers of all lines.
@@ -79,11 +72,9 @@ fn put_numbers(bytes: &[u8], records: &mut [u64]) -> usize
     ensures { Wrote records.old 0 (numbers_in bytes.now) result records.new }
 {
     let count = line_count(bytes);
-    let mut j = 0;
     let mut end = 0;
-    while j < count {
+    for j in 0..count {
         end = put_fields(bytes, j, records, end);
-        j += 1;
     }
     end
 }
