@@ -5,11 +5,9 @@ use mathlib.Core.Bool.{Bool, true, false, false≢true}
 use mathlib.Core.List.{List, [], ◌∷◌}
 use mathlib.Core.Logic.{◌⊎◌, inl, inr}
 use native.Mathlib.Omega.{arith}
-use native.Mathlib.Nat.{mul-le-mul_left}
 use Rattle.terms.specs.Expr.{Expr}
 use Rattle.pool.specs.declared.Node.{Node}
 use Rattle.pool.specs.declared.Built.{Built}
-use Rattle.pool_nodes.specs.Builders.{Takes}
 use Rattle.pool.proofs.Steps.{start, step, finish, spare}
 use Rattle.trees.specs.declared.SaturatingKind.{SaturatingKind}
 use Rattle.trees.specs.declared.SaturatingKind.TheVariants.{AddSub, Halving, Narrow, ShiftNarrow, DoublingMultiplyHigh, Unary}
@@ -21,13 +19,6 @@ use Rattle.lower_simd.specs.Cut.{MadeLane}
 use Rattle.lower.specs.Builds.{BuildsIf, BuildsCut, Lowers, read, read_if, unread, with_lower}
 use Rattle.lower.proofs.Lanes.{lane-fits, lane_of, kept-below}
 use Rattle.lower_kinds.specs.Sources.{uses_second}
-use Rattle.lower_kinds.proofs.Bits.{source-least}
-
--- ---- the bits of a source lane
-
--- the lanes that are made are no wider than those that are read
-pub made-most : (kind : SaturatingKind) (n lanes : ℕ) → kind_bits kind n * lanes ≤ 128 → n * lanes ≤ 128
-made-most kind n lanes h = omega (arith, mul-le-mul_left lanes (source-least kind n))
 
 -- ---- one lane
 
@@ -84,18 +75,6 @@ at_one {first = first} {second = second} {n = n} {lanes = lanes} {j = j} kind si
 -- the second lane, cut from its source; or the first one again, if the kind has no second source
 abbrev pub Second : (w1 : List ℕ) (r1 : Built) (w2 : List ℕ) (r2 : Built) (used : Bool) (second : Node) (bits j : ℕ) → Type 0
 Second w1 r1 w2 r2 used second bits j = ((used ≡ true) × MadeLane w1 r1.count w2 r2 second bits j) ⊎ ((used ≡ false) × (w2 ≡ w1) × (r2 ≡ r1))
-
--- what both take
-pub record Both (w0 : List ℕ) (k : ℕ) (w2 : List ℕ) (r1 r2 : Built) : Type 0 where
-  pub both : Takes w0 k w2 r2 2
-  pub first_under : r1.node.0 < r2.count
-
-pub both-sized : {w0 w1 w2 : List ℕ} {k : ℕ} {r1 r2 : Built} {first second : Node} {bits j : ℕ} {used : Bool}
-    → MadeLane w0 k w1 r1 first bits j
-    → Second w1 r1 w2 r2 used second bits j
-    → Both w0 k w2 r1 r2
-both-sized e (inl p) = record { both = omega (arith, e.sized, p.1.sized); first_under = omega (arith, e.sized, p.1.sized) }
-both-sized e (inr p) = rw (p.1, p.2) (record { both = omega (arith, e.sized); first_under = e.sized.under })
 
 pub at-lane : {w0 w1 w2 w3 : List ℕ} {k : ℕ} {r1 r2 r3 : Built} {first second : Node} {bits n lanes j : ℕ} (kind : SaturatingKind) (signed : Bool)
     → j < lanes
