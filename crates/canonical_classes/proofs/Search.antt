@@ -1,12 +1,12 @@
 -- The search for a key, and keys that are compared. Assumes nothing.
 use mathlib.Core.Path.{◌≡◌, refl, sym, ap, ◌∙◌, subst}
-use mathlib.Core.Bool.{Bool, true, false, false≢true}
+use mathlib.Core.Bool.{Bool, true, false, ◌&&◌, false≢true}
 use mathlib.Core.List.{List}
 use Prim.Native.Nat.{ℕ, zero, suc, ◌+◌, ◌-◌, ◌*◌, ◌≤◌, ◌<◌}
 use native.Mathlib.Omega.{arith}
 use native.Mathlib.Numerals.{add-one}
 use lib.ListN.{get_or}
-use lib.Dec.{ltb}
+use lib.Dec.{ltb, eqb}
 use borrow.Author.Tests.{eqb-true, eq-eqb, ne_eqb, ltb-true, ltb-false}
 use Rattle.facts.proofs.Tests.{and_both}
 use Rattle.canonical_classes.specs.declared.Key.{Key}
@@ -14,24 +14,29 @@ use Rattle.pool.specs.declared.Node.{Node}
 use Rattle.pool.specs.Node.{word_at, kind_number}
 use Rattle.pool_fields.specs.Fields.{op_a, op_b, op_c}
 use Rattle.pool_operands.specs.Operands.{has_a, has_b, has_c}
-use Rattle.canonical_classes.specs.Key.{class_if, key_of, same_key, bucket_of, way_of, under, next_of}
+use Rattle.canonical_classes.specs.Key.{class_if, key_of, bucket_of, way_of, under, next_of}
 use Rattle.canonical_classes.specs.Class.{On, Comes, Holds, Low, Rises}
 
 -- ---- keys
 
+-- what `==` computes at two keys
+abbrev pub same_key : Key → Key → Bool
+same_key k l =
+    eqb k.word l.word && (eqb k.a.0 l.a.0 && (eqb k.b.0 l.b.0 && (eqb k.c.0 l.c.0 && (eqb k.x l.x && eqb k.y l.y))))
+
 pub keys-same : (k l : Key) → same_key k l ≡ true → k ≡ l
 keys-same k l h =
-    let p5 = and_both _ _ h in
-    let p4 = and_both _ _ p5.0 in
-    let p3 = and_both _ _ p4.0 in
-    let p2 = and_both _ _ p3.0 in
-    let p1 = and_both _ _ p2.0 in
-    let e0 : k.word ≡ l.word = eqb-true _ _ p1.0 in
-    let e1 : k.a.0 ≡ l.a.0 = eqb-true _ _ p1.1 in
-    let e2 : k.b.0 ≡ l.b.0 = eqb-true _ _ p2.1 in
-    let e3 : k.c.0 ≡ l.c.0 = eqb-true _ _ p3.1 in
-    let e4 : k.x ≡ l.x = eqb-true _ _ p4.1 in
-    let e5 : k.y ≡ l.y = eqb-true _ _ p5.1 in
+    let p0 = and_both _ _ h in
+    let p1 = and_both _ _ p0.1 in
+    let p2 = and_both _ _ p1.1 in
+    let p3 = and_both _ _ p2.1 in
+    let p4 = and_both _ _ p3.1 in
+    let e0 : k.word ≡ l.word = eqb-true _ _ p0.0 in
+    let e1 : k.a.0 ≡ l.a.0 = eqb-true _ _ p1.0 in
+    let e2 : k.b.0 ≡ l.b.0 = eqb-true _ _ p2.0 in
+    let e3 : k.c.0 ≡ l.c.0 = eqb-true _ _ p3.0 in
+    let e4 : k.x ≡ l.x = eqb-true _ _ p4.0 in
+    let e5 : k.y ≡ l.y = eqb-true _ _ p4.1 in
     λ i. record { word = e0 i; a = record { 0 = e1 i }; b = record { 0 = e2 i }; c = record { 0 = e3 i }; x = e4 i; y = e5 i }
 
 same_self : (k : Key) → same_key k k ≡ true

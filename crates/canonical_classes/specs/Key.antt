@@ -1,5 +1,5 @@
 -- What tells the trees of two nodes apart, once their operands are told apart.
-use Rattle.std.specs.Prelude.{Bool, cond, ◌&&◌, List, ℕ, ◌+◌, ◌*◌, ◌/◌, ◌%◌, ◌^◌, ltb, eqb, get_or}
+use Rattle.std.specs.Prelude.{Bool, cond, List, ℕ, ◌+◌, ◌*◌, ◌/◌, ◌%◌, ◌^◌, ltb, eqb, get_or}
 use Rattle.pool.specs.Node.{operand_word, word_at, kind_number}
 use Rattle.pool_fields.specs.Fields.{op_a, op_b, op_c}
 use Rattle.pool_operands.specs.Operands.{has_a, has_b, has_c}
@@ -19,10 +19,6 @@ key_of ws class n =
       x = word_at ws n 2;
       y = word_at ws n 3;
     }
-
-abbrev pub same_key : Key → Key → Bool
-same_key k l =
-    eqb k.word l.word && eqb k.a.0 l.a.0 && eqb k.b.0 l.b.0 && eqb k.c.0 l.c.0 && eqb k.x l.x && eqb k.y l.y
 
 -- the operands' classes as one number
 abbrev pub operands_of : Key → ℕ

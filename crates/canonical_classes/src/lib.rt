@@ -4,7 +4,7 @@
 ghost use Rattle.std.specs.Prelude.{◌≡◌, ◌+◌, ◌*◌, ◌≤◌, ◌<◌, length, get_or};
 ghost use Rattle.pool.specs.Rules.{Valid};
 ghost use Rattle.pool_fields.specs.Fields.{op_c};
-ghost use Rattle.canonical_classes.specs.Key.{class_if, key_of, same_key, mix_of, bucket_of, other_mix_of, spread_of, row_of, way_of, next_of};
+ghost use Rattle.canonical_classes.specs.Key.{class_if, key_of, mix_of, bucket_of, other_mix_of, spread_of, row_of, way_of, next_of};
 ghost use Rattle.canonical_classes.specs.Class.{Empty, Low, Rises, Found, Classes, Long, Laid, Linked, Kept, slots_of};
 
 use pool::Node;
@@ -13,7 +13,7 @@ use pool_fields::{first, high, low, second, third};
 use pool_operands::{has_a, has_b, has_c};
 
 // A node's word 0, the classes of its operands, node 0 for an operand that its kind has not, and its words 2 and 3.
-#[derive(Clone, Copy)]
+#[derive(Clone, Copy, PartialEq, Eq)]
 pub struct Key {
     pub word: u64,
     pub a: Node,
@@ -23,19 +23,13 @@ pub struct Key {
     pub y: u64,
 }
 
-pub fn wide(x: u16) -> usize
-    ensures { (result ≡ x) × (result < 65536) }
-{
-    x as usize
-}
-
 // The node that an array has for node m. The class of m, the first node with its tree, is what `class` has for it.
 pub fn node_at(array: &[u16; 65536], m: Node) -> Node
     requires { m.0 < 65536 }
     ensures { (result.0 ≡ get_or array.now m.0 0) × (result.0 < 65536) }
 {
     let at = m.0;
-    Node(wide(array[at]))
+    Node(usize::from(array[at]))
 }
 
 // The class of the node m, node 0 if there is no such operand.
@@ -62,17 +56,6 @@ fn key_of(pool: &[u64], class: &[u16; 65536], n: Node) -> Key
         x: low(pool, n),
         y: high(pool, n),
     }
-}
-
-fn same(k: Key, l: Key) -> bool
-    ensures { result ≡ same_key k l }
-{
-    (k.word == l.word)
-        & (k.a.0 == l.a.0)
-        & (k.b.0 == l.b.0)
-        & (k.c.0 == l.c.0)
-        & (k.x == l.x)
-        & (k.y == l.y)
 }
 
 // Spreads a number's bits.
@@ -152,12 +135,12 @@ fn link_at(first: &[u16; 65536], second: &[u16; 65536], ways: &[u16; 131072], sl
     ensures { (result ≡ get_or (slots_of first.now second.now ways.now) slot 0) × (result < 65536) }
 {
     if slot < 65536 {
-        return wide(first[slot]);
+        return usize::from(first[slot]);
     }
     if slot < 131072 {
-        return wide(second[slot - 65536]);
+        return usize::from(second[slot - 65536]);
     }
-    wide(ways[slot - 131072])
+    usize::from(ways[slot - 131072])
 }
 
 // Puts the link to node n into a slot.
@@ -211,7 +194,7 @@ fn find(
     let mut link = link_at(first, second, ways, slot);
     while 0 < link {
         let m = Node(link - 1);
-        if same(key_of(pool, class, m), k) {
+        if key_of(pool, class, m) == k {
             return Place { link, slot };
         }
         slot = next(k, spread, m, level);
@@ -261,9 +244,7 @@ pub fn classes(
     requires empty { Empty first.old × Empty second.old × Empty ways.old }
     ensures { Classes pool.now count class.new × Long first.new × Long second.new }
 {
-    let mut n = 0;
-    while n < count {
+    for n in 0..count {
         class_one(pool, Node(n), class, first, second, ways);
-        n += 1;
     }
 }
