@@ -7,7 +7,7 @@ ghost use Rattle.pool_fields.specs.Fields.{op_c};
 ghost use Rattle.canonical_classes.specs.Class.{Classes, Long};
 ghost use Rattle.canonical_order.specs.Walk.{pick, next_open, AllNone, Walking, Stepped, Numbered};
 
-use canonical_classes::{node_at, wide};
+use canonical_classes::node_at;
 use pool::Node;
 use pool::words::kind_of;
 use pool_fields::{first, second, third};
@@ -18,7 +18,7 @@ fn pick(there: bool, m: Node, number: &[u16; 65536], rest: Node) -> Node
     requires { m.0 < 65536 }
     ensures { result.0 ≡ pick there m.0 number.now rest.0 }
 {
-    if there & (node_at(number, m).0 == Node::NONE) {
+    if there & (node_at(number, m) == Node::none()) {
         return m;
     }
     rest
@@ -65,9 +65,9 @@ fn turn(
         number.new order.new result.count stack.new result.depth }
 {
     let top = s.depth - 1;
-    let n = Node(wide(stack[top]));
+    let n = Node(usize::from(stack[top]));
     let m = next_open(pool, class, number, n);
-    if m.0 == Node::NONE {
+    if m == Node::none() {
         let k = s.count;
         let at = n.0;
         number[at] = k as u16;
