@@ -7,20 +7,14 @@ use Prim.Native.Nat.{ℕ, zero, suc, ◌+◌, ◌*◌, ◌-◌, ◌/◌, ◌%◌
 use native.Mathlib.Nat.{add-zero, add-suc, eq-or-lt_of_le, le_of_suc-le-suc, mul_assoc}
 use native.Mathlib.Numerals.{add-one}
 use native.Mathlib.Omega.{arith}
-use lib.Dec.{leb}
 use lib.ListN.{length, get_or, set, length-append}
-use borrow.Author.Tests.{leb-true}
-use Rattle.facts.proofs.Tests.{and_both}
 use Rattle.terms.specs.Display.{digit}
 use Rattle.text_digits.specs.Writing.{Wrote}
 use Rattle.text_digits.proofs.Laws.{wrote_then, wrote-byte, wrote_as}
 use Rattle.wide.specs.Number.{words}
-use Rattle.run_registers.specs.Digits.{between, is_hex, hex_value, hex_at, all_hex, hex_digits}
+use Rattle.run_registers.specs.Digits.{is_hex, hex_value, hex_at, all_hex, hex_digits}
 
 -- ---- reading
-
-pub in-range : (least most b : ℕ) → between least most b ≡ true → (least ≤ b) × (b ≤ most)
-in-range least most b h = let t = and_both (leb least b) (leb b most) h in (leb-true least b t.0, leb-true b most t.1)
 
 -- 16 to the k
 pub top : ℕ → ℕ

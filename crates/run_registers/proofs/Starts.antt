@@ -9,7 +9,7 @@ use native.Mathlib.Omega.{arith}
 use lib.Dec.{eqb, leb}
 use lib.ListN.{length, drop, get_or, drop_of_length-le, get_or-eq_default}
 use lib.Seq.{drop-cons}
-use borrow.Author.Tests.{leb-true, leb-false, ne_eqb}
+use borrow.Author.Tests.{leb-true, leb-false}
 use Rattle.text_digits.specs.Writing.{Wrote}
 use Rattle.text_digits.proofs.Laws.{wrote_none, wrote_as}
 use Rattle.text_series.specs.Series.{up_to}
@@ -134,39 +134,4 @@ module _ (bs old : List ℕ) where
         next_in = l.next_in;
         next_is = λ z. rw (← n) (l.next_is z);
         words_are = rw (e, ← n, line-reads-all bs (skip false bs next)) h.wrote.after_is;
-      }
-
--- ---- the end of the line
-
-module _ (bs : List ℕ) (from at : ℕ) (place : at ≡ skip false bs from) (inside : at ≤ length bs) where
-  pub line-over : at ≡ length bs → LineRead bs from (record { number = 0; position = 0; next = at })
-  line-over h =
-      let d : get_or bs (skip false bs from) 10 ≡ 10 = get_or-eq_default bs 10 (omega (arith, place, h)) in
-      record {
-        number_is = rw d;
-        position_is = rw d;
-        next_in = inside;
-        next_is = λ z. drop_of_length-le bs {i = at} (omega arith) ∙ sym (drop_of_length-le bs {i = skip false bs from + 1} (omega (arith, place, h)));
-      }
-
-  pub line-ends : (at ≡ length bs → ⊥) → get_or bs at 0 ≡ 10 → LineRead bs from (record { number = 0; position = 0; next = at + 1 })
-  line-ends h e =
-      let l : at < length bs = omega (arith, h) in
-      let d : get_or bs (skip false bs from) 10 ≡ 10 = rw (← place) (get_d_any bs at 10 0 l ∙ e) in
-      record {
-        number_is = rw d;
-        position_is = rw d;
-        next_in = omega arith;
-        next_is = λ z. ap (λ (k : ℕ). drop (k + 1) bs) place;
-      }
-
-  pub line-goes-on : (at ≡ length bs → ⊥) → (get_or bs at 0 ≡ 10 → ⊥) → (s : Start) → (s.number ≡ 10) × (s.position ≡ 32) × (s.next ≡ 0) → LineRead bs from s
-  line-goes-on h e s q =
-      let l : at < length bs = omega (arith, h) in
-      let d : eqb (get_or bs (skip false bs from) 10) 10 ≡ false = ne_eqb (get_or bs (skip false bs from) 10) 10 (λ x. e (get_d_any bs at 0 10 l ∙ rw place x)) in
-      record {
-        number_is = rw d q.0;
-        position_is = rw d q.1;
-        next_in = omega (arith, q);
-        next_is = λ z. absurd (omega (arith, z, q));
       }

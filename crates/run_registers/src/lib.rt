@@ -37,10 +37,8 @@ fn word_at(bytes: &[u8], at: usize) -> u64
     ensures { result ≡ hex_at bytes.now at 16 }
 {
     let mut word = 0;
-    let mut j = 0;
-    while j < 16 {
+    for j in 0..16 {
         word = 16 * word + hex_value(bytes[at + j]);
-        j += 1;
     }
     word
 }
@@ -51,10 +49,8 @@ fn all_hex(bytes: &[u8], at: usize) -> bool
     ensures { result ≡ all_hex bytes.now at 32 }
 {
     let mut all = true;
-    let mut j = 0;
-    while j < 32 {
-        all = all & is_hex(bytes[at + j]);
-        j += 1;
+    for j in 0..32 {
+        all &= is_hex(bytes[at + j]);
     }
     all
 }
@@ -71,14 +67,12 @@ fn gap_end(bytes: &[u8], from: usize, newlines: bool) -> usize
     requires { from ≤ length bytes.now }
     ensures { (result ≡ skip newlines bytes.now from) × (result ≤ length bytes.now) }
 {
-    let mut i = from;
-    while i < bytes.len() {
+    for i in from..bytes.len() {
         if !is_gap(newlines, bytes[i]) {
             return i;
         }
-        i += 1;
     }
-    i
+    bytes.len()
 }
 
 // Whether a register stands there: 32 digits, and a gap or nothing after them.
@@ -153,15 +147,13 @@ pub fn read_start(bytes: &[u8], words: &mut [u64; 64]) -> Start
     ensures { StartRead bytes.now words.old result words.new }
 {
     let mut next = 0;
-    let mut r = 0;
-    while r < 32 {
+    for r in 0..32 {
         let at = gap_end(bytes, next, true);
         if !is_register(bytes, at) {
             return refused(r);
         }
         put_pair(bytes, at, words, 2 * r);
         next = at + 32;
-        r += 1;
     }
     line_after(bytes, next)
 }

@@ -1,6 +1,5 @@
 -- `run_registers::put_digits` meets its contract: the digits but the last, then the last.
-use Rattle.std.proofs.Common.{◌≡◌, ◌-◌, ◌/◌, ◌+◌, ℕ, length, ap, ◌∙◌, arith}
-use lib.ListN.{length-set}
+use Rattle.std.proofs.Common.{◌≡◌, ◌-◌, ◌/◌, ℕ, ap, ◌∙◌, arith}
 use Rattle.text_digits.proofs.Laws.{wrote_none, wrote_as, wrote-length}
 use Rattle.run_registers.specs.Digits.{hex_digits}
 use Rattle.run_registers.proofs.Digits.{none, digits-length, wrote-last}
