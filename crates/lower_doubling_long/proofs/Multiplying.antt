@@ -84,6 +84,10 @@ factor-most false n lanes h = omega (arith, halved n lanes)
 pub lanes-most : (n lanes : ℕ) → 2 ≤ n → n * lanes ≤ 128 → lanes ≤ 128
 lanes-most n lanes l h = omega (arith, mul-le-mul_left lanes l)
 
+-- the lane that is multiplied ends within the register
+pub factor-in : (upper : Bool) (n lanes : ℕ) {j lane : ℕ} → j < lanes → lane ≡ source_lane upper lanes j → n * lanes ≤ 128 → n / 2 * lane + n / 2 ≤ 128
+factor-in upper n lanes h e l = omega (arith, factor-fits upper n lanes h e, factor-most upper n lanes l)
+
 doubled-one : {w0 w1 w2 w3 w4 : List ℕ} {k : ℕ} {r1 r2 r3 r4 : Built} {first value d : Node} {n lanes j lane : ℕ} (combine : Option BinOp) (upper : Bool)
     → j < lanes
     → lane ≡ source_lane upper lanes j

@@ -3,19 +3,19 @@
 
 ghost use Rattle.std.specs.Prelude.{◌≡◌, [], ◌∷◌, ◌+◌, ◌-◌, ◌*◌, ◌/◌, ◌≤◌, ◌<◌};
 ghost use Rattle.pool.specs.Growth.{Room};
-ghost use Rattle.trees.specs.Simd.{concat_lanes};
 ghost use Rattle.trees.specs.Arith.{source_lane};
 ghost use Rattle.trees.specs.Trees.{doubling_product, doubling_long_lanes};
 ghost use Rattle.lower.specs.Builds.{Builds2, Lowers, read, read_if, unread, Below};
 ghost use Rattle.lower_doubling_long.specs.Elements.{accumulates, element_node, element_source, element_nodes, factor_bits, second_factor_bits, MadeElement};
 ghost use Rattle.lower_doubling_long.specs.Lanes.{combined_at, doubled_at};
 
+use lower::family::{Lanes, concat_each};
 use lower_exact::join;
 use lower_exact::product::double;
 use neon::Lane;
 use pool::{Built, Node};
-use trees::SaturateTo;
 use terms::BinOp;
+use trees::SaturateTo;
 
 // A second source: one element for every lane, or a vector whose lanes are read one by one.
 #[derive(Clone, Copy)]
@@ -115,10 +115,9 @@ fn second_lane(pool: &mut [u64], count: usize, second: Element, bits: u64, index
     }
 }
 
-// Lane `index` of the result.
-fn doubling_at(
-    pool: &mut [u64],
-    count: usize,
+// The products of the lanes of `first` and a second source that is made, doubled.
+#[derive(Clone, Copy)]
+struct Doublings {
     combine: Option<BinOp>,
     upper: bool,
     first: Node,
@@ -126,82 +125,42 @@ fn doubling_at(
     d: Node,
     lane_bits: u64,
     lanes: u64,
-    index: Lane,
-) -> Built
-    requires room { Room pool.old count 25 }
-    requires first_lt_count { (first.0 < count) × (element_node second < count) × Below (read_if (accumulates combine) d 0) count }
-    requires le_lane_bits { (2 ≤ lane_bits) × (lane_bits ≤ 64) × (index.0 < lanes) × (lane_bits * lanes ≤ 128) }
-    ensures { Lowers pool.old count pool.new result 25 lane_bits (read_if (accumulates combine) d (lane_bits * lanes))
-        (read first (factor_bits upper lane_bits lanes)) (element_source second (lane_bits / 2) (factor_bits upper lane_bits lanes))
-        (λ d a b. doubled_at combine second upper lane_bits lanes d a b index.0)
-        (element_nodes second) }
-{
-    let narrow = lane_bits / 2;
-    let from = source_lane(upper, lanes, index);
-    let a = lower_simd::extract_lane(pool, count, first, narrow, from);
-    let b = second_lane(pool, a.count, second, narrow, from);
-    let product = doubling_product(pool, b.count, a.node, b.node, lane_bits);
-    combine_at(
-        pool,
-        product.count,
-        combine,
-        product.node,
-        d,
-        lane_bits,
-        lanes,
-        index,
-    )
+    ghost fits: { (2 ≤ lane_bits) × (lane_bits ≤ 64) × (lane_bits * lanes ≤ 128) },
 }
 
-// The lanes, over a second source that is made.
-fn doubled_lanes(
-    pool: &mut [u64],
-    count: usize,
-    combine: Option<BinOp>,
-    upper: bool,
-    first: Node,
-    second: Element,
-    d: Node,
-    lane_bits: u64,
-    lanes: u64,
-) -> Built
-    requires room { Room pool.old count (26 * lanes) }
-    requires first_lt_count { (first.0 < count) × (element_node second < count) × Below (read_if (accumulates combine) d 0) count }
-    requires le_lane_bits { (2 ≤ lane_bits) × (lane_bits ≤ 64) × (1 ≤ lanes) × (lane_bits * lanes ≤ 128) }
-    ensures { Lowers pool.old count pool.new result (26 * lanes) (lane_bits * lanes)
-        (read_if (accumulates combine) d (lane_bits * lanes)) (read first (factor_bits upper lane_bits lanes)) (element_source second (lane_bits / 2) (factor_bits upper lane_bits lanes))
-        (λ d a b. concat_lanes (lanes - 1) (doubled_at combine second upper lane_bits lanes d a b)) (element_nodes second) }
-{
-    let mut acc = doubling_at(
-        pool,
-        count,
-        combine,
-        upper,
-        first,
-        second,
-        d,
-        lane_bits,
-        lanes,
-        Lane::first(),
-    );
-    let mut i = 1;
-    while i < lanes {
-        let lane = doubling_at(
-            pool,
-            acc.count,
-            combine,
-            upper,
-            first,
-            second,
-            d,
-            lane_bits,
-            lanes,
-            Lane(i),
-        );
-        acc = lower_simd::concat_lanes(pool, lane.count, lane.node, acc.node);
-        i += 1;
+impl Lanes for Doublings {
+    ghost plan = { λ s. record {
+      lanes = s.lanes;
+      bits = s.lane_bits;
+      nodes = 25;
+      d = read_if (accumulates s.combine) s.d (s.lane_bits * s.lanes);
+      first = read s.first (factor_bits s.upper s.lane_bits s.lanes);
+      second = element_source s.second (s.lane_bits / 2) (factor_bits s.upper s.lane_bits s.lanes);
+      tree = λ d a b. doubled_at s.combine s.second s.upper s.lane_bits s.lanes d a b;
+      ins = element_nodes s.second;
+    } };
+
+    fn lanes(&self) -> u64 {
+        self.lanes
     }
-    acc
+
+    fn make(&self, pool: &mut [u64], count: usize, index: Lane) -> Built {
+        let narrow = self.lane_bits / 2;
+        let from = source_lane(self.upper, self.lanes, index);
+        let a = lower_simd::extract_lane(pool, count, self.first, narrow, from);
+        let b = second_lane(pool, a.count, self.second, narrow, from);
+        let product = doubling_product(pool, b.count, a.node, b.node, self.lane_bits);
+        combine_at(
+            pool,
+            product.count,
+            self.combine,
+            product.node,
+            self.d,
+            self.lane_bits,
+            self.lanes,
+            index,
+        )
+    }
 }
 
 // SQDMULL, SQDMLAL and SQDMLSL: an element is read once, for every lane.
@@ -226,30 +185,19 @@ pub fn doubling_long_lanes(
         (read second (second_factor_bits by_element upper lane_bits lanes))
         (λ d a b. doubling_long_lanes combine upper by_element element.0 a b d lane_bits lanes) [] }
 {
-    if by_element {
-        let one = lower_simd::extract_lane(pool, count, second, lane_bits / 2, element);
-        let value = one.node;
-        return doubled_lanes(
-            pool,
-            one.count,
-            combine,
-            upper,
-            first,
-            Element::One(value),
-            d,
-            lane_bits,
-            lanes,
-        );
-    }
-    doubled_lanes(
-        pool,
-        count,
+    let mut doublings = Doublings {
         combine,
         upper,
         first,
-        Element::PerLane(second),
+        second: Element::PerLane(second),
         d,
         lane_bits,
         lanes,
-    )
+    };
+    if by_element {
+        let one = lower_simd::extract_lane(pool, count, second, lane_bits / 2, element);
+        doublings.second = Element::One(one.node);
+        return concat_each(pool, one.count, &doublings);
+    }
+    concat_each(pool, count, &doublings)
 }
