@@ -9,56 +9,29 @@ use trees::{SaturatingKind, ShiftKind};
 pub fn is_register(kind: ShiftKind) -> bool
     ensures { result ≡ is_register kind }
 {
-    match kind {
-        ShiftKind::LeftImmediate {
-            shift: _,
-            saturate: _,
-        } => false,
-        ShiftKind::RightImmediate {
-            shift: _,
-            rounding: _,
-        } => false,
-        ShiftKind::Register {
-            rounding: _,
-            saturate: _,
-        } => true,
-    }
+    matches!(kind, ShiftKind::Register { .. })
 }
 
 // The saturating kinds of two sources.
 pub fn uses_second(kind: SaturatingKind) -> bool
     ensures { result ≡ uses_second kind }
 {
-    match kind {
-        SaturatingKind::AddSub { op: _, to: _ } => true,
-        SaturatingKind::Halving { rounding: _ } => true,
-        SaturatingKind::Narrow { to: _ } => false,
-        SaturatingKind::ShiftNarrow {
-            shift: _,
-            rounding: _,
-            to: _,
-        } => false,
-        SaturatingKind::DoublingMultiplyHigh { rounding: _ } => true,
-        SaturatingKind::Unary { negate: _ } => false,
-    }
+    matches!(
+        kind,
+        SaturatingKind::AddSub { .. }
+            | SaturatingKind::Halving { .. }
+            | SaturatingKind::DoublingMultiplyHigh { .. }
+    )
 }
 
 // The saturating kinds whose source lanes have twice the bits of the result's.
 pub fn narrowing(kind: SaturatingKind) -> bool
     ensures { result ≡ narrowingTree kind }
 {
-    match kind {
-        SaturatingKind::AddSub { op: _, to: _ } => false,
-        SaturatingKind::Halving { rounding: _ } => false,
-        SaturatingKind::Narrow { to: _ } => true,
-        SaturatingKind::ShiftNarrow {
-            shift: _,
-            rounding: _,
-            to: _,
-        } => true,
-        SaturatingKind::DoublingMultiplyHigh { rounding: _ } => false,
-        SaturatingKind::Unary { negate: _ } => false,
-    }
+    matches!(
+        kind,
+        SaturatingKind::Narrow { .. } | SaturatingKind::ShiftNarrow { .. }
+    )
 }
 
 // The bits of a source's lane.
