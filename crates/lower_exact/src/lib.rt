@@ -84,16 +84,12 @@ pub fn kind_to(kind: SaturatingKind) -> Option<SaturateTo>
     ensures { result ≡ kind_to kind }
 {
     match kind {
-        SaturatingKind::AddSub { op: _, to } => Some(to),
-        SaturatingKind::Halving { rounding: _ } => None,
+        SaturatingKind::AddSub { to, .. } => Some(to),
+        SaturatingKind::Halving { .. } => None,
         SaturatingKind::Narrow { to } => Some(to),
-        SaturatingKind::ShiftNarrow {
-            shift: _,
-            rounding: _,
-            to,
-        } => to,
-        SaturatingKind::Unary { negate: _ } => Some(SaturateTo::Signed),
-        SaturatingKind::DoublingMultiplyHigh { rounding: _ } => Some(SaturateTo::Signed),
+        SaturatingKind::ShiftNarrow { to, .. } => to,
+        SaturatingKind::Unary { .. } => Some(SaturateTo::Signed),
+        SaturatingKind::DoublingMultiplyHigh { .. } => Some(SaturateTo::Signed),
     }
 }
 
@@ -103,16 +99,12 @@ pub fn exact_bits(kind: SaturatingKind, lane_bits: u64) -> u64
     ensures { result ≡ exact_bits kind lane_bits }
 {
     match kind {
-        SaturatingKind::AddSub { op: _, to: _ } => lane_bits + 1,
-        SaturatingKind::Halving { rounding: _ } => lane_bits + 1,
-        SaturatingKind::Narrow { to: _ } => lane_bits * 2,
-        SaturatingKind::ShiftNarrow {
-            shift: _,
-            rounding: _,
-            to: _,
-        } => lane_bits * 2 + 1,
-        SaturatingKind::Unary { negate: _ } => lane_bits + 1,
-        SaturatingKind::DoublingMultiplyHigh { rounding: _ } => lane_bits * 2 + 1,
+        SaturatingKind::AddSub { .. } => lane_bits + 1,
+        SaturatingKind::Halving { .. } => lane_bits + 1,
+        SaturatingKind::Narrow { .. } => lane_bits * 2,
+        SaturatingKind::ShiftNarrow { .. } => lane_bits * 2 + 1,
+        SaturatingKind::Unary { .. } => lane_bits + 1,
+        SaturatingKind::DoublingMultiplyHigh { .. } => lane_bits * 2 + 1,
     }
 }
 
@@ -193,7 +185,7 @@ pub fn exact_lane(
         (exact_bits kind lane_bits) (λ a b. exact_lane kind a b lane_bits signed_sources) }
 {
     match kind {
-        SaturatingKind::AddSub { op, to: _ } => {
+        SaturatingKind::AddSub { op, .. } => {
             join(
                 pool,
                 count,
@@ -209,7 +201,7 @@ pub fn exact_lane(
         SaturatingKind::Halving { rounding } => {
             exact_half(pool, count, rounding, a, b, lane_bits, signed_sources)
         }
-        SaturatingKind::Narrow { to: _ } => Built { node: a, count },
+        SaturatingKind::Narrow { .. } => Built { node: a, count },
         SaturatingKind::ShiftNarrow {
             shift,
             rounding,

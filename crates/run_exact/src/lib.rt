@@ -137,17 +137,7 @@ pub fn limit(saturate: Option<SaturateTo>, n: u64, v: Wide) -> Clamped
 fn is_sub(op: BinOp) -> bool
     ensures { result ≡ is_sub op }
 {
-    match op {
-        BinOp::Sub => true,
-        BinOp::Add => false,
-        BinOp::Mul => false,
-        BinOp::And => false,
-        BinOp::Or => false,
-        BinOp::Xor => false,
-        BinOp::Shl => false,
-        BinOp::LShr => false,
-        BinOp::AShr => false,
-    }
+    matches!(op, BinOp::Sub)
 }
 
 // The sum, or the difference.
