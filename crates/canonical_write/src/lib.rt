@@ -91,10 +91,8 @@ fn write(
     requires k_in_bounds { (4 * k ≤ length out.old) × (k ≤ 65535) }
     ensures { Written pool.now root.0 k out.old out.new }
 {
-    let mut j = 0;
-    while j < k {
+    for j in 0..k {
         write_one(pool, class, root, number, order, k, Node(j), out);
-        j += 1;
     }
 }
 
