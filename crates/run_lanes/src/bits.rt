@@ -20,10 +20,8 @@ fn count_ones(k: u64, a: u64) -> u64
     ensures { result ≡ ones k a }
 {
     let mut r = 0;
-    let mut j = 0;
-    while j < k {
+    for j in 0..k {
         r += bit(a, j);
-        j += 1;
     }
     r
 }
@@ -33,16 +31,12 @@ fn run_of(t: u64, k: u64, a: u64) -> u64
     requires { k ≤ 64 }
     ensures { result ≡ equal_run t k a }
 {
-    let mut r = 0;
-    let mut j = k;
-    while j > 0 {
-        if bit(a, j - 1) != t {
-            return r;
+    for j in (0..k).rev() {
+        if bit(a, j) != t {
+            return k - 1 - j;
         }
-        r += 1;
-        j -= 1;
     }
-    r
+    k
 }
 
 fn reversed(n: u64, a: u64) -> u64
@@ -50,10 +44,8 @@ fn reversed(n: u64, a: u64) -> u64
     ensures { result ≡ lanes 1 n (λ j. bit_at (n - 1 - j) a) }
 {
     let mut r = 0;
-    let mut j = 0;
-    while j < n {
+    for j in 0..n {
         r += bit(a, n - 1 - j) * power(j);
-        j += 1;
     }
     r
 }

@@ -75,11 +75,7 @@ fn doubling_lane(combine: Option<BinOp>, n: u64, d: u64, a: u64, b: u64) -> Clam
     requires { (2 ≤ n) × (n ≤ 64) × (a < 2 ^ (n / 2)) × (b < 2 ^ (n / 2)) × (d < 2 ^ n) }
     ensures { Answers (doubling_lane_z combine n d a b) (doubling_beyond combine n d a b) result.bits result.saturated }
 {
-    let p = limit(
-        Some(SaturateTo::Signed),
-        n,
-        doubled_product(n / 2, a, b),
-    );
+    let p = limit(Some(SaturateTo::Signed), n, doubled_product(n / 2, a, b));
     match combine {
         None => p,
         Some(op) => {
@@ -158,11 +154,7 @@ fn unary_lane(negate: bool, n: u64, a: u64) -> Clamped
     requires { (0 < n) × (n ≤ 64) × (a < 2 ^ n) }
     ensures { Answers (saturating_lane_z (Unary negate) true n a 0) (saturating_beyond (Unary negate) true n a 0) result.bits result.saturated }
 {
-    limit(
-        Some(SaturateTo::Signed),
-        n,
-        unary(negate, read(true, n, a)),
-    )
+    limit(Some(SaturateTo::Signed), n, unary(negate, read(true, n, a)))
 }
 
 fn saturating_lane(kind: SaturatingKind, as_signed: bool, n: u64, a: u64, b: u64) -> Clamped
