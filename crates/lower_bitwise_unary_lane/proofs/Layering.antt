@@ -33,10 +33,6 @@ module _ (old : List ℕ) (k : ℕ) (new : List ℕ) (r : Built) where
   abbrev pub BitsTo : (m base n : ℕ) (value : Node) (f : Expr → ℕ → Expr) → ℕ → Type 0
   BitsTo m base n value f i = BuildsLane old k new r (m * i + 1) value base n n (λ v. f v i) (read_by value.0 i)
 
--- what a loop keeps: if the pool at entry and its constant have made no bit, the pool and the answer now have made i bits
-abbrev pub BitsKept : (k m base n : ℕ) (value : Node) (f : Expr → ℕ → Expr) (w₀ : List ℕ) (r₀ : Built) (ws : List ℕ) (r : Built) → ℕ → Type 0
-BitsKept k m base n value f w₀ r₀ ws r i = (old : List ℕ) → BitsTo old k w₀ r₀ m base n value f 0 → BitsTo old k ws r m base n value f i
-
 pub bits_none : {w0 w1 : List ℕ} {k : ℕ} {r : Built} {value : Node} {base n : ℕ} (m : ℕ) (f : Expr → ℕ → Expr) (c : ℕ) → 1 ≤ n → n ≤ 64 → c ≤ n
     → ((v : Expr) → f v 0 ≡ Const c n)
     → MadeConst w0 k w1 r c 0 n

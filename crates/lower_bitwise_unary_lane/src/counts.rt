@@ -39,10 +39,8 @@ pub fn leading_zeros(pool: &mut [u64], count: usize, value: Node, base: Bit, bit
         (value.0 ∷ []) }
 {
     let mut acc = pool_nodes::konst(pool, count, bits, 0, bits);
-    let mut i = 0;
-    while i < bits {
+    for i in 0..bits {
         acc = zeros_at(pool, acc.count, value, acc.node, base, bits, Bit(i));
-        i += 1;
     }
     acc
 }
@@ -82,10 +80,8 @@ pub fn population_count(
         (λ v. population_count v lane_bits lane_bits) (value.0 ∷ []) }
 {
     let mut acc = pool_nodes::konst(pool, count, 0, 0, lane_bits);
-    let mut i = 0;
-    while i < lane_bits {
+    for i in 0..lane_bits {
         acc = count_at(pool, acc.count, value, acc.node, base, lane_bits, Bit(i));
-        i += 1;
     }
     acc
 }
@@ -112,7 +108,8 @@ pub fn leading_sign_bits(
     pool_nodes::zero_ext(pool, zeros.count, zeros.node, lane_bits)
 }
 
-// The bits from the top down, the first of them lowest.
+// The bits from the top down, the first of them lowest. The loop is not that of lower::family, where a source has one width: what is promised
+// here holds at each width of `value`.
 pub fn reverse_bits(pool: &mut [u64], count: usize, value: Node, base: Bit, lane_bits: u64) -> Built
     requires room { Room pool.old count (2 * lane_bits) }
     requires value_lt_count { (value.0 < count) × (1 ≤ lane_bits) × (lane_bits ≤ 64) × (base.0 + lane_bits ≤ 129) }
@@ -122,12 +119,10 @@ pub fn reverse_bits(pool: &mut [u64], count: usize, value: Node, base: Bit, lane
     let top = lane_bits - 1;
     let highest = top + base.0;
     let mut acc = pool_nodes::extract(pool, count, value, Bit(highest), Bit(highest));
-    let mut i = 1;
-    while i < lane_bits {
+    for i in 1..lane_bits {
         let at = top - i + base.0;
         let bit = pool_nodes::extract(pool, acc.count, value, Bit(at), Bit(at));
         acc = lower_simd::concat_lanes(pool, bit.count, bit.node, acc.node);
-        i += 1;
     }
     acc
 }
