@@ -24,9 +24,6 @@ last-or-before i j h = ⊎_elim inl (λ l. inr (omega (arith, l, h))) (before-or
 
 -- ---- literals that are put
 
-pub puts_none : (bits : List ℕ) (out : ℕ) (h : ℕ → ℕ) → Puts bits bits out 0 h
-puts_none bits out h = record { size = refl; before = λ p l. refl; after = λ p l. refl; at = λ j l. absurd (not-suc-le-zero l) }
-
 pub puts-more : {bits new : List ℕ} {out i : ℕ} (h : ℕ → ℕ) (l : ℕ) → out + i < length bits → Puts bits new out i h → l ≡ h i
     → Puts bits (set new (out + i) l) out (i + 1) h
 puts-more {bits} {new} {out} {i} h l b e q =
