@@ -55,8 +55,7 @@ pub fn run_lanes(
         top: 0,
     };
     let mut saturated = false;
-    let mut j = 0;
-    while j < k {
+    for j in 0..k {
         let at = Bit(n * j);
         let l = lane_at(
             op,
@@ -76,8 +75,7 @@ pub fn run_lanes(
             ),
             acc,
         );
-        saturated = saturated | l.saturated;
-        j += 1;
+        saturated |= l.saturated;
     }
     Ran {
         low: acc.low,

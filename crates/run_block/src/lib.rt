@@ -166,13 +166,11 @@ fn run_records(start: Registers, records: &[u64]) -> Stepped
     let count = records.len() / 6;
     let mut regs = start;
     let mut saturated = false;
-    let mut j = 0;
-    while j < count {
+    for j in 0..count {
         let c = record_at(records, j);
         let t = step(regs, c);
         regs = t.registers;
         saturated = saturated | t.saturated;
-        j += 1;
     }
     Stepped {
         registers: regs,
