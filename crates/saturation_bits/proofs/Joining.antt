@@ -1,6 +1,6 @@
 -- The bits of an instruction's lanes, from what their calls build. Assumes nothing.
 use Prim.Native.Nat.{ℕ, ◌+◌, ◌-◌, ◌*◌, ◌/◌, ◌≤◌, ◌<◌}
-use mathlib.Core.Path.{◌≡◌, refl, sym, ap, subst, ◌∙◌}
+use mathlib.Core.Path.{◌≡◌, refl, subst}
 use mathlib.Core.Bool.{Bool, true, false, cond, false≢true}
 use mathlib.Core.List.{List, [], ◌∷◌}
 use native.Mathlib.Omega.{arith}
@@ -13,12 +13,9 @@ use Rattle.pool.proofs.Steps.{start, step, finish, given}
 use Rattle.trees.specs.declared.NeonOp.{NeonOp}
 use Rattle.trees.specs.declared.NeonShape.{NeonShape}
 use Rattle.std.specs.declared.option.Option.{Option}
-use Rattle.trees.specs.declared.SaturateTo.{SaturateTo}
 use Rattle.terms.specs.declared.BinOp.{BinOp}
-use Rattle.std.specs.declared.option.Option.TheVariants.{None}
-use Rattle.trees.specs.declared.SaturatingKind.{SaturatingKind}
 use Rattle.trees.specs.Simd.{concat_lanes}
-use Rattle.trees.specs.Arith.{kind_to, source_lane}
+use Rattle.trees.specs.Arith.{source_lane}
 use Rattle.trees.specs.Trees.{extract_lane}
 use Rattle.lower.specs.Builds.{Source, Lowers, read, read_if, unread}
 use Rattle.lower_doubling_long.specs.Elements.{accumulates}
@@ -26,16 +23,8 @@ use Rattle.trees.specs.declared.NeonOp.TheVariants.{DoublingLong}
 use Rattle.lower_neon.proofs.Sources.{Weaker}
 use Rattle.lower_doubling_long.proofs.Multiplying.{factor-fits, factor-most}
 use Rattle.lower_neon.specs.Family.{reads_second, reads_old}
-use Rattle.saturation.specs.Bits.{saturable, saturable_kind, saturable_to, doubling_long_bit, instruction_bit}
+use Rattle.saturation.specs.Bits.{doubling_long_bit, instruction_bit}
 use Rattle.saturation_bits.specs.Lanes.{family_bit, lane_at, BitMade}
-
--- a kind that clamps has a range
-pub not-never : (kind : SaturatingKind) {range : Option SaturateTo} → range ≡ kind_to kind → range ≡ None → saturable_kind kind ≡ true → ⊥
-not-never kind e q h = false≢true (sym (ap saturable_to q) ∙ ap saturable_to e ∙ h)
-
--- an operation that cannot saturate is none of these
-pub not_op : {op op' : NeonOp} → op ≡ op' → saturable op' ≡ false → saturable op ≡ true → ⊥
-not_op e f h = false≢true (sym f ∙ sym (ap saturable e) ∙ h)
 
 -- the lane of the first factor, and of the second, lies within a register
 pub from-fits : {op : NeonOp} {combine : Option BinOp} {upper element : Bool} → op ≡ DoublingLong combine upper element → (n lanes : ℕ) {j lane : ℕ} → j < lanes → n * lanes ≤ 128

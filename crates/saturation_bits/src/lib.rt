@@ -3,15 +3,16 @@
 
 ghost use Rattle.std.specs.Prelude.{true, cond, ◌≡◌, [], ◌+◌, ◌-◌, ◌*◌, ◌≤◌, ◌<◌};
 ghost use Rattle.pool.specs.Growth.{Room};
-ghost use Rattle.trees.specs.Simd.{concat_lanes};
 ghost use Rattle.trees.specs.Arith.{kind_bits};
 ghost use Rattle.trees.specs.Trees.{extract_lane};
 ghost use Rattle.lower.specs.Builds.{Lowers, read, read_if, unread, Below};
 ghost use Rattle.lower_kinds.specs.Sources.{uses_second, KindIn};
 ghost use Rattle.lower_neon.specs.Family.{reads_second, reads_old, FamilyIn};
+ghost use Rattle.lower_neon.proofs.Props.{FamilyIn-prop};
 ghost use Rattle.saturation.specs.Bits.{saturating_bit, saturable as saturableOp, saturable_kind, saturable_to, saturable_shift};
 ghost use Rattle.saturation_bits.specs.Lanes.{lane_at, bits_most, BitMade};
 
+use lower::family::{Lanes, concat_each};
 use lower_doubling_long::source_lane;
 use lower_exact::kind_to;
 use neon::Lane;
@@ -69,85 +70,71 @@ fn second_factor(by_element: bool, element: Lane, from: Lane) -> Lane
     from
 }
 
-// Lane `index` of an operation that can saturate.
-fn bit_at(
-    pool: &mut [u64],
-    count: usize,
+// The bits of the lanes of an operation that can saturate.
+#[derive(Clone, Copy)]
+struct LaneBits {
     shape: NeonShape,
     first: Node,
     second: Node,
     d: Node,
-    index: Lane,
-) -> Built
-    requires room { Room pool.old count 37 }
-    requires first_lt_count { (first.0 < count) × Below (read_if (reads_second shape.op) second 0) count × Below (read_if (reads_old shape.op) d 0) count }
-    requires bound { (8 ≤ shape.lane_bits) × (shape.lane_bits ≤ 64) × (index.0 < shape.lanes) × (shape.lane_bits * shape.lanes ≤ 128)
-        × FamilyIn shape.op shape.lane_bits shape.lanes shape.source_index.0 × (saturableOp shape.op ≡ true) }
-    ensures { Lowers pool.old count pool.new result 37 1 (read_if (reads_old shape.op) d 128) (read first 128)
-        (read_if (reads_second shape.op) second 128) (λ d a b. lane_at shape d a b index.0) [] }
-{
-    let op = shape.op;
-    let n = shape.lane_bits;
-    match op {
-        NeonOp::Shift { kind, signed } => {
-            shift_at(pool, count, kind, signed, first, second, n, index)
-        }
-        NeonOp::ShiftInsert { left: _, shift: _ } => Built { node: first, count },
-        NeonOp::MixedSignAdd { destination_signed } => {
-            mixed_at(pool, count, destination_signed, first, d, n, index)
-        }
-        NeonOp::DoublingLong {
-            combine,
-            upper,
-            by_element,
-        } => {
-            let from = source_lane(upper, shape.lanes, index);
-            let with = second_factor(by_element, shape.source_index, from);
-            doubling_at(pool, count, combine, first, second, d, n, from, with, index)
-        }
-        NeonOp::Saturating {
-            kind,
-            signed_sources: signed,
-            upper: _,
-        } => { saturating_some(pool, count, kind, signed, first, second, n, index) }
-        NeonOp::BitwiseUnary(_) => Built { node: first, count },
-        NeonOp::AbsoluteDifference {
-            signed: _,
-            accumulate: _,
-        } => Built { node: first, count },
-        NeonOp::HighNarrow {
-            subtract: _,
-            rounding: _,
-            upper: _,
-        } => Built { node: first, count },
-    }
+    ghost fits: { (8 ≤ shape.lane_bits) × (shape.lane_bits ≤ 64) × (shape.lane_bits * shape.lanes ≤ 128) × (saturableOp shape.op ≡ true) },
+    ghost of_row: { FamilyIn shape.op shape.lane_bits shape.lanes shape.source_index.0 } by { FamilyIn-prop _ _ _ _ },
 }
 
-// The bits of the lanes, one put above those so far as it arises.
-fn lane_bits_of(
-    pool: &mut [u64],
-    count: usize,
-    shape: NeonShape,
-    first: Node,
-    second: Node,
-    d: Node,
-) -> Built
-    requires room { Room pool.old count (38 * shape.lanes) }
-    requires first_lt_count { (first.0 < count) × Below (read_if (reads_second shape.op) second 0) count × Below (read_if (reads_old shape.op) d 0) count }
-    requires bound { (8 ≤ shape.lane_bits) × (shape.lane_bits ≤ 64) × (1 ≤ shape.lanes) × (shape.lane_bits * shape.lanes ≤ 128)
-        × FamilyIn shape.op shape.lane_bits shape.lanes shape.source_index.0 × (saturableOp shape.op ≡ true) }
-    ensures { Lowers pool.old count pool.new result (38 * shape.lanes) (1 * shape.lanes) (read_if (reads_old shape.op) d 128) (read first 128)
-        (read_if (reads_second shape.op) second 128) (λ d a b. concat_lanes (shape.lanes - 1) (lane_at shape d a b)) [] }
-{
-    let lanes = shape.lanes;
-    let mut acc = bit_at(pool, count, shape, first, second, d, Lane::first());
-    let mut i = 1;
-    while i < lanes {
-        let lane = bit_at(pool, acc.count, shape, first, second, d, Lane(i));
-        acc = lower_simd::concat_lanes(pool, lane.count, lane.node, acc.node);
-        i += 1;
+impl Lanes for LaneBits {
+    ghost plan = { λ s. record {
+      lanes = s.shape.lanes;
+      bits = 1;
+      nodes = 37;
+      d = read_if (reads_old s.shape.op) s.d 128;
+      first = read s.first 128;
+      second = read_if (reads_second s.shape.op) s.second 128;
+      tree = lane_at s.shape;
+      ins = [];
+    } };
+
+    fn lanes(&self) -> u64 {
+        self.shape.lanes
     }
-    acc
+
+    fn make(&self, pool: &mut [u64], count: usize, index: Lane) -> Built {
+        let n = self.shape.lane_bits;
+        let first = self.first;
+        let second = self.second;
+        let op = self.shape.op;
+        match op {
+            NeonOp::Shift { kind, signed } => shift_at(
+                pool, count, kind, signed, first, second, n, index,
+            ),
+            NeonOp::MixedSignAdd { destination_signed } => mixed_at(
+                pool,
+                count,
+                destination_signed,
+                first,
+                self.d,
+                n,
+                index,
+            ),
+            NeonOp::DoublingLong {
+                combine,
+                upper,
+                by_element,
+            } => {
+                let from = source_lane(upper, self.shape.lanes, index);
+                let with = second_factor(by_element, self.shape.source_index, from);
+                doubling_at(
+                    pool, count, combine, first, second, self.d, n, from, with, index,
+                )
+            }
+            NeonOp::Saturating {
+                kind,
+                signed_sources: signed,
+                upper: _,
+            } => saturating_some(pool, count, kind, signed, first, second, n, index),
+            // the other operations never saturate
+            _ => Built { node: first, count },
+        }
+    }
 }
 
 // The block's bit after an instruction that can saturate, over the bit before it.
@@ -167,7 +154,13 @@ pub fn instruction_bit(
     ensures { BitMade pool.old count pool.new result shape first second d before }
 {
     let lanes = shape.lanes;
-    let bits = lane_bits_of(pool, count, shape, first, second, d);
+    let each = LaneBits {
+        shape,
+        first,
+        second,
+        d,
+    };
+    let bits = concat_each(pool, count, &each);
     let zero = pool_nodes::konst(pool, bits.count, 0, 0, lanes);
     let none = pool_nodes::compare(pool, zero.count, CmpOp::Eq, bits.node, zero.node);
     let one = pool_nodes::konst(pool, none.count, 1, 0, 1);
