@@ -1,14 +1,16 @@
--- The rows of an operation at an arrangement. Assumes nothing.
-use mathlib.Core.Path.{◌≡◌}
+-- The rows of an operation at an arrangement, and room for the next of rows that begin at a number. Assumes nothing.
+use mathlib.Core.Path.{◌≡◌, subst}
 use mathlib.Core.Bool.{Bool, true, false, cond, ◌&&◌}
-use mathlib.Core.List.{[]}
-use Prim.Native.Nat.{ℕ, ◌≤◌, ◌<◌}
+use mathlib.Core.List.{List, []}
+use Prim.Native.Nat.{ℕ, ◌+◌, ◌-◌, ◌≤◌, ◌<◌}
 use native.Mathlib.Omega.{arith}
 use borrow.Author.Tests.{le-leb}
 use Rattle.neon.specs.Op.{Op, op_at, arrangement_at, is_arrangement, bits_of_lane}
 use Rattle.neon.specs.Form.{has_form, has_second, least, most, form_code_at}
 use Rattle.neon_form.proofs.Parts.{without}
+use Rattle.text_digits.specs.Writing.{Room, Wrote}
 use Rattle.text_series.specs.Series.{up_to}
+use Rattle.text_series.proofs.Texts.{room_next}
 use Rattle.forms_list.specs.Forms.{second_of}
 use Rattle.forms_list.specs.Texts.{immediates_text, arrangement_text}
 
@@ -31,3 +33,10 @@ second-small o = go (has_second o)
     go : (b : Bool) → cond b 2 0 < 10000
     go true = omega arith
     go false = omega arith
+
+-- the next of rows that begin at `least`
+pub room-row : {b buf : List ℕ} {at end : ℕ} (row : ℕ → List ℕ) (least k i : ℕ) → least ≤ i → i - least < k
+    → Room b at (up_to k (λ j. row (least + j))) → Wrote b at (up_to (i - least) (λ j. row (least + j))) end buf → Room buf end (row i)
+room-row {b} {buf} {at} {end} row least k i h l r w =
+    let e : least + (i - least) ≡ i = omega arith in
+    subst (λ (j : ℕ). Room buf end (row j)) e (room_next (λ j. row (least + j)) k (i - least) l r w)

@@ -36,11 +36,9 @@ fn put_immediates(
     requires room { Room buf.old at (immediates_text operation arrangement least most m) }
     ensures { Wrote buf.old at (immediates_text operation arrangement least most m) result buf.new }
 {
-    let mut i = least;
     let mut end = at;
-    while i <= most {
+    for i in least..=most {
         end = put_line(operation, arrangement, i, 0, 1, m, buf, end);
-        i += 1;
     }
     end
 }
@@ -66,11 +64,9 @@ fn put_operation(operation: u64, buf: &mut [u8], at: usize) -> usize
     requires room { Room buf.old at (operation_text operation) }
     ensures { Wrote buf.old at (operation_text operation) result buf.new }
 {
-    let mut arrangement = 0;
     let mut end = at;
-    while arrangement < 7 {
+    for arrangement in 0..7 {
         end = put_arrangement(operation, arrangement, buf, end);
-        arrangement += 1;
     }
     end
 }
@@ -80,10 +76,8 @@ fn put_forms(buf: &mut [u8], at: usize) -> usize
     requires { Room buf.old at forms_text }
     ensures { Wrote buf.old at forms_text result buf.new }
 {
-    let mut operation = 0;
     let mut end = at;
-    while operation < 67 {
-        operation += 1;
+    for operation in 1..=67 {
         end = put_operation(operation, buf, end);
     }
     end
