@@ -62,11 +62,9 @@ fn put_nodes(p: &[u64], count: usize, buf: &mut [u8], at: usize) -> usize
     requires room { Room buf.old at (up_to count (lines_at p.now)) }
     ensures { Wrote buf.old at (up_to count (lines_at p.now)) result buf.new }
 {
-    let mut n = 0;
     let mut end = at;
-    while n < count {
+    for n in 0..count {
         end = put_node(p, Node(n), buf, end);
-        n += 1;
     }
     end
 }

@@ -49,11 +49,9 @@ pub fn put_declarations(buf: &mut [u8], at: usize) -> usize
     requires { Room buf.old at (up_to 32 declaration_line) }
     ensures { Wrote buf.old at (up_to 32 declaration_line) result buf.new }
 {
-    let mut r = 0;
     let mut end = at;
-    while r < 32 {
+    for r in 0..32 {
         end = put_declaration(r, buf, end);
-        r += 1;
     }
     end
 }
@@ -64,11 +62,9 @@ fn put_definitions(p: &[u64], count: usize, buf: &mut [u8], at: usize) -> usize
     requires room { Room buf.old at (up_to count (line_at p.now)) }
     ensures { Wrote buf.old at (up_to count (line_at p.now)) result buf.new }
 {
-    let mut n = 0;
     let mut end = at;
-    while n < count {
+    for n in 0..count {
         end = put_definition(p, Node(n), buf, end);
-        n += 1;
     }
     end
 }

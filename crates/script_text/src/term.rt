@@ -33,10 +33,8 @@ fn put_binary(low: u64, high: u64, width: u64, buf: &mut [u8], at: usize) -> usi
     requires room { Room buf.old at (binary width (wide low high)) }
     ensures { Wrote buf.old at (binary width (wide low high)) result buf.new }
 {
-    let mut k = width;
     let mut i = at;
-    while 0 < k {
-        k -= 1;
+    for k in (0..width).rev() {
         buf[i] = bit(low, high, k);
         i += 1;
     }
