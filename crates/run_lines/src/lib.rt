@@ -63,11 +63,9 @@ fn put_registers(start: Registers, after: Registers, buf: &mut [u8]) -> usize
     ensures wrote { Wrote buf.old 0 (registers_text (registers_of start.words) (registers_of after.words)) result buf.new }
     ensures upper_bound { result ≤ 1248 }
 {
-    let mut r = 0;
     let mut end = 0;
-    while r < 32 {
+    for r in 0..32 {
         end = put_line(r, start.get(r), after.get(r), buf, end);
-        r += 1;
     }
     end
 }
