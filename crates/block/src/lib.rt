@@ -26,10 +26,8 @@ pub fn start_pool(pool: &mut [u64]) -> RegisterMap
     requires { Room pool.old 0 32 }
     ensures { Started pool.old pool.new 32 × (result ≡ first_map) }
 {
-    let mut r: usize = 0;
-    while r < 32 {
+    for r in 0..32 {
         pool_nodes::var(pool, r, r as u64);
-        r += 1;
     }
     RegisterMap::initial()
 }
@@ -43,11 +41,9 @@ fn run_records(pool: &mut [u64], start: RegisterMap, records: &[u64]) -> Registe
 {
     let count = records.len() / 6;
     let mut map = start;
-    let mut j = 0;
-    while j < count {
+    for j in 0..count {
         let c = record_at(records, j);
         map = lower_record(pool, map, c.operation, c.arrangement, c.i, c.d, c.n, c.m);
-        j += 1;
     }
     map
 }
