@@ -42,11 +42,8 @@ fn run_instructions(pool: &mut [u64], records: &[Instruction], map: &mut Registe
     requires all_legal { AllLegal records.now }
     ensures { Runs pool.old map.old pool.new map.new records.now }
 {
-    let mut j = 0;
-    while j < records.len() {
-        let r = records[j];
+    for r in records {
         lower_record_in(pool, map, r.operation, r.arrangement, r.i, r.d, r.n, r.m);
-        j += 1;
     }
 }
 
