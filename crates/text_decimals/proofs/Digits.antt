@@ -1,32 +1,36 @@
--- Padded numbers, and decimal numbers as these. Assumes nothing.
-use mathlib.Core.Path.{◌≡◌, refl, sym, ap, ap₂, ◌∙◌, subst}
+-- Padded numbers, decimal numbers as these, and what is left of one whose highest digits are written. Assumes nothing.
+use mathlib.Core.Path.{◌≡◌, refl, sym, ap, ap₂, ◌∙◌}
+use mathlib.Core.Bool.{Bool, true, false, cond}
 use mathlib.Core.List.{List, [], ◌∷◌, ◌++◌}
-use Prim.Native.Nat.{ℕ, zero, suc, ◌+◌, ◌*◌, ◌/◌, ◌%◌, ◌^◌, ◌≤◌, ◌<◌}
+use Prim.Native.Nat.{ℕ, zero, suc, ◌+◌, ◌-◌, ◌*◌, ◌/◌, ◌%◌, ◌^◌, ◌≤◌, ◌<◌}
 use native.Mathlib.Omega.{arith}
 use native.Mathlib.Nat.{mul_comm, div-one, div-div-eq-div-mul, pow-suc, pow-le-pow_right}
 use native.Mathlib.Numerals.{add-one}
 use lib.Arith.{digits_div, digits_mod, mod-mul}
-use lib.ListN.{length, set, length-set}
+use lib.Dec.{ltb}
+use lib.ListN.{length, get_or, set}
+use lib.Seq.{sets}
+use borrow.Author.Tests.{lt-ltb, le-ltb, ltb-true, ltb-false}
 use Rattle.terms.specs.Display.{digit, decimal}
 use Rattle.text_digits.specs.Writing.{Room, Wrote}
-use Rattle.text_digits.proofs.Laws.{digits, digits-one, digits_more, wrote-byte, wrote_then, wrote_as}
-use Rattle.text_decimals.specs.Padded.{padded}
+use Rattle.text_digits.proofs.Laws.{digits, digits-one, digits_more}
+
+-- x below 10 ^ k as k decimal digits, zeros first
+padded : (k x : ℕ) → List ℕ
+padded zero x = []
+padded (suc k) x = digit (x / 10 ^ k) ∷ padded k (x % 10 ^ k)
 
 ten-pos : (k : ℕ) → 0 < 10 ^ k
 ten-pos k = pow-le-pow_right {n = 10} (omega arith) {i = 0} {j = k} (omega arith)
 
 -- the first digit and the others, as `place_of` gives them
-pub first : (k x d r : ℕ) → 10 ^ k * d + r ≡ x → r < 10 ^ k → padded (suc k) x ≡ digit d ∷ padded k r
+first : (k x d r : ℕ) → 10 ^ k * d + r ≡ x → r < 10 ^ k → padded (suc k) x ≡ digit d ∷ padded k r
 unfolding padded
 first k x d r e h =
     let q : x ≡ d * 10 ^ k + r = sym e ∙ ap (λ (z : ℕ). z + r) (mul_comm (10 ^ k) d) in
     ap (padded (suc k)) q ∙ ap₂ (λ (y z : ℕ). digit y ∷ padded k z) (digits_div d h) (digits_mod d h)
 
-pub first-2 : (x d r : ℕ) → 10 * d + r ≡ x → r < 10 → padded 2 x ≡ digit d ∷ digit r ∷ []
-unfolding padded
-first-2 x d r e h = first 1 x d r e h ∙ ap (λ (z : ℕ). digit d ∷ digit z ∷ []) (div-one r)
-
-pub length-padded : (k x : ℕ) → length (padded k x) ≡ k
+length-padded : (k x : ℕ) → length (padded k x) ≡ k
 unfolding padded
 length-padded zero x = refl
 length-padded (suc k) x = ap suc (length-padded k (x % 10 ^ k))
@@ -53,7 +57,7 @@ shift (suc k) x =
     ∙ ap (λ (l : List ℕ). digit (x / 10 ^ suc (suc k)) ∷ l) (shift k y)
 
 -- a number of so many digits has no zeros before it
-pub unpadded : (k x : ℕ) → 10 ^ k ≤ x → x < 10 ^ suc k → decimal x ≡ padded (suc k) x
+unpadded : (k x : ℕ) → 10 ^ k ≤ x → x < 10 ^ suc k → decimal x ≡ padded (suc k) x
 unfolding decimal padded
 unpadded zero x h l = digits-one 10 x l ∙ ap (λ (z : ℕ). digit z ∷ []) (sym (div-one x))
 unpadded (suc k) x h l =
@@ -65,19 +69,113 @@ unpadded (suc k) x h l =
 pub size : (k x : ℕ) → 10 ^ k ≤ x → x < 10 ^ suc k → length (decimal x) ≡ suc k
 size k x h l = ap length (unpadded k x h l) ∙ length-padded (suc k) x
 
--- a digit written before the others
-module _ {l : List ℕ} {i b : ℕ} {s t : List ℕ} where
-  pub wrote-first : {m : List ℕ} {j r : ℕ} → r ≡ b → t ≡ b ∷ s → Wrote (set l i r) (i + 1) s j m → Wrote l i t j m
-  wrote-first {m} {j} {r} q p w =
-      wrote_as p (wrote_then (subst (λ (z : ℕ). Wrote l i (z ∷ []) (i + 1) (set l i r)) q (wrote-byte l i r)) w)
+-- ---- the digits from the highest place on
 
-  pub room-one : t ≡ b ∷ s → Room l i t → i < length l
-  room-one p h = let q = ap length p in omega (arith, h.room, q)
+-- the digits of x that are not written yet: those of the k places that are left, of which x may have fewer
+pub todo : (k x rest : ℕ) → List ℕ
+todo k x rest = cond (ltb x (10 ^ k)) (decimal x) (padded k rest)
 
-  pub room-rest : (r : ℕ) → t ≡ b ∷ s → Room l i t → Room (set l i r) (i + 1) s
-  room-rest r p h = let q = ap length p in record { room = omega (arith, h.room, q, length-set l i r) }
+-- x was written into b at `at` but for k places, where `rest` is left of it
+pub record Left (b : List ℕ) (at x k rest end : ℕ) (buf : List ℕ) : Type 0 where
+  pub text : sets buf end (todo k x rest) ≡ sets b at (decimal x)
+  pub place : end + length (todo k x rest) ≡ at + length (decimal x)
+  pub small : rest < 10 ^ k
+  pub same : x < 10 ^ k → rest ≡ x
 
--- two digits
-pub wrote-last : {l : List ℕ} {i : ℕ} {t : List ℕ} {a b r q : ℕ} → r ≡ a → q ≡ b → t ≡ a ∷ b ∷ [] → Wrote l i t (i + 2) (set (set l i r) (i + 1) q)
-wrote-last {l} {i} {t} {a} {b} {r} {q} x y p =
-    record { next_is = let h = ap length p in omega (arith, h); after_is = rw (p, x, y, add-one i) refl }
+begun : (k x rest : ℕ) → 10 ^ k ≤ x → todo k x rest ≡ padded k rest
+unfolding todo
+begun k x rest h = rw (le-ltb x (10 ^ k) h)
+
+not-begun : (k x rest : ℕ) → x < 10 ^ k → todo k x rest ≡ decimal x
+unfolding todo
+not-begun k x rest h = rw (lt-ltb x (10 ^ k) h)
+
+todo-padded : (k x rest : ℕ) → 10 ^ k ≤ x → (x < 10 ^ suc k → rest ≡ x) → todo (suc k) x rest ≡ padded (suc k) rest
+todo-padded k x rest h same = go (ltb x (10 ^ suc k)) refl
+  where
+    go : (t : Bool) → ltb x (10 ^ suc k) ≡ t → todo (suc k) x rest ≡ padded (suc k) rest
+    go true e =
+        let l = ltb-true x (10 ^ suc k) e in
+        not-begun (suc k) x rest l ∙ unpadded k x h l ∙ ap (padded (suc k)) (sym (same l))
+    go false e = begun (suc k) x rest (ltb-false x (10 ^ suc k) e)
+
+todo-last : (x rest : ℕ) → (x < 10 → rest ≡ x) → todo 1 x rest ≡ digit rest ∷ []
+unfolding decimal padded
+todo-last x rest same = go (ltb x 10) refl
+  where
+    go : (t : Bool) → ltb x 10 ≡ t → todo 1 x rest ≡ digit rest ∷ []
+    go true e =
+        let l = ltb-true x 10 e in
+        not-begun 1 x rest l ∙ digits-one 10 x l ∙ ap (λ (z : ℕ). digit z ∷ []) (sym (same l))
+    go false e = begun 1 x rest (ltb-false x 10 e) ∙ ap (λ (z : ℕ). digit z ∷ []) (div-one rest)
+
+pub left-begin : (b : List ℕ) (at x : ℕ) → x < 100000 → Left b at x 5 x at b
+left-begin b at x h =
+    let e = not-begun 5 x x h in
+    record { text = ap (λ (s : List ℕ). sets b at s) e; place = ap (λ (s : List ℕ). at + length s) e; small = h; same = λ l. refl }
+
+module _ {b buf : List ℕ} {at x rest end : ℕ} where
+  pub left-step : (k d r q : ℕ) → Left b at x (suc k) rest end buf → 10 ^ k ≤ x → 10 ^ k * d + r ≡ rest → r < 10 ^ k → q ≡ digit d
+      → Left b at x k r (end + 1) (set buf end q)
+  left-step k d r q w h e l p =
+      let before = todo-padded k x rest h w.same ∙ first k rest d r e l in
+      let after = begun k x r h in
+      let lb = ap length before in
+      let la = ap length after in
+      record {
+        text =
+            ap (λ (s : List ℕ). sets (set buf end q) (end + 1) s) after
+            ∙ ap (λ (j : ℕ). sets (set buf end q) j (padded k r)) (add-one end)
+            ∙ ap (λ (y : ℕ). sets (set buf end y) (suc end) (padded k r)) p
+            ∙ sym (ap (λ (s : List ℕ). sets buf end s) before)
+            ∙ w.text;
+        place = omega (arith, lb, la, w.place);
+        small = l;
+        same = λ g. absurd (omega (arith, g, h));
+      }
+
+  pub left-skip : (k : ℕ) → Left b at x (suc k) rest end buf → x < 10 ^ k → Left b at x k rest end buf
+  left-skip k w h =
+      let p = pow-suc 10 k in
+      let m : x < 10 ^ suc k = omega (arith, p, h) in
+      let e = not-begun (suc k) x rest m ∙ sym (not-begun k x rest h) in
+      let same = w.same m in
+      let le = ap length e in
+      record {
+        text = sym (ap (λ (s : List ℕ). sets buf end s) e) ∙ w.text;
+        place = omega (arith, le, w.place);
+        small = omega (arith, same, h);
+        same = λ g. same;
+      }
+
+  pub left-last : (q : ℕ) → Left b at x 1 rest end buf → q ≡ digit rest → Wrote b at (decimal x) (end + 1) (set buf end q)
+  left-last q w p =
+      let e = todo-last x rest w.same in
+      let le = ap length e in
+      record {
+        next_is = omega (arith, le, w.place);
+        after_is = ap (λ (y : ℕ). set buf end y) p ∙ sym (ap (λ (s : List ℕ). sets buf end s) e) ∙ w.text;
+      }
+
+  -- there is room for the next digit, and for the last
+  pub room-step : (k : ℕ) → Left b at x (suc k) rest end buf → 10 ^ k ≤ x → Room b at (decimal x) → end < length b
+  room-step k w h r =
+      let e = ap length (todo-padded k x rest h w.same) in
+      omega (arith, e, length-padded (suc k) rest, w.place, r.room)
+
+  pub room-last : Left b at x 1 rest end buf → Room b at (decimal x) → end < length b
+  room-last w r =
+      let e = ap length (todo-last x rest w.same) in
+      omega (arith, e, w.place, r.room)
+
+-- ---- the units
+
+abbrev pub units : List ℕ
+units = 10000 ∷ 1000 ∷ 100 ∷ 10 ∷ []
+
+pub unit-is : (j : ℕ) → j < 4 → get_or units j 0 ≡ 10 ^ (4 - j)
+unit-is zero h = refl
+unit-is (suc zero) h = refl
+unit-is (suc (suc zero)) h = refl
+unit-is (suc (suc (suc zero))) h = refl
+unit-is (suc (suc (suc (suc j)))) h = absurd (omega arith)

@@ -5,7 +5,6 @@
 ghost use Rattle.std.specs.Prelude.{◌≡◌, ◌+◌, ◌*◌, ◌≤◌, ◌<◌, length};
 ghost use Rattle.terms.specs.Display.{digit, decimal};
 ghost use Rattle.text_digits.specs.Writing.{Room, Wrote};
-ghost use Rattle.text_decimals.specs.Padded.{padded};
 
 use text_digits::{decimal_digit, put_decimal};
 
@@ -43,70 +42,26 @@ fn place_of(x: u64, unit: u64) -> Place
     step(c, unit, 1)
 }
 
-// Two digits, zeros first; and so on up to five.
-fn put_2(x: u64, buf: &mut [u8], at: usize) -> usize
-    requires x_bound { x < 100 }
-    requires room { Room buf.old at (padded 2 x) }
-    ensures { Wrote buf.old at (padded 2 x) result buf.new }
-{
-    let p = place_of(x, 10);
-    buf[at] = decimal_digit(p.digit);
-    buf[at + 1] = decimal_digit(p.rest);
-    at + 2
-}
-
-fn put_3(x: u64, buf: &mut [u8], at: usize) -> usize
-    requires x_bound { x < 1000 }
-    requires room { Room buf.old at (padded 3 x) }
-    ensures { Wrote buf.old at (padded 3 x) result buf.new }
-{
-    let p = place_of(x, 100);
-    buf[at] = decimal_digit(p.digit);
-    put_2(p.rest, buf, at + 1)
-}
-
-fn put_4(x: u64, buf: &mut [u8], at: usize) -> usize
-    requires x_bound { x < 10000 }
-    requires room { Room buf.old at (padded 4 x) }
-    ensures { Wrote buf.old at (padded 4 x) result buf.new }
-{
-    let p = place_of(x, 1000);
-    buf[at] = decimal_digit(p.digit);
-    put_3(p.rest, buf, at + 1)
-}
-
-fn put_5(x: u64, buf: &mut [u8], at: usize) -> usize
-    requires x_bound { x < 100000 }
-    requires room { Room buf.old at (padded 5 x) }
-    ensures { Wrote buf.old at (padded 5 x) result buf.new }
-{
-    let p = place_of(x, 10000);
-    buf[at] = decimal_digit(p.digit);
-    put_4(p.rest, buf, at + 1)
-}
-
-// Decimal digits.
+// Decimal digits: of each unit that x has, and the ones.
 pub fn put_number(x: u64, buf: &mut [u8], at: usize) -> usize
     requires { Room buf.old at (decimal x) }
     ensures { Wrote buf.old at (decimal x) result buf.new }
 {
-    if x < 100 {
-        if x < 10 {
-            buf[at] = decimal_digit(x);
-            return at + 1;
+    if 100000 <= x {
+        return put_decimal(x, buf, at);
+    }
+    let mut rest = x;
+    let mut end = at;
+    for unit in [10000, 1000, 100, 10] {
+        if unit <= x {
+            let place = place_of(rest, unit);
+            buf[end] = decimal_digit(place.digit);
+            rest = place.rest;
+            end += 1;
         }
-        return put_2(x, buf, at);
     }
-    if x < 1000 {
-        return put_3(x, buf, at);
-    }
-    if x < 10000 {
-        return put_4(x, buf, at);
-    }
-    if x < 100000 {
-        return put_5(x, buf, at);
-    }
-    put_decimal(x, buf, at)
+    buf[end] = decimal_digit(rest);
+    end + 1
 }
 
 // How many digits a number of up to five digits has.
