@@ -8,7 +8,7 @@ use native.Mathlib.Nat.{mul-one, mul-le-mul_left, one-le-mul}
 use Rattle.terms.specs.Expr.{Expr, Concat}
 use Rattle.pool.specs.declared.Node.{Node}
 use Rattle.pool.specs.declared.Built.{Built}
-use Rattle.pool.specs.Growth.{Room, Grown, Reach, AllReached, Sized, Made}
+use Rattle.pool.specs.Growth.{Grown, Reach, AllReached, Made}
 use Rattle.pool_nodes.specs.Builders.{MadeConcat}
 use Rattle.lower_simd.specs.Cut.{MadeCut, MadeLane}
 use Rattle.pool.proofs.Laws.{is-kept, reach-kept, reach-trans, grown-trans}
@@ -43,12 +43,6 @@ module _ (old : List ℕ) (k : ℕ) (new : List ℕ) (r : Built) where
 -- the lanes 0 to i - 1 of a family
 abbrev pub MakesTo : (old : List ℕ) (k : ℕ) (new : List ℕ) (r : Built) (p : Plan) → ℕ → Type 0
 MakesTo old k new r p i = LanesTo old k new r (p.nodes + 1) p.bits p.d p.first p.second p.tree p.ins i
-
--- what a loop keeps: if the pool at entry and lane 0 have made the lane 0, the pool and the answer now have made i lanes
-abbrev pub LanesKept : (k : ℕ) (m bits : ℕ) (d first second : Source) (lane : Expr → Expr → Expr → ℕ → Expr) (ins : List ℕ)
-    (w₀ : List ℕ) (r₀ : Built) (ws : List ℕ) (r : Built) → ℕ → Type 0
-LanesKept k m bits d first second lane ins w₀ r₀ ws r i =
-    (old : List ℕ) → LanesTo old k w₀ r₀ m bits d first second lane ins 1 → LanesTo old k ws r m bits d first second lane ins i
 
 concat-next : (i : ℕ) (f : ℕ → Expr) → 1 ≤ i → concat_lanes (i + 1 - 1) f ≡ Concat (f i) (concat_lanes (i - 1) f)
 unfolding concat_lanes
@@ -93,14 +87,6 @@ module _ (lane : Expr → Expr → Expr → ℕ → Expr) {m n bits : ℕ} {d fi
               ins_reached = all-trans m3.ins_reached.1.0 ins (all-kept (grown-trans m2.grown m3.grown) m1.is.under ins m1.ins_reached);
             });
       }
-
--- room for the nodes of a lane, of which m with its concatenation: for lane i above i lanes, and then for the concatenation
-module _ {old : List ℕ} {k m lanes : ℕ} (room : Room old k (m * lanes)) where
-  pub room-lane : {ws : List ℕ} {r c n i : ℕ} → n ≤ m → i < lanes → Sized old k ws r c (m * i) → Room ws c n
-  room-lane h l s = omega (arith, room, s, mul-le-mul_left m l)
-
-  pub room-concat : {ws ws' : List ℕ} {r r' c c' n i : ℕ} → n + 1 ≤ m → i < lanes → Sized old k ws r c (m * i) → Sized ws c ws' r' c' n → Room ws' c' 1
-  room-concat h l s t = omega (arith, room, s, t, mul-le-mul_left m l)
 
 -- a lane lies within the lanes' bits
 pub lane-fits : (bits i lanes : ℕ) {w : ℕ} → i < lanes → bits * lanes ≤ w → bits * i + bits ≤ w

@@ -9,10 +9,12 @@ loop-i-init g c = lanes-first _ c.first.ensures (omega arith) c.make-all.ensures
 
 pub loop-i-preserved : goal.loop-i-preserved
 loop-i-preserved g c =
-    lanes-more (g.L.Lanes.plan c.args.family.now).tree c.requires.ready.1.1 (omega (arith, c.loop-i.auto)) (omega (arith, c.loop-i-test.true, c.lanes-i-end.ensures))
-    c.requires.ready.1.2 (omega arith) c.loop-i.invariant c.make-lane.ensures c.concat_lanes-all.ensures
+    let fit = c.requires.ready.1 in
+    lanes-more (g.L.Lanes.plan c.args.family.now).tree fit.1 (omega (arith, c.loop-i.auto)) (omega (arith, c.loop-i-test.true, c.lanes-i-end.ensures)) fit.2
+    (omega arith) c.loop-i.invariant c.make-lane.ensures c.concat_lanes-all.ensures
 
 pub returns : goal.returns
 returns g c =
-    let all : c.loop-i.i ≡ (g.L.Lanes.plan c.args.family.now).lanes = omega (arith, c.loop-i-test.false, c.lanes-i-end.ensures, c.loop-i.auto.i-end, c.requires.ready.1.0) in
-    subst (λ (i : ℕ). MakesTo c.args.pool.now c.args.count c.loop-i.pool c.loop-i.all (g.L.Lanes.plan c.args.family.now) i) all c.loop-i.invariant
+    let p = g.L.Lanes.plan c.args.family.now in
+    let all : c.loop-i.i ≡ p.lanes = omega (arith, c.loop-i-test.false, c.lanes-i-end.ensures, c.loop-i.auto, c.requires.ready.1.0) in
+    subst (λ (i : ℕ). MakesTo c.args.pool.now c.args.count c.loop-i.pool c.loop-i.all p i) all c.loop-i.invariant
