@@ -29,7 +29,8 @@ fn rises(pool: &[u64], value: Node, hi: Bit) -> bool
         & (cut_lo(pool, value).0 <= 128 - hi.0)
 }
 
-// From where a cut of `value` up to the bit hi is taken: past every Extract.
+// From where a cut of `value` up to the bit hi is taken: past every Extract. The walk goes from operand to operand, so there is no range to go
+// over.
 pub fn cut_from(pool: &[u64], value: Node, hi: Bit) -> Cut
     requires { (4 * value.0 + 3 < length pool.now) × (hi.0 ≤ 128) }
     ensures { CutFrom pool.now value.0 hi.0 result.node.0 result.by.0 }
