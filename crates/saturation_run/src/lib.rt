@@ -23,8 +23,7 @@ pub fn run_flagged(pool: &mut [u64], start: Flagged, records: &[u64]) -> Flagged
 {
     let count = records.len() / 6;
     let mut at = start;
-    let mut j = 0;
-    while j < count {
+    for j in 0..count {
         let c = record_at(records, j);
         let map = at.map;
         let bit = at.bit;
@@ -39,7 +38,6 @@ pub fn run_flagged(pool: &mut [u64], start: Flagged, records: &[u64]) -> Flagged
             c.n,
             c.m,
         );
-        j += 1;
     }
     at
 }

@@ -1,9 +1,0 @@
--- `test_all_forms::hash`: it goes over n bytes, or to the end of the buffer.
-use Rattle.std.proofs.Common.{◌-◌, ◌≤◌}
-use Rattle.test_all_forms.proofs.hash.Given as goal
-
-abbrev pub invariant-loop-k : goal.invariant-loop-k
-invariant-loop-k l = l.k ≤ l.n
-
-abbrev pub decreases-loop-k : goal.decreases-loop-k
-decreases-loop-k l = l.n - l.k
