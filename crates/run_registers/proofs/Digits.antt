@@ -1,7 +1,7 @@
 -- Digits read and written one by one. Assumes nothing.
 use mathlib.Core.Path.{◌≡◌, refl, sym, ◌∙◌}
 use mathlib.Core.Logic.{⊎_elim}
-use mathlib.Core.Bool.{Bool, true, ◌&&◌}
+use mathlib.Core.Bool.{Bool, true, false, ◌&&◌, ◌||◌}
 use mathlib.Core.List.{List, [], ◌∷◌, ◌++◌, append_assoc, append-nil}
 use Prim.Native.Nat.{ℕ, zero, suc, ◌+◌, ◌*◌, ◌-◌, ◌/◌, ◌%◌, ◌≤◌, ◌<◌}
 use native.Mathlib.Nat.{add-zero, add-suc, eq-or-lt_of_le, le_of_suc-le-suc, mul_assoc}
@@ -12,7 +12,8 @@ use Rattle.terms.specs.Display.{digit}
 use Rattle.text_digits.specs.Writing.{Wrote}
 use Rattle.text_digits.proofs.Laws.{wrote_then, wrote-byte, wrote_as}
 use Rattle.wide.specs.Number.{words}
-use Rattle.run_registers.specs.Digits.{is_hex, hex_value, hex_at, all_hex, hex_digits}
+use Rattle.std.specs.Char.{is_ascii_hexdigit}
+use Rattle.run_registers.specs.Digits.{between, is_hex, hex_value, hex_at, all_hex, hex_digits}
 
 -- ---- reading
 
@@ -53,6 +54,17 @@ all_none bs at = refl
 pub all-next : (bs : List ℕ) (at j : ℕ) {a b : Bool} → a ≡ all_hex bs at j → b ≡ is_hex (get_or bs (at + j) 0) → (a && b) ≡ all_hex bs at (j + 1)
 unfolding all_hex
 all-next bs at j e f = rw (add-one, e, f)
+
+-- the library's test, with the capital letters first
+pub hex-same : (b : ℕ) → is_ascii_hexdigit b ≡ is_hex b
+hex-same b = go (between 48 57 b) (between 97 102 b) (between 65 70 b)
+  where
+    go : (d s c : Bool) → ((d || c) || s) ≡ (d || s || c)
+    go true s c = refl
+    go false true true = refl
+    go false true false = refl
+    go false false true = refl
+    go false false false = refl
 
 -- ---- writing
 

@@ -2,33 +2,21 @@
 #![tactic(auto)]
 
 ghost use Rattle.std.specs.Prelude.{◌≡◌, ◌+◌, ◌≤◌, ◌<◌, length};
-ghost use Rattle.terms.specs.Display.{digit};
 ghost use Rattle.text_digits.specs.Writing.{Room, Wrote};
 ghost use Rattle.wide.specs.Number.{words};
-ghost use Rattle.run_registers.specs.Digits.{is_hex, hex_value, hex_at, all_hex, hex_digits};
+ghost use Rattle.run_registers.specs.Digits.{hex_value, hex_at, all_hex, hex_digits};
 ghost use Rattle.run_registers.specs.Start.{is_gap, skip, is_register, pair_at, LineRead, StartRead};
 
-// Whether a character is a hexadecimal digit, of either case.
-fn is_hex(b: u8) -> bool
-    ensures { result ≡ is_hex b }
-{
-    (48 <= b) & (b <= 57) | (97 <= b) & (b <= 102) | (65 <= b) & (b <= 70)
-}
+use text_digits::hex_digit;
 
 // The digit that a character shows, and 0 for what is none.
 fn hex_value(b: u8) -> u64
     ensures { (result ≡ hex_value b) × (result < 16) }
 {
-    if (48 <= b) & (b <= 57) {
-        return (b - 48) as u64;
+    match (b as char).to_digit(16) {
+        Some(digit) => digit as u64,
+        None => 0,
     }
-    if (97 <= b) & (b <= 102) {
-        return (b - 87) as u64;
-    }
-    if (65 <= b) & (b <= 70) {
-        return (b - 55) as u64;
-    }
-    0
 }
 
 // The word that 16 digits show.
@@ -50,7 +38,7 @@ fn all_hex(bytes: &[u8], at: usize) -> bool
 {
     let mut all = true;
     for j in 0..32 {
-        all &= is_hex(bytes[at + j]);
+        all &= bytes[at + j].is_ascii_hexdigit();
     }
     all
 }
@@ -158,18 +146,6 @@ pub fn read_start(bytes: &[u8], words: &mut [u64; 64]) -> Start
     line_after(bytes, next)
 }
 
-// The character of a digit.
-fn character(d: u64) -> u8
-    requires { d < 16 }
-    ensures { result ≡ digit d }
-{
-    if d < 10 {
-        (48 + d) as u8
-    } else {
-        (87 + d) as u8
-    }
-}
-
 // The last k digits of a word.
 pub fn put_digits(k: u64, x: u64, buf: &mut [u8], at: usize) -> usize
     requires { Room buf.old at (hex_digits k x) }
@@ -179,7 +155,7 @@ pub fn put_digits(k: u64, x: u64, buf: &mut [u8], at: usize) -> usize
         return at;
     }
     let i = put_digits(k - 1, x / 16, buf, at);
-    buf[i] = character(x % 16);
+    buf[i] = hex_digit(x % 16);
     i + 1
 }
 

@@ -42,4 +42,4 @@ overflow_add-result t c =
 
 pub returns : goal.returns
 returns t c =
-    wrote-last c.args.k c.args.x c.character.result (omega (arith, c.if-k-eq0.false)) c.put_digits-i.ensures c.character.ensures
+    wrote-last c.args.k c.args.x c.hex_digit.result (omega (arith, c.if-k-eq0.false)) c.put_digits-i.ensures c.hex_digit.ensures
