@@ -5,12 +5,10 @@ use Prim.Native.Nat.{ℕ, suc, ◌-◌, ◌<◌}
 use native.Mathlib.Omega.{arith}
 use lib.ListN.{get_or}
 use Rattle.words_encoding.proofs.Sum.{fixed-fits}
-use borrow.Author.Rules.{rules}
 use Rattle.facts.proofs.Table.{tabulate, entry}
 use Rattle.neon.specs.Op.{operations, op_at}
 use Rattle.words_encoding.specs.Parts.{fixed_of}
-use Rattle.words_encoding.proofs.encode.fixed.Statement.{statement}
-use Rattle.words_encoding.proofs.encode.fixed.Tie as tie
+use Rattle.words_encoding.proofs.encode.fixed.Goals as goal
 
 word : ℕ → ℕ
 word k = fixed_of (op_at (suc k))
@@ -18,22 +16,10 @@ word k = fixed_of (op_at (suc k))
 table : List ℕ
 table = tabulate word 0 67
 
-sub-k : tie.Need-overflow_sub-k
-sub-k c = search rules
-
-mul-result : tie.Need-offset_bounds-k
-mul-result c = search rules
-
-array-read-result : tie.Need-bounds-k
-array-read-result c = search rules
-
-returns : tie.Need-returns
+pub returns : goal.returns
 unfolding table tabulate word fixed_of op_at operations
 returns c =
     let k = c.args.operation in
     let one : suc (k - 1) ≡ k = omega arith in
     let e : get_or table (k - 1) 0 ≡ fixed_of (op_at k) = entry word 67 (k - 1) (omega arith) ∙ ap (λ (j : ℕ). fixed_of (op_at j)) one in
     (e, subst (λ (x : ℕ). x < 2147483648) (sym e) (fixed-fits k c.requires.0 c.requires.1))
-
-pub fixed_spec : {M : Type 1} → statement M
-fixed_spec = tie.close (tie.spec sub-k mul-result array-read-result returns)

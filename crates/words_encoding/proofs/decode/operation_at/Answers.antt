@@ -11,9 +11,7 @@ use Rattle.neon.proofs.Lanes.{lane-of-lanes}
 use Rattle.words_encoding.specs.Decode.{bits, class_at, opcode_at, operation_of, operation_at}
 use Rattle.words_encoding.specs.Parts.{key_of}
 use Rattle.words_encoding.proofs.Lookup.{rule, rule-lt, looked-up, operation-le}
-use borrow.Author.Rules.{rules}
-use Rattle.words_encoding.proofs.decode.operation_at.Statement.{statement}
-use Rattle.words_encoding.proofs.decode.operation_at.Tie as tie
+use Rattle.words_encoding.proofs.decode.operation_at.Goals as goal
 
 -- the word with entries 8r to 8r + 7
 word : ℕ → ℕ
@@ -36,31 +34,7 @@ found w c k e h q l =
     ∙ ap (rule 0) place
     ∙ looked-up w c k e h q l
 
-class-at-requires : tie.Need-class_at-class-requires
-class-at-requires c κs = search rules
-
-key-requires : tie.Need-key-at-requires
-key-requires c κs = search rules
-
-mul-k : tie.Need-overflow_mul-k
-mul-k c = search rules
-
-add-k : tie.Need-overflow_add-k
-add-k c = search rules
-
-mul-result : tie.Need-offset_bounds-k
-mul-result c = search rules
-
-array-read-result : tie.Need-bounds-k
-array-read-result c = search rules
-
-mul-result-2 : tie.Need-overflow_mul-result
-mul-result-2 c = search rules
-
-shr-result : tie.Need-overflow_shr-result
-shr-result c = search rules
-
-returns : tie.Need-returns
+pub returns : goal.returns
 unfolding table tabulate word lanes operation_of op_at operations
 returns c =
     let w = c.args.w in
@@ -69,8 +43,3 @@ returns c =
     let at : ℕ = get_or table (8 * a.result + k.result / 8) 0 / 2 ^ (8 * (k.result % 8)) % 256 in
     let e : at ≡ operation_at w = found w a.result k.result a.ensures.0 a.ensures.1 k.ensures.0 k.ensures.1 in
     (e, subst (λ (x : ℕ). x ≤ 67) (sym e) (at-le w))
-
-pub operation_at_spec : {M : Type 1} → statement M
-operation_at_spec =
-    tie.close
-    (tie.spec class-at-requires key-requires mul-k add-k mul-result array-read-result mul-result-2 shr-result returns)
