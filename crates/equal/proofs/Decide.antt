@@ -8,15 +8,17 @@ use lib.Dec.{eqb, leb, ltb}
 use lib.ListN.{length}
 use borrow.Author.Tests.{eqb-true, lt-ltb}
 use Rattle.facts.specs.Refuse.{unless}
+use Rattle.facts.specs.declared.Refusal.{Refusal}
+use Rattle.facts.specs.declared.Refusal.TheVariants as refusal
+use Rattle.facts.specs.Answer.{code}
 use Rattle.facts.proofs.Tests.{and_both}
 use Rattle.gates.specs.Graph.{inputs, truth}
 use Rattle.gates.specs.Grow.{literal_of}
 use Rattle.gates.proofs.Truth.{false-truth}
-use Rattle.gates_question.specs.Question.{Asks}
-use Rattle.gates_question.specs.declared.Asked.{Asked}
+use Rattle.gates_question.specs.Question.{Asks, Asked}
 use Rattle.gates_question.specs.Question as question
 use Rattle.refutation.specs.Refutation.{refused_step}
-use Rattle.refutation_check.specs.declared.Checked.{Checked}
+use Rattle.refutation_check.specs.Answer.{Checked}
 use Rattle.refutation_check.specs.Answer as check
 use Rattle.refutation_check.proofs.Answers.{accepted-is-false}
 use Rattle.equal.specs.Equal.{EqualBits, Decided, Answered}
@@ -120,3 +122,20 @@ module _ {ws ws' : List ℕ} {n a m b hi lo : ℕ} {g g' table table' bits bits'
           decided = λ z. decided-empty asks c h e;
           equal = λ z. equal-empty asks c h;
         }
+
+-- 14 is the number of a refused step only
+pub is-step : (r : Refusal) → code r ≡ 14 → r ≡ refusal.Step
+is-step refusal.Pool e = absurd (omega (arith, e))
+is-step refusal.Operation e = absurd (omega (arith, e))
+is-step refusal.Form e = absurd (omega (arith, e))
+is-step refusal.Immediate e = absurd (omega (arith, e))
+is-step refusal.Node e = absurd (omega (arith, e))
+is-step refusal.Room e = absurd (omega (arith, e))
+is-step refusal.Register e = absurd (omega (arith, e))
+is-step refusal.Records e = absurd (omega (arith, e))
+is-step refusal.Buffer e = absurd (omega (arith, e))
+is-step refusal.Line e = absurd (omega (arith, e))
+is-step refusal.Visits e = absurd (omega (arith, e))
+is-step refusal.Word e = absurd (omega (arith, e))
+is-step refusal.Bits e = absurd (omega (arith, e))
+is-step refusal.Step e = refl

@@ -5,11 +5,10 @@ use Rattle.terms.specs.Value.{value}
 use Rattle.pool.specs.Unfold.{unfold_at}
 use Rattle.gates.specs.Grow.{literal_of}
 use Rattle.gates_pool.specs.Bits.{Start}
-use Rattle.gates_question.specs.Question.{bits_of}
-use Rattle.gates_question.specs.declared.Asked.{Asked}
+use Rattle.gates_question.specs.Question.{bits_of, Asked}
 use Rattle.gates_question.specs.Question as question
 use Rattle.refutation.specs.Refutation.{refused_step}
-use Rattle.refutation_check.specs.declared.Checked.{Checked}
+use Rattle.refutation_check.specs.Answer.{Checked}
 
 -- bits hi to lo of node a and of node b are equal at every start of 128-bit registers
 abbrev pub EqualBits : (ws : List ℕ) (a : ℕ) (ws' : List ℕ) (b hi lo : ℕ) → Type 0

@@ -2,12 +2,14 @@
 #![tactic(auto)]
 
 ghost use Rattle.std.specs.Prelude.{◌&&◌, ◌≡◌, eqb, length};
+ghost use Rattle.refutation_check.specs.Answer.{checked};
 ghost use Rattle.equal.specs.Equal.{Answered};
 
+use facts::{Refusal, RefusedAt};
 use gates::Literal;
 use gates_question::question;
 use pool::Node;
-use refutation_check::{Checked, check_refutation};
+use refutation_check::check_refutation;
 
 // Whether the literal is the constant false and the refutation is empty.
 fn nothing_to_refute(literal: u64, refutation: &[u32]) -> bool
@@ -19,7 +21,8 @@ fn nothing_to_refute(literal: u64, refutation: &[u32]) -> bool
     false
 }
 
-// Builds the graph of both pools, and checks the refutation of the literal that is true if bits hi to lo of the nodes a and b differ.
+// Builds the graph of both pools, and checks the refutation of the literal that is true if bits hi to lo of the nodes a and b differ. The position of a
+// refusal is the refused step, and 0 if no step is refused.
 pub fn equal(
     first: &[u64],
     n: usize,
@@ -35,30 +38,35 @@ pub fn equal(
     bits: &mut [u64],
     marks: &mut [u64],
     starts: &mut [u64],
-) -> Checked
+) -> Result<(), RefusedAt>
     ensures { Answered first.now n a.0 second.now m b.0 hi lo refutation.now graph.old
         graph.new table.old table.new bits.old bits.new (length marks.old)
-        (length starts.old) result }
+        (length starts.old) (checked result) }
 {
-    let asked = question(first, n, a, second, m, b, hi, lo, graph, table, bits);
-    let number = asked.number;
-    if number != 0 {
-        return Checked { number, step: 0 };
-    }
-    let literal = asked.literal;
-    let checked = check_refutation(
+    let made = match question(first, n, a, second, m, b, hi, lo, graph, table, bits) {
+        Ok(made) => made,
+        Err(refusal) => return Err(RefusedAt {
+            refusal,
+            position: 0,
+        }),
+    };
+    let literal = made.literal;
+    let answer = check_refutation(
         graph,
-        asked.count,
+        made.count,
         Literal(literal),
         refutation,
         marks,
         starts,
     );
-    if checked.number != 14 {
-        return checked;
+    if !nothing_to_refute(literal, refutation) {
+        return answer;
     }
-    if nothing_to_refute(literal, refutation) {
-        return Checked { number: 0, step: 0 };
+    match answer {
+        Ok(()) => Ok(()),
+        Err(refused) => match refused.refusal {
+            Refusal::Step => Ok(()),
+            _ => Err(refused),
+        },
     }
-    checked
 }

@@ -12,9 +12,8 @@ use Rattle.canonical_write.specs.declared.Canonised.{Canonised}
 use Rattle.canonical_write.specs.Canonise as canonise
 use Rattle.gates.specs.Graph.{truth}
 use Rattle.gates_pool.specs.Bits.{Start}
-use Rattle.gates_question.specs.declared.Asked.{Asked}
-use Rattle.gates_question.specs.Question.{bits_of, Answered}
-use Rattle.refutation_check.specs.declared.Checked.{Checked}
+use Rattle.gates_question.specs.Question.{bits_of, Asked, Answered}
+use Rattle.refutation_check.specs.Answer.{Checked}
 use Rattle.equal.specs.Equal as equal
 
 -- a pool, its count and the node of register q after an accepted block: as `lower_block` left them, as `lower_block_saturation` did, or as

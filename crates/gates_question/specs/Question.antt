@@ -1,5 +1,8 @@
 -- Whether bits hi to lo of a node of one pool and of a node of another differ, as one literal of a graph: what is asked for, and what is answered.
-use Rattle.std.specs.Prelude.{Bool, true, not, ◌&&◌, List, ◌≡◌, ℕ, suc, ◌+◌, ◌-◌, ◌*◌, ◌/◌, ◌%◌, ◌^◌, ◌≤◌, eqb, leb, ltb, length}
+use Rattle.std.specs.Prelude.{Bool, true, not, ◌&&◌, List, ◌≡◌, ℕ, suc, ◌+◌, ◌-◌, ◌*◌, ◌/◌, ◌%◌, ◌^◌, ◌≤◌, eqb, leb, ltb, length, Result}
+use Rattle.std.specs.declared.result.Result.TheVariants.{Ok, Err}
+use Rattle.facts.specs.declared.Refusal.{Refusal}
+use Rattle.facts.specs.Answer.{code}
 use Rattle.facts.specs.Refuse.{unless, by_number}
 use Rattle.terms.specs.Value.{value}
 use Rattle.pool.specs.Rules.{pool_ok, of_width}
@@ -8,8 +11,28 @@ use Rattle.gates.specs.Graph.{truth, graph_ok}
 use Rattle.gates.specs.Grow.{Under}
 use Rattle.gates_pool.specs.Bits.{Start}
 use Rattle.gates_pool.specs.Gates.{gates_in}
+use Rattle.gates_build.specs.declared.Made.{Made}
 use Rattle.gates_question.specs.declared.Room.{Room}
-use Rattle.gates_question.specs.declared.Asked.{Asked}
+
+-- what C is given of the room that two pools need: a number of README's table, and how many gates and places of literals
+pub record RoomGiven : Type 0 where
+  pub number : ℕ
+  pub gates : ℕ
+  pub places : ℕ
+
+abbrev pub room : Result Room Refusal → RoomGiven
+room (Ok r) = record { number = 0; gates = r.gates; places = r.places }
+room (Err r) = record { number = code r; gates = 0; places = 0 }
+
+-- and of a question: a number of README's table, the gates that were made, and the literal
+pub record Asked : Type 0 where
+  pub number : ℕ
+  pub count : ℕ
+  pub literal : ℕ
+
+abbrev pub asked : Result Made Refusal → Asked
+asked (Ok m) = record { number = 0; count = m.count; literal = m.literal }
+asked (Err r) = record { number = code r; count = 0; literal = 0 }
 
 -- bits hi to lo of a number, as Extract takes them
 abbrev pub bits_of : (hi lo v : ℕ) → ℕ
@@ -30,7 +53,7 @@ places_of_two count count' = 129 * (count + count' + 1)
 abbrev pub pools_number : (ws : List ℕ) (count : ℕ) (ws' : List ℕ) (count' rest : ℕ) → ℕ
 pools_number ws count ws' count' rest = unless (pool_ok ws count) 1 (unless (pool_ok ws' count') 1 rest)
 
-pub record RoomIs (ws : List ℕ) (count : ℕ) (ws' : List ℕ) (count' : ℕ) (r : Room) : Type 0 where
+pub record RoomIs (ws : List ℕ) (count : ℕ) (ws' : List ℕ) (count' : ℕ) (r : RoomGiven) : Type 0 where
   pub number_is : r.number ≡ pools_number ws count ws' count' 0
   pub gates_is : r.gates ≡ by_number r.number (gates_of_two ws count ws' count')
   pub places_is : r.places ≡ by_number r.number (places_of_two count count')

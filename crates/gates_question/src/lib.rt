@@ -4,9 +4,11 @@
 ghost use Rattle.std.specs.Prelude.{◌≡◌, ◌+◌, ◌*◌, ◌≤◌, length};
 ghost use Rattle.gates.specs.Grow as grow;
 ghost use Rattle.gates_words.specs.Words.{Reads};
-ghost use Rattle.gates_question.specs.Question.{RoomIs, Answered, question_number, pools_number, gates_of_two};
+ghost use Rattle.facts.specs.Answer.{number_of};
+ghost use Rattle.gates_question.specs.Question.{RoomIs, Answered, room, asked, question_number, pools_number, gates_of_two};
 ghost use Rattle.gates_question.specs.Build as build;
 
+use facts::Refusal;
 use gates_build::{Made, negate};
 use gates_pool::nodes;
 use gates_pool::room::gates_in;
@@ -14,33 +16,24 @@ use gates_words::compare::equal;
 use pool::Node;
 use pool_check::{of_width, pool_check};
 
-// A number of README's table, and how many gates and places of literals two pools need at most.
+// How many gates and places of literals two pools need at most.
 #[derive(Clone, Copy)]
 pub struct Room {
-    pub number: u64,
     pub gates: usize,
     pub places: usize,
 }
 
-// A number of README's table, the gates that were made, and the literal.
-#[derive(Clone, Copy)]
-pub struct Asked {
-    pub number: u64,
-    pub count: usize,
-    pub literal: u64,
-}
-
-// 1 for either pool, else 0.
-fn pools_number(first: &[u64], n: usize, second: &[u64], m: usize) -> u64
-    ensures { result ≡ pools_number first.now n second.now m 0 }
+// Either pool may be refused.
+fn check_pools(first: &[u64], n: usize, second: &[u64], m: usize) -> Result<(), Refusal>
+    ensures { number_of result ≡ pools_number first.now n second.now m 0 }
 {
     if !pool_check(first, n) {
-        return 1;
+        return Err(Refusal::Pool);
     }
     if !pool_check(second, m) {
-        return 1;
+        return Err(Refusal::Pool);
     }
-    0
+    Ok(())
 }
 
 // The most gates of both pools and of the comparison.
@@ -51,25 +44,17 @@ fn gates_of_two(first: &[u64], n: usize, second: &[u64], m: usize) -> usize
     (gates_in(first, n) + gates_in(second, m) + 512) as usize
 }
 
-pub fn question_room(first: &[u64], n: usize, second: &[u64], m: usize) -> Room
-    ensures { RoomIs first.now n second.now m result }
+pub fn question_room(first: &[u64], n: usize, second: &[u64], m: usize) -> Result<Room, Refusal>
+    ensures { RoomIs first.now n second.now m (room result) }
 {
-    let number = pools_number(first, n, second, m);
-    if number != 0 {
-        return Room {
-            number,
-            gates: 0,
-            places: 0,
-        };
-    }
-    Room {
-        number: 0,
+    check_pools(first, n, second, m)?;
+    Ok(Room {
         gates: gates_of_two(first, n, second, m),
         places: 129 * (n + m + 1),
-    }
+    })
 }
 
-// The first number that refuses a question; 0 if none does.
+// The first refusal of a question, if there is one.
 fn refusal(
     first: &[u64],
     n: usize,
@@ -81,35 +66,32 @@ fn refusal(
     lo: usize,
     graph: usize,
     bits: usize,
-) -> u64
-    ensures { result ≡ question_number first.now n a.0 second.now m b.0 hi lo graph bits }
+) -> Result<(), Refusal>
+    ensures { number_of result ≡ question_number first.now n a.0 second.now m b.0 hi lo graph bits }
 {
-    let room = question_room(first, n, second, m);
-    if room.number != 0 {
-        return room.number;
-    }
+    let room = question_room(first, n, second, m)?;
     if !of_width(first, n, a, 128) {
-        return 5;
+        return Err(Refusal::Node);
     }
     if !of_width(second, m, b, 128) {
-        return 5;
+        return Err(Refusal::Node);
     }
     if hi < lo {
-        return 13;
+        return Err(Refusal::Bits);
     }
     if 127 < hi {
-        return 13;
+        return Err(Refusal::Bits);
     }
     if graph < room.gates {
-        return 6;
+        return Err(Refusal::Room);
     }
     if 2147479551 < room.gates {
-        return 6;
+        return Err(Refusal::Room);
     }
     if bits < room.places {
-        return 6;
+        return Err(Refusal::Room);
     }
-    0
+    Ok(())
 }
 
 // The literals of both pools' nodes.
@@ -166,25 +148,13 @@ pub fn question(
     graph: &mut [u64],
     table: &mut [u64],
     bits: &mut [u64],
-) -> Asked
+) -> Result<Made, Refusal>
     ensures { Answered first.now n a.0 second.now m b.0 hi lo graph.old graph.new
-        table.old table.new bits.old bits.new result }
+        table.old table.new bits.old bits.new (asked result) }
 {
-    let number = refusal(first, n, a, second, m, b, hi, lo, graph.len(), bits.len());
-    if number != 0 {
-        return Asked {
-            number,
-            count: 0,
-            literal: 0,
-        };
-    }
+    refusal(first, n, a, second, m, b, hi, lo, graph.len(), bits.len())?;
     let made = both(first, n, second, m, graph, table, bits);
     let there = 129 * (n + b.0);
     let here = 129 * a.0;
-    let found = differ(graph, made, table, bits, here, there, lo, hi - lo + 1);
-    Asked {
-        number: 0,
-        count: found.count,
-        literal: found.literal,
-    }
+    Ok(differ(graph, made, table, bits, here, there, lo, hi - lo + 1))
 }

@@ -20,10 +20,18 @@ pub extern "C" fn neon_question_room(
     ensures { RoomIs first.now first_count second.now second_count
         (record { number = result; gates = gates.new; places = places.new }) }
 {
-    let room = question_room(first, first_count, second, second_count);
-    *gates = room.gates;
-    *places = room.places;
-    room.number
+    match question_room(first, first_count, second, second_count) {
+        Ok(room) => {
+            *gates = room.gates;
+            *places = room.places;
+            0
+        }
+        Err(refusal) => {
+            *gates = 0;
+            *places = 0;
+            u64::from(refusal)
+        }
+    }
 }
 
 // Returns the number; how many gates were made and the literal go to `count` and `literal`.
@@ -47,7 +55,7 @@ pub extern "C" fn neon_question(
         table.old table.new bits.old bits.new
         (record { number = result; count = count.new; literal = literal.new }) }
 {
-    let asked = question(
+    let answer = question(
         first,
         first_count,
         Node(a),
@@ -60,9 +68,18 @@ pub extern "C" fn neon_question(
         table,
         bits,
     );
-    *count = asked.count;
-    *literal = asked.literal;
-    asked.number
+    match answer {
+        Ok(made) => {
+            *count = made.count;
+            *literal = made.literal;
+            0
+        }
+        Err(refusal) => {
+            *count = 0;
+            *literal = 0;
+            u64::from(refusal)
+        }
+    }
 }
 
 // Returns the number; the first refused step goes to `step`.
@@ -88,7 +105,7 @@ pub extern "C" fn neon_equal(
         graph.old graph.new table.old table.new bits.old bits.new
         (length marks.old) (length starts.old) (record { number = result; step = step.new }) }
 {
-    let checked = equal(
+    let answer = equal(
         first,
         first_count,
         Node(a),
@@ -104,6 +121,14 @@ pub extern "C" fn neon_equal(
         marks,
         starts,
     );
-    *step = checked.step;
-    checked.number
+    match answer {
+        Ok(()) => {
+            *step = 0;
+            0
+        }
+        Err(e) => {
+            *step = e.position;
+            u64::from(e.refusal)
+        }
+    }
 }

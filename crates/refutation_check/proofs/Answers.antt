@@ -12,8 +12,7 @@ use Rattle.gates.specs.Graph.{inputs, gates_ok, graph_ok}
 use Rattle.gates.specs.Grow.{literal_of}
 use Rattle.refutation.specs.Refutation.{refused_step, refutation_number}
 use Rattle.refutation.proofs.Sound.{refuted}
-use Rattle.refutation_check.specs.declared.Checked.{Checked}
-use Rattle.refutation_check.specs.Answer.{Answered, AcceptedIsFalse}
+use Rattle.refutation_check.specs.Answer.{Checked, Answered, AcceptedIsFalse}
 
 abbrev pub answer : (number step : ℕ) → Checked
 answer number step = record { number = number; step = step }

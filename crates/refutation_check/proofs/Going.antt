@@ -6,10 +6,11 @@ use mathlib.Core.Logic.{⊎_elim}
 use Prim.Native.Nat.{ℕ, zero, suc, ◌+◌, ◌-◌, ◌*◌, ◌/◌, ◌≤◌, ◌<◌}
 use native.Mathlib.Omega.{arith}
 use lib.Dec.{eqb}
-use lib.ListN.{length, get_or, drop, set, length-set}
+use lib.ListN.{length, get_or, drop, set, replicate, length-set, length-replicate, get_or-eq_default, get_or-replicate}
 use lib.Seq.{get_or-set_same, get_or-set_other}
 use borrow.Author.Tests.{eq-eqb, ne_eqb, eqb-true, eqb-false}
 use Rattle.facts.proofs.Tests.{and_both}
+use Rattle.facts.proofs.Numbers.{before-or-from}
 use Rattle.gates.specs.Graph.{inputs, graph_ok}
 use Rattle.gates.specs.Grow.{literal_of}
 use Rattle.refutation.specs.Refutation.{and_false, conflict, whole, listed, after, among, all_below, step_ok, refused_from, refused_step}
@@ -27,6 +28,12 @@ pub record Going (g : List ℕ) (count l : ℕ) (ws starts : List ℕ) (k at : �
   pub within : at ≤ length ws
   pub room : length ws / 2 < length starts
   pub rest : refused_from (length ws + 1 - k) g count (clauses_to ws starts l k) (drop at ws) ≡ refused_step g count l ws
+
+-- no mark is of a step
+pub no-marks : (n : ℕ) (marks : List ℕ) → marks ≡ replicate n 0 → Before 1 marks
+no-marks n marks e x =
+    ⊎_elim (λ (b : x < n). let z = get_or-replicate {A = ℕ} n x 0 0 b in rw e (omega (arith, z)))
+    (λ (b : n ≤ x). let z = get_or-eq_default (replicate {A = ℕ} n 0) 0 {n = x} (rw length-replicate b) in rw e (omega (arith, z))) (before-or-from x n)
 
 pub going-first :
     (g : List ℕ) (count l : ℕ) (ws starts marks : List ℕ) → graph_ok g count ≡ true → l / 2 < inputs + count → length marks ≡ literal_of count

@@ -1,8 +1,18 @@
 -- The answer of a refutation's check: its number, and with 14 the number of the first refused step, else 0.
-use Rattle.std.specs.Prelude.{false, cond, List, ◌≡◌, ℕ, eqb}
+use Rattle.std.specs.Prelude.{false, cond, List, ◌≡◌, ℕ, eqb, Result}
+use Rattle.facts.specs.declared.RefusedAt.{RefusedAt}
+use Rattle.facts.specs.Answer.{number_at, position_at}
 use Rattle.gates.specs.Graph.{truth}
 use Rattle.refutation.specs.Refutation.{refused_step, refutation_number}
-use Rattle.refutation_check.specs.declared.Checked.{Checked}
+
+-- 0: accepted. 1: an operand does not precede its gate. 5: the literal is not of the graph. 6: the lent memory is too short. 14: step `step` is refused.
+pub record Checked : Type 0 where
+  pub number : ℕ
+  pub step : ℕ
+
+-- the two numbers of an answer
+abbrev pub checked : {A : Type 0} → Result A RefusedAt → Checked
+checked a = record { number = number_at a; step = position_at a }
 
 -- marks and starts are the lengths of the lent memory
 pub record Answered (g : List ℕ) (count l : ℕ) (ws : List ℕ) (marks starts : ℕ) (r : Checked) : Type 0 where

@@ -1,4 +1,4 @@
--- Lists in the words that begin with their length: their place, what follows them, and a loop over one. Assumes nothing.
+-- Lists in the words that begin with their length: their place, what follows them; and a list after one more of its words. Assumes nothing.
 use mathlib.Core.Path.{◌≡◌, refl, sym, ap, ◌∙◌}
 use mathlib.Core.Bool.{Bool, true, false, cond, ◌&&◌, ◌||◌}
 use mathlib.Core.List.{List, [], ◌∷◌}
@@ -8,8 +8,12 @@ use native.Mathlib.Numerals.{add-one}
 use native.Mathlib.Omega.{arith}
 use lib.Dec.{ltb, eqb}
 use lib.ListN.{length, get_or, take, drop, length-drop}
-use lib.Seq.{slice, slice-cons, slice_empty, take-nil, get_or-drop, drop-drop}
+use lib.Seq.{slice, take-nil, get_or-drop, drop-drop}
 use borrow.Author.Tests.{ltb-true}
+use Rattle.std.proofs.Common.{drop-cons}
+use Rattle.std.proofs.lemmas.List.{at_drop_all}
+use Rattle.std.proofs.lemmas.Slice.{between_is}
+use Rattle.facts.proofs.Tests.{and_both}
 use Rattle.gates.specs.Grow.{negated}
 use Rattle.refutation.specs.Refutation.{kept, remains, whole, listed, after, among, all_below}
 use Rattle.refutation_hints.specs.Memory.{skipped}
@@ -47,32 +51,41 @@ whole-at ws at = λ i. ltb (length_at ws at i) (length-drop at ws i)
 pub whole-fits : (ws : List ℕ) (at : ℕ) → whole (drop at ws) ≡ true → skipped ws at ≤ length ws
 whole-fits ws at h = let l = ltb-true (get_or ws at 0) (length ws - at) (sym (whole-at ws at) ∙ h) in omega arith
 
--- one more word of the list
+-- as the loop over a list's words has it
+pub listed-here : (ws : List ℕ) (at n : ℕ) → n ≡ get_or ws at 0 → take (at + n + 1 - (at + 1)) (drop (at + 1) ws) ≡ listed (drop at ws)
+listed-here ws at n e = between_is ws (at + 1) (at + n + 1) ∙ rw e (sym (listed_at ws at))
+
+-- one more word of a list
 pub remains-one :
-    (isFalse : ℕ → Bool) (left : ℕ) (ws : List ℕ) (i e : ℕ) → i < e → e ≤ length ws
-    → remains isFalse left (slice i e ws) ≡ remains isFalse (cond (isFalse (get_or ws i 0)) left (kept left (get_or ws i 0))) (slice (i + 1) e ws)
+    (isFalse : ℕ → Bool) (left : ℕ) (xs : List ℕ) (i : ℕ) → i < length xs
+    → remains isFalse left (drop i xs) ≡ remains isFalse (cond (isFalse (get_or xs i 0)) left (kept left (get_or xs i 0))) (drop (i + 1) xs)
 unfolding remains
-remains-one isFalse left ws i e h k = rw (add-one, slice-cons i e ws 0 h k) refl
+remains-one isFalse left xs i h = rw (add-one, drop-cons xs i 0 h) refl
 
-pub below_one :
-    (n : ℕ) (ws : List ℕ) (i e : ℕ) → i < e → e ≤ length ws → all_below n (slice i e ws) ≡ (ltb (get_or ws i 0) n && all_below n (slice (i + 1) e ws))
+pub below_one : (n : ℕ) (xs : List ℕ) (i : ℕ) → i < length xs → all_below n (drop i xs) ≡ (ltb (get_or xs i 0) n && all_below n (drop (i + 1) xs))
 unfolding all_below
-below_one n ws i e h k = rw (add-one, slice-cons i e ws 0 h k) refl
+below_one n xs i h = rw (add-one, drop-cons xs i 0 h) refl
 
-pub among_one :
-    (ws : List ℕ) (i e x : ℕ) → i < e → e ≤ length ws → among (slice i e ws) x ≡ (eqb x (get_or ws i 0) || among (slice (i + 1) e ws) x)
+-- all are below, so this one is, and those after it
+pub below-parts :
+    (n : ℕ) (xs : List ℕ) (i : ℕ) → i < length xs → all_below n (drop i xs) ≡ true → (get_or xs i 0 < n) × (all_below n (drop (i + 1) xs) ≡ true)
+below-parts n xs i h e =
+    let p = and_both (ltb (get_or xs i 0) n) (all_below n (drop (i + 1) xs)) (sym (below_one n xs i h) ∙ e) in
+    (ltb-true (get_or xs i 0) n p.0, p.1)
+
+pub among_one : (xs : List ℕ) (i x : ℕ) → i < length xs → among (drop i xs) x ≡ (eqb x (get_or xs i 0) || among (drop (i + 1) xs) x)
 unfolding among
-among_one ws i e x h k = rw (add-one, slice-cons i e ws 0 h k) refl
+among_one xs i x h = rw (add-one, drop-cons xs i 0 h) refl
 
 -- at its end
-pub remains-end : (isFalse : ℕ → Bool) (left : ℕ) (ws : List ℕ) (i e : ℕ) → i ≡ e → remains isFalse left (slice i e ws) ≡ left
+pub remains-end : (isFalse : ℕ → Bool) (left : ℕ) (xs : List ℕ) (i : ℕ) → length xs ≤ i → remains isFalse left (drop i xs) ≡ left
 unfolding remains
-remains-end isFalse left ws i e h = rw (h, slice_empty e ws) refl
+remains-end isFalse left xs i h = at_drop_all (remains isFalse left) xs i h
 
-pub below_end : (n : ℕ) (ws : List ℕ) (i e : ℕ) → i ≡ e → all_below n (slice i e ws) ≡ true
+pub below_end : (n : ℕ) (xs : List ℕ) (i : ℕ) → length xs ≤ i → all_below n (drop i xs) ≡ true
 unfolding all_below
-below_end n ws i e h = rw (h, slice_empty e ws) refl
+below_end n xs i h = at_drop_all (all_below n) xs i h
 
-pub among-end : (ws : List ℕ) (i e x : ℕ) → i ≡ e → among (slice i e ws) x ≡ false
+pub among-end : (xs : List ℕ) (i x : ℕ) → length xs ≤ i → among (drop i xs) x ≡ false
 unfolding among
-among-end ws i e x h = rw (h, slice_empty e ws) refl
+among-end xs i x h = at_drop_all (λ ys. among ys x) xs i h

@@ -7,10 +7,11 @@ use Prim.Native.Nat.{ℕ, ◌+◌, ◌-◌, ◌≤◌, ◌<◌}
 use native.Mathlib.Numerals.{add-one}
 use native.Mathlib.Omega.{arith}
 use lib.Dec.{eqb}
-use lib.ListN.{length, get_or, set, get_or-eq_default}
-use lib.Seq.{slice, slice-cons, slice_empty, get_or-set_same, get_or-set_other}
+use lib.ListN.{length, get_or, set, drop}
+use lib.Seq.{get_or-set_same, get_or-set_other}
 use borrow.Author.Tests.{eqb-true, eqb-false, eq-eqb, ne_eqb}
-use Rattle.facts.proofs.Numbers.{before-or-from}
+use Rattle.std.proofs.Common.{drop-cons}
+use Rattle.std.proofs.lemmas.List.{at_drop_all}
 use Rattle.gates.specs.Grow.{negated}
 use Rattle.refutation.specs.Refutation.{cited, and_false, conflict}
 use Rattle.refutation.proofs.Cases.{split}
@@ -36,16 +37,6 @@ at-most-set marks l k h m x =
 pub none-marked : (marks : List ℕ) (k x : ℕ) → Before k marks → marked marks k x ≡ false
 none-marked marks k x m = ne_eqb (get_or marks x 0) k (λ e. omega (arith, m x, e))
 
--- marks that are cleared one after the other
-pub clear-one : (marks : List ℕ) (i : ℕ) → i < length marks → ((x : ℕ) → x < i → get_or marks x 0 ≡ 0) → (x : ℕ) → x < i + 1 → get_or (set marks i 0) x 0 ≡ 0
-clear-one marks i h z x l =
-    ⊎_elim (λ e. ap (λ (n : ℕ). get_or (set marks i 0) n 0) (eqb-true x i e) ∙ get_or-set_same marks i 0 0 h)
-    (λ e. let n = eqb-false x i e in get_or-set_other marks i x 0 0 n ∙ z x (omega (arith, n))) (split (eqb x i))
-
-pub clear-all : (marks : List ℕ) (i : ℕ) → length marks ≤ i → ((x : ℕ) → x < i → get_or marks x 0 ≡ 0) → Before 1 marks
-clear-all marks i h z x =
-    ⊎_elim (λ (b : x < i). omega (arith, z x b)) (λ (b : i ≤ x). omega (arith, get_or-eq_default marks 0 {n = x} (omega arith))) (before-or-from x i)
-
 pub or_swap : (a b m : Bool) → (b || (a || m)) ≡ ((a || b) || m)
 or_swap true true m = refl
 or_swap true false m = refl
@@ -58,15 +49,15 @@ ready-again r e = record { good = r.good; literal = r.literal; room = e ∙ r.ro
 
 -- one more hint, of whose clause `left` is left
 pub conflict-one :
-    (g : List ℕ) (count : ℕ) (steps : List (List ℕ)) (isFalse : ℕ → Bool) (ws : List ℕ) (i e left : ℕ) → i < e → e ≤ length ws
-    → left ≡ cited g count steps isFalse (get_or ws i 0)
-    → conflict g count steps isFalse (slice i e ws)
-    ≡ cond (eqb left 0) true (cond (eqb left 1) false (conflict g count steps (and_false isFalse (negated (left - 2))) (slice (i + 1) e ws)))
+    (g : List ℕ) (count : ℕ) (steps : List (List ℕ)) (isFalse : ℕ → Bool) (hints : List ℕ) (i left : ℕ) → i < length hints
+    → left ≡ cited g count steps isFalse (get_or hints i 0)
+    → conflict g count steps isFalse (drop i hints)
+    ≡ cond (eqb left 0) true (cond (eqb left 1) false (conflict g count steps (and_false isFalse (negated (left - 2))) (drop (i + 1) hints)))
 unfolding conflict
-conflict-one g count steps isFalse ws i e left h k c = rw (add-one i, slice-cons i e ws 0 h k, c) refl
+conflict-one g count steps isFalse hints i left h c = rw (add-one i, drop-cons hints i 0 h, c) refl
 
 pub conflict-end :
-    (g : List ℕ) (count : ℕ) (steps : List (List ℕ)) (isFalse : ℕ → Bool) (ws : List ℕ) (i e : ℕ) → i ≡ e
-    → conflict g count steps isFalse (slice i e ws) ≡ false
+    (g : List ℕ) (count : ℕ) (steps : List (List ℕ)) (isFalse : ℕ → Bool) (hints : List ℕ) (i : ℕ) → length hints ≤ i
+    → conflict g count steps isFalse (drop i hints) ≡ false
 unfolding conflict
-conflict-end g count steps isFalse ws i e h = rw (h, slice_empty e ws) refl
+conflict-end g count steps isFalse hints i h = at_drop_all (conflict g count steps isFalse) hints i h

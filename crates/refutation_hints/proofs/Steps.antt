@@ -58,13 +58,6 @@ module _ (ws starts : List ℕ) (l : ℕ) where
     pub no_step : v % 4 ≡ 3 → k ≤ v / 4 → cited g count (clauses_to ws starts l k) isFalse v ≡ 1
     no_step e h = rw (eq-eqb (v % 4) 3 e, clauses-length k, le-ltb (v / 4) k h) refl
 
-    pub cited-gate :
-        (v % 4 ≡ 3 → ⊥) → v / 4 < count → cited g count (clauses_to ws starts l k) isFalse v ≡ remains isFalse 0 (gate_clause g (v / 4) (v % 4))
-    cited-gate e h = rw (ne_eqb (v % 4) 3 e, lt-ltb (v / 4) count h) refl
-
-    pub no-gate : (v % 4 ≡ 3 → ⊥) → count ≤ v / 4 → cited g count (clauses_to ws starts l k) isFalse v ≡ 1
-    no-gate e h = rw (ne_eqb (v % 4) 3 e, le-ltb (v / 4) count h) refl
-
 pub one_left : (isFalse : ℕ → Bool) (l : ℕ) → remains isFalse 0 (l ∷ []) ≡ cond (isFalse l) 0 (kept 0 l)
 unfolding remains
 one_left isFalse l = refl

@@ -56,12 +56,10 @@ fn left_of_list(words: &[u32], at: usize, marks: &[u64], k: u64) -> usize
         × (refutation.all_below (length marks.now) (refutation.listed (drop at words.now)) ≡ true) }
     ensures { result ≡ refutation.remains (marked marks.now k) 0 (refutation.listed (drop at words.now)) }
 {
-    let mut i = at + 1;
     let end = at + wide(words[at]) + 1;
     let mut left = 0;
-    while i < end {
-        left = look(marks, k, left, wide(words[i]));
-        i += 1;
+    for word in &words[at + 1..end] {
+        left = look(marks, k, left, wide(*word));
     }
     left
 }
@@ -142,14 +140,12 @@ pub fn set_false(
     requires { (from ≤ to) × (to ≤ length words.now) × (limit ≤ length marks.old) × AtMost k marks.old }
     ensures { Marking (slice from to words.now) limit marks.old k result marks.new }
 {
-    let mut i = from;
-    while i < to {
-        let l = wide(words[i]);
+    for word in &words[from..to] {
+        let l = wide(*word);
         if limit <= l {
             return false;
         }
         marks[l] = k;
-        i += 1;
     }
     true
 }
@@ -170,9 +166,8 @@ pub fn conflict(
     ensures { (result ≡ refutation.conflict graph.now count (clauses_to words.now starts.now l k)
         (marked marks.old k) (slice from to words.now)) × AtMost k marks.new }
 {
-    let mut i = from;
-    while i < to {
-        let left = left_of_hint(graph, count, l, words, starts, k, marks, wide(words[i]));
+    for hint in &words[from..to] {
+        let left = left_of_hint(graph, count, l, words, starts, k, marks, wide(*hint));
         if left == 0 {
             return true;
         }
@@ -180,7 +175,6 @@ pub fn conflict(
             return false;
         }
         marks[negate(left - 2)] = k as u64;
-        i += 1;
     }
     false
 }

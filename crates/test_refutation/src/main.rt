@@ -52,7 +52,7 @@ fn attempt(
     if 100 < starts {
         return Ok(());
     }
-    let c = refutation_check::check_refutation(
+    let answer = refutation_check::check_refutation(
         &graph,
         9,
         l,
@@ -60,7 +60,10 @@ fn attempt(
         &mut m[..marks],
         &mut s[..starts],
     );
-    println!(rt; "{} {}", c.number, c.step)
+    match answer {
+        Ok(()) => println!(rt; "0 0"),
+        Err(e) => println!(rt; "{} {}", u64::from(e.refusal), e.position),
+    }
 }
 
 // The same words but for one.
