@@ -5,8 +5,7 @@ use Prim.Native.Nat.{ℕ, ◌≤◌}
 use native.Mathlib.Omega.{arith}
 use borrow.Author.Tests.{le-leb}
 use Rattle.pool.specs.Node.{places}
-use Rattle.join.specs.declared.Joined.{Joined}
-use Rattle.join.specs.Join.{join_count, Answered}
+use Rattle.join.specs.Join.{join_count, Joined, Answered}
 use Rattle.join.specs.Meaning.{TermsKept, EqOfTerms, EqHolds, JoinedPasses}
 use Rattle.join.proofs.Refusals.{Passed, all-passed}
 use Rattle.join.proofs.Trees.{first-trees, second-trees, eq-tree, eq-value, joined-valid}

@@ -1,12 +1,25 @@
 -- Two pools as one (document 02, S-11): the first pool's nodes, the second's without its registers, renumbered, and an Eq.
-use Rattle.std.specs.Prelude.{Bool, cond, ◌&&◌, List, ◌≡◌, ℕ, ◌+◌, ◌-◌, ◌*◌, ◌≤◌, ◌<◌, ltb, leb, eqb, length, get_or}
+use Rattle.std.specs.Prelude.{Bool, cond, ◌&&◌, List, ◌≡◌, ℕ, ◌+◌, ◌-◌, ◌*◌, ◌≤◌, ◌<◌, ltb, leb, eqb, length, get_or, Result}
+use Rattle.std.specs.declared.result.Result.TheVariants.{Ok, Err}
+use Rattle.facts.specs.declared.Refusal.{Refusal}
+use Rattle.facts.specs.Answer.{code}
 use Rattle.std.specs.Int.Bits.{bit_or}
 use Rattle.facts.specs.Refuse.{unless}
 use Rattle.pool.specs.Node.{a_of, b_of, c_of, word_at, kind_number, set_at, kind_word, operand_word, write_node, places, none}
 use Rattle.pool.specs.Rules.{pool_ok, of_width}
 use Rattle.pool_operands.specs.Operands.{has_a, has_b, has_c}
 use Rattle.join.specs.Starts.{starts_with_registers}
-use Rattle.join.specs.declared.Joined.{Joined}
+use Rattle.join.specs.declared.JoinedPool.{JoinedPool}
+
+-- what C is given: a number of README's table, the Eq, and how many nodes there are with it
+pub record Joined : Type 0 where
+  pub number : ℕ
+  pub node : ℕ
+  pub count : ℕ
+
+abbrev pub joined : Result JoinedPool Refusal → Joined
+joined (Ok p) = record { number = 0; node = p.node.0; count = p.count }
+joined (Err r) = record { number = code r; node = none; count = 0 }
 
 -- the number in the joined pool of the second pool's node m; the first has c nodes
 abbrev pub moved : ℕ → ℕ → ℕ

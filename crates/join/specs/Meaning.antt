@@ -5,8 +5,7 @@ use Rattle.terms.specs.Expr.{Compare}
 use Rattle.terms.specs.Value.{value}
 use Rattle.pool.specs.Rules.{pool_ok}
 use Rattle.pool.specs.Unfold.{unfold_at}
-use Rattle.join.specs.declared.Joined.{Joined}
-use Rattle.join.specs.Join.{moved, Answered}
+use Rattle.join.specs.Join.{moved, Joined, Answered}
 
 -- P of every two pools that are joined, and of the third
 abbrev pub WhenJoined : ((first : List ℕ) (c : ℕ) (second : List ℕ) (d x y : ℕ) (new : List ℕ) (a : Joined) → Type 0) → Type 0

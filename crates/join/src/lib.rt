@@ -5,18 +5,19 @@ ghost use Rattle.std.specs.Prelude.{cond, ◌&&◌, ◌≡◌, ℕ, ◌+◌, ◌
 ghost use Rattle.pool.specs.Node.{places, word_at};
 ghost use Rattle.pool.specs.Rules.{pool_ok, Valid};
 ghost use Rattle.join.specs.Starts.{var_rule, starts_with_registers};
-ghost use Rattle.join.specs.Join.{moved_parts, join_count, join_number, Answered, Half, SecondAt, write_moved, write_eq};
+ghost use Rattle.facts.specs.Answer.{number_of};
+ghost use Rattle.join.specs.Join.{moved_parts, join_count, join_number, joined, Answered, Half, SecondAt, write_moved, write_eq};
 
+use facts::Refusal;
 use pool::words::{Kind, kind_of, kind_word, kind_word_at, operands_word, set_of};
 use pool::{Node, places, push};
 use pool_check::{check_plain, of_width};
 use pool_fields::{first, high, low, operand_word, second, third};
 
-// The number of document 02, the Eq, and how many nodes there are with it.
+// The Eq of a joined pool, and how many nodes there are with it.
 #[derive(Clone, Copy)]
-pub struct Joined {
-    pub number: u64,
-    pub node: usize,
+pub struct JoinedPool {
+    pub node: Node,
     pub count: usize,
 }
 
@@ -38,12 +39,10 @@ fn starts(pool: &[u64], count: usize) -> bool
     if count < 32 {
         return false;
     }
-    let mut n = 0;
-    while n < 32 {
+    for n in 0..32 {
         if !is_register(pool, Node(n)) {
             return false;
         }
-        n += 1;
     }
     true
 }
@@ -76,11 +75,7 @@ fn copy_first(first: &[u64], c: usize, out: &mut [u64])
     requires { (4 * c ≤ length first.now) × (4 * c ≤ length out.old) × (c ≤ 65535) }
     ensures { Half first.now out.old out.new (4 * c) }
 {
-    let mut i = 0;
-    while i < 4 * c {
-        out[i] = first[i];
-        i += 1;
-    }
+    out[..4 * c].copy_from_slice(&first[..4 * c]);
 }
 
 // Writes the copy of the second pool's node m.
@@ -108,10 +103,8 @@ fn copy_pools(first: &[u64], c: usize, second: &[u64], d: usize, out: &mut [u64]
     ensures { (x y : ℕ) → SecondAt first.now c second.now d x y out.old out.new (c + d - 32) }
 {
     copy_first(first, c, out);
-    let mut m = 32;
-    while m < d {
+    for m in 32..d {
         move_one(second, c, Node(m), out);
-        m += 1;
     }
 }
 
@@ -134,8 +127,8 @@ fn put_eq(first: &[u64], c: usize, second: &[u64], d: usize, x: Node, y: Node, o
     );
 }
 
-// The number, 0 if the two are joined: 1 for the first pool, then for the second; 5; 6.
-fn join_number(
+// The refusal of a join, if there is one: of the first pool, then of the second; of the nodes; of the room.
+fn check_join(
     first: &[u64],
     c: usize,
     second: &[u64],
@@ -143,22 +136,22 @@ fn join_number(
     x: Node,
     y: Node,
     out: &[u64],
-) -> u64
-    ensures { result ≡ join_number first.now c second.now d x.0 y.0 out.now }
+) -> Result<(), Refusal>
+    ensures { number_of result ≡ join_number first.now c second.now d x.0 y.0 out.now }
 {
     if !starts(first, c) {
-        return 1;
+        return Err(Refusal::Pool);
     }
     if !starts(second, d) {
-        return 1;
+        return Err(Refusal::Pool);
     }
     if !(of_width(first, c, x, 128) & of_width(second, d, y, 128)) {
-        return 5;
+        return Err(Refusal::Node);
     }
     if places(out) < c + d - 31 {
-        return 6;
+        return Err(Refusal::Room);
     }
-    0
+    Ok(())
 }
 
 // The first pool, the second without its registers, and the Eq of the first's x and of the second's y.
@@ -170,22 +163,14 @@ pub fn join(
     x: usize,
     y: usize,
     out: &mut [u64],
-) -> Joined
-    ensures { Answered first.now c second.now d x y out.old out.new result }
+) -> Result<JoinedPool, Refusal>
+    ensures { Answered first.now c second.now d x y out.old out.new (joined result) }
 {
-    let number = join_number(first, c, second, d, Node(x), Node(y), out);
-    if 0 < number {
-        return Joined {
-            number,
-            node: Node::NONE,
-            count: 0,
-        };
-    }
+    check_join(first, c, second, d, Node(x), Node(y), out)?;
     copy_pools(first, c, second, d, out);
     put_eq(first, c, second, d, Node(x), Node(y), out);
-    Joined {
-        number,
-        node: c + d - 32,
+    Ok(JoinedPool {
+        node: Node(c + d - 32),
         count: c + d - 31,
-    }
+    })
 }

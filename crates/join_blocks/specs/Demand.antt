@@ -10,8 +10,7 @@ use Rattle.pool.specs.Unfold.{unfold_at}
 use Rattle.block_map.specs.Map.{node_of}
 use Rattle.block.specs.declared.BlockAnswer.{BlockAnswer}
 use Rattle.block.specs.Block as block
-use Rattle.join.specs.declared.Joined.{Joined}
-use Rattle.join.specs.Join.{join_count}
+use Rattle.join.specs.Join.{join_count, Joined}
 use Rattle.join.specs.Join as join
 
 -- P of every two accepted blocks, each in its own pool, of a register of each, and of what joining their pools at these answers

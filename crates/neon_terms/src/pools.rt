@@ -2,6 +2,8 @@
 ghost use Rattle.canonical_write.specs.Canonise.{Answered as Canonised};
 ghost use Rattle.join.specs.Join.{Answered as Joined};
 
+use pool::Node;
+
 // Returns the number; the Eq and the count of the third pool go to `node` and `count`.
 #[unsafe(no_mangle)]
 pub extern "C" fn neon_join(
@@ -18,10 +20,18 @@ pub extern "C" fn neon_join(
     ensures { Joined first.now first_count second.now second_count a b joined.old joined.new
         (record { number = result; node = node.new; count = count.new }) }
 {
-    let j = join::join(first, first_count, second, second_count, a, b, joined);
-    *node = j.node;
-    *count = j.count;
-    j.number
+    match join::join(first, first_count, second, second_count, a, b, joined) {
+        Ok(pool) => {
+            *node = pool.node.0;
+            *count = pool.count;
+            0
+        }
+        Err(refusal) => {
+            *node = Node::NONE;
+            *count = 0;
+            u64::from(refusal)
+        }
+    }
 }
 
 // Returns the number; the count of the canonical pool goes to `after`, and its last node is the root.

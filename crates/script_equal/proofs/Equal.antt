@@ -14,8 +14,7 @@ use Rattle.block_map.specs.Map.{node_of}
 use Rattle.block.specs.declared.BlockAnswer.{BlockAnswer}
 use Rattle.block.specs.Block as block
 use Rattle.block.proofs.Equal.{registers-hold, registers-fit}
-use Rattle.join.specs.declared.Joined.{Joined}
-use Rattle.join.specs.Join.{moved}
+use Rattle.join.specs.Join.{moved, Joined}
 use Rattle.join.specs.Join as join
 use Rattle.join.proofs.Meaning.{terms-kept}
 use Rattle.script_lane_meaning.specs.Demand.{bits_of, lane_at}
