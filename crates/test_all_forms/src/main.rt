@@ -17,19 +17,13 @@ struct Turn {
     added: usize,
 }
 
-fn wide(byte: u8) -> u64 {
-    byte as u64
-}
-
 // Column k. A blank in front of the digits counts as 0, for the low half of its byte is 0.
 fn column(case: &[u8; 48], k: usize) -> u64
     requires { k < 8 }
 {
     let mut value = 0;
-    let mut j = 0;
-    while j < 5 {
-        value = value % 10000 * 10 + wide(case[6 * k + j]) % 16;
-        j += 1;
+    for j in 0..5 {
+        value = value % 10000 * 10 + u64::from(case[6 * k + j] % 16);
     }
     value
 }
@@ -44,16 +38,13 @@ fn times_prime(x: u64) -> u64 {
 
 // 64-bit FNV-1a of the first bytes of a buffer.
 fn hash(text: &[u8], n: usize) -> u64 {
-    let mut h = 14695981039346656037;
-    let mut k = 0;
-    while k < n {
-        if text.len() <= k {
-            return 0;
-        }
-        h = times_prime(h ^ wide(text[k]));
-        k += 1;
+    if text.len() < n {
+        return 0;
     }
-    h
+    text[..n].iter().fold(
+        14695981039346656037,
+        |h, byte| times_prime(h ^ u64::from(*byte)),
+    )
 }
 
 // The registers at their own numbers, then the low halves of v0, v1 and v2 as nodes 32, 33 and 34.
@@ -61,10 +52,8 @@ fn registers(pool: &mut [u64])
     requires { 140 ≤ length pool.old }
     ensures { length pool.new ≡ length pool.old }
 {
-    let mut r = 0;
-    while r < 32 {
+    for r in 0..32 {
         pool_nodes::var(pool, r, r as u64);
-        r += 1;
     }
     pool_nodes::extract(pool, 32, Node(0), Bit(63), Bit(0));
     pool_nodes::extract(pool, 33, Node(1), Bit(63), Bit(0));

@@ -36,7 +36,7 @@ fn put_node(pool: &mut [u64; 262140], n: Node, kind: u64, width: u64, word: u64)
     // every node of a chain is over v0
     let w0 = kind_word(kind, width, 1);
     let hi = if kind == Kind::EXTRACT {
-        one_less(width as usize) as u64
+        width.saturating_sub(1)
     } else {
         0
     };
@@ -48,12 +48,10 @@ fn build(pool: &mut [u64; 262140], case: &[u8]) {
         return;
     }
     put_node(pool, Node(0), Kind::VAR, 128, 0);
-    let mut n = 1;
-    while n < NODES {
+    for n in 1..NODES {
         let at = 8 + n % 2 * 12;
         let word = operands(field(case, at + 8), Node(n - 1));
         put_node(pool, Node(n), field(case, at), field(case, at + 4), word);
-        n += 1;
     }
     if field(case, 4) == 1 {
         put_node(pool, Node(1), Kind::EQ, 0, 0);
@@ -61,31 +59,15 @@ fn build(pool: &mut [u64; 262140], case: &[u8]) {
     }
 }
 
-fn wide(x: u8) -> u64
-    ensures { result < 256 }
-{
-    x as u64
-}
-
 // Adler-32 of a buffer.
 fn sum(buffer: &[u8]) -> u64 {
     let mut a = 1;
     let mut b = 0;
-    let mut i = 0;
-    while i < buffer.len() {
-        a = (a + wide(buffer[i])) % 65521;
+    for byte in buffer {
+        a = (a + u64::from(*byte)) % 65521;
         b = (b + a) % 65521;
-        i += 1;
     }
     b * 65536 + a
-}
-
-fn fill(buffer: &mut [u8]) {
-    let mut i = 0;
-    while i < buffer.len() {
-        buffer[i] = b'.';
-        i += 1;
-    }
 }
 
 fn print(rt: &impl Print, x: u64, end: &str) -> io::Result<()> {
@@ -94,7 +76,7 @@ fn print(rt: &impl Print, x: u64, end: &str) -> io::Result<()> {
 
 // One buffer: its bytes, the number, the length, and a sum over all of it.
 fn attempt(rt: &impl Print, pool: &[u64], node: Node, buffer: &mut [u8]) -> io::Result<()> {
-    fill(buffer);
+    buffer.fill(b'.');
     let w = text::write_text(pool, NODES, node.0, buffer);
     println!(rt;
         "{} {} {} {}",
@@ -105,17 +87,13 @@ fn attempt(rt: &impl Print, pool: &[u64], node: Node, buffer: &mut [u8]) -> io::
     )
 }
 
-fn one_less(x: usize) -> usize {
-    if x == 0 { 0 } else { x - 1 }
-}
-
 // The bytes of a buffer, for a text of so many.
 fn size(i: usize, exact: usize) -> usize {
     match i {
         0 => 0,
         1 => 1,
         2 => exact,
-        3 => one_less(exact),
+        3 => exact.saturating_sub(1),
         4 => 65536,
         _ => 1048576,
     }
