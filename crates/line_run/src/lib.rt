@@ -34,6 +34,7 @@ pub fn answer_lines(
     let mut len = line;
     let mut output = 0;
     let mut next = from;
+    // No `for`: the next place is the one that `gather` gives.
     while next < input.len() {
         if out.len() - output < ANSWER_ROOM {
             return Progress {
