@@ -203,6 +203,7 @@ pub fn xor(a: Wide, b: Wide) -> Wide
     }
 }
 
+// The derived tests of the words, said of the numbers.
 #[tactic(auto, using(std::proofs::lemmas::Bool::Decides::nat_tests), unfolding(crate::specs::Number::words))]
 pub fn equal(a: Wide, b: Wide) -> bool
     ensures { result ≡ (num a == num b) }
