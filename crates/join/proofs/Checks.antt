@@ -1,8 +1,8 @@
--- What the tests and the copies of a join give. Assumes nothing.
+-- What the tests of a join give. Assumes nothing.
 use mathlib.Core.Path.{◌≡◌, refl, sym, ap, ◌∙◌, subst}
 use mathlib.Core.Bool.{Bool, true, false, cond, ◌&&◌, ◌||◌, not, false≢true}
 use mathlib.Core.List.{List}
-use Prim.Native.Nat.{ℕ, zero, suc, ◌+◌, ◌-◌, ◌≤◌, ◌<◌}
+use Prim.Native.Nat.{ℕ, zero, suc, ◌+◌, ◌≤◌, ◌<◌}
 use native.Mathlib.Omega.{arith}
 use native.Mathlib.Numerals.{add-one}
 use lib.Dec.{ltb, leb, eqb}
@@ -12,17 +12,6 @@ use Rattle.pool.specs.Node.{kind_number, word_at}
 use Rattle.pool.specs.Rules.{pool_ok}
 use Rattle.pool_check.specs.Plain.{plain_at, plain_from}
 use Rattle.join.specs.Starts.{var_rule, var_rules, starts_with_registers}
-use Rattle.join.specs.Join.{moved}
-
-pub raised_is : (c m r : ℕ) → 32 ≤ c → r ≡ cond (ltb m 32) 0 (c - 32) → moved c m ≡ m + r
-raised_is c m r h e = go (ltb m 32) refl
-  where
-    go : (t : Bool) → ltb m 32 ≡ t → cond t m (m + c - 32) ≡ m + r
-    go t f = by t (sym (rw f at e))
-      where
-        by : (t : Bool) → cond t 0 (c - 32) ≡ r → cond t m (m + c - 32) ≡ m + r
-        by true q = omega arith
-        by false q = omega arith
 
 pub rules-none : (ws : List ℕ) → var_rules ws 0 ≡ true
 unfolding var_rules

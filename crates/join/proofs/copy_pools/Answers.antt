@@ -1,4 +1,5 @@
-use Rattle.std.proofs.Common.{◌≡◌, ◌+◌, ◌-◌, arith}
+use Rattle.std.proofs.Common.{subst, ℕ, ◌≡◌, ◌+◌, ◌-◌, arith}
+use Rattle.join.specs.Join.{SecondAt}
 use Rattle.join.proofs.Copies.{start-at, second_at, from-half}
 use Rattle.join.proofs.Moved.{moved-parts, word_small}
 use Rattle.join.proofs.copy_pools.Goals as goal
@@ -7,8 +8,10 @@ pub loop-m-init : goal.loop-m-init
 loop-m-init c =
     let a = c.args in
     let r = c.requires in
-    let e : 32 + a.c - 32 ≡ a.c = omega arith in
-    λ x y. rw e (start-at a.first.now a.c a.second.now a.d x y r.c_in_bounds.1 r.valid.2 a.out.now _ c.copy_first.ensures)
+    let e : a.c ≡ 32 + a.c - 32 = omega arith in
+    λ x y.
+    subst (λ (n : ℕ). SecondAt a.first.now a.c a.second.now a.d x y c.copy_first.new.out c.copy_first.new.out n) e
+    (start-at a.first.now a.c a.second.now a.d x y r.c_in_bounds.1 r.valid.2 a.out.now _ c.copy_first.ensures)
 
 pub move_one-requires-clause-m_bound : goal.move_one-requires-clause-m_bound
 move_one-requires-clause-m_bound c =
