@@ -1,15 +1,15 @@
 -- The slots as one list: both tables, then two slots per node. Assumes nothing.
-use mathlib.Core.Path.{◌≡◌, refl, sym, ap, ◌∙◌}
+use mathlib.Core.Path.{◌≡◌, refl, ap, ◌∙◌}
 use mathlib.Core.Bool.{Bool, true, false}
 use mathlib.Core.List.{List, [], ◌∷◌, ◌++◌}
 use Prim.Native.Nat.{ℕ, ◌+◌, ◌-◌, ◌≤◌, ◌<◌}
 use native.Mathlib.Omega.{arith}
 use native.Mathlib.Nat.{zero-add, suc-add}
 use lib.Dec.{ltb}
-use lib.ListN.{length, get_or, set, length-set, length-append, get_or-append}
-use lib.Seq.{set-append_left, get_or-append-add}
+use lib.ListN.{length, get_or, set, length-append, get_or-append}
+use lib.Seq.{get_or-append-add}
 use borrow.Author.Tests.{ltb-true, ltb-false}
-use Rattle.canonical_classes.specs.Class.{Empty, Laid, Linked, slots_of}
+use Rattle.canonical_classes.specs.Class.{Empty, Laid, slots_of}
 
 -- past the front
 at_back : (a b : List ℕ) (i : ℕ) → length a ≤ i → get_or (a ++ b) i 0 ≡ get_or b (i - length a) 0
@@ -51,34 +51,3 @@ module _ (first second ways : List ℕ) (L : Laid first second ways) where
       go true e u d = first-at s (ltb-true s 65536 e) ∙ f s
       go false e true d = second_at s (ltb-false s 65536 e) (ltb-true s 131072 d) ∙ g (s - 65536)
       go false e false d = way_at s (ltb-false s 131072 d) ∙ h (s - 131072)
-
-  -- ---- a link is put
-
-  pub linked-first : (s n : ℕ) → s < 65536 → Linked first second ways s n (set first s (n + 1)) second ways
-  linked-first s n h =
-      record {
-        laid = record { first_long = simp length-set L.first_long; second_long = L.second_long; ways_long = L.ways_long };
-        is = sym (set-append_left first (second ++ ways) s (n + 1) (omega (arith, L.first_long)));
-      }
-
-  pub linked-second : (s n : ℕ) → 65536 ≤ s → s < 131072 → Linked first second ways s n first (set second (s - 65536) (n + 1)) ways
-  linked-second s n l h =
-      let e = set_back first (second ++ ways) s (n + 1) (omega (arith, L.first_long)) in
-      let d = set-append_left second ways (s - 65536) (n + 1) (omega (arith, L.second_long)) in
-      record {
-        laid = record { first_long = L.first_long; second_long = simp length-set L.second_long; ways_long = L.ways_long };
-        is = sym (e ∙ ap (λ (k : ℕ). first ++ set (second ++ ways) (s - k) (n + 1)) L.first_long ∙ ap (λ (l : List ℕ). first ++ l) d);
-      }
-
-  pub linked-way : (s n : ℕ) → 131072 ≤ s → Linked first second ways s n first second (set ways (s - 131072) (n + 1))
-  linked-way s n l =
-      let e = set_back first (second ++ ways) s (n + 1) (omega (arith, L.first_long)) in
-      let d = set_back second ways (s - 65536) (n + 1) (omega (arith, L.second_long)) in
-      let i : s - 65536 - length second ≡ s - 131072 = omega (arith, L.second_long) in
-      record {
-        laid = record { first_long = L.first_long; second_long = L.second_long; ways_long = simp length-set L.ways_long };
-        is = sym
-            (e
-            ∙ ap (λ (k : ℕ). first ++ set (second ++ ways) (s - k) (n + 1)) L.first_long
-            ∙ ap (λ (l : List ℕ). first ++ l) (d ∙ ap (λ (k : ℕ). second ++ set ways k (n + 1)) i));
-      }

@@ -4,7 +4,6 @@ use mathlib.Core.Bool.{Bool, true, false, cond}
 use mathlib.Core.List.{List, [], ◌∷◌}
 use Prim.Native.Nat.{ℕ, zero, suc, ◌+◌, ◌*◌, ◌≤◌, ◌<◌}
 use native.Mathlib.Omega.{arith}
-use lib.Dec.{ltb}
 use lib.ListN.{length, get_or, length-set}
 use Rattle.terms.specs.Expr.{Expr, Var, Const, Bv, Compare, Ite, Extract, Concat, ZeroExtend, SignExtend}
 use Rattle.terms.specs.Registers.{registers}
@@ -23,8 +22,7 @@ use Rattle.canonical_classes.proofs.Keys.{NodeRead, node-read, kind_in}
 use Rattle.pool_operands.proofs.Written.{other, f0, f1, f2, f3, four}
 use Rattle.canonical_order.specs.Walk.{Set, Done, Numbered}
 use Rattle.canonical_order.proofs.Lists.{listed_at}
-use Rattle.canonical_write.specs.Canonise.{number_if, new_operands, OneMore, Written}
-use borrow.Author.Tests.{ltb-false, ltb-true}
+use Rattle.canonical_write.specs.Canonise.{number_if, new_operands, OneMore}
 
 -- ---- the parts of a cell that do not go by the list
 
@@ -189,24 +187,6 @@ one_more ws root j old new w0 w1 x y h room e q =
   where
     P : ℕ → Type 0
     P i = get_or new (4 * j + i) 0 ≡ get_or (words_in (postorder (unfold_at ws root)) (postorder (unfold_at ws root))) (4 * j + i) 0
-
-pub written_none : (ws : List ℕ) (root : ℕ) (old : List ℕ) → Written ws root 0 old old
-written_none ws root old = record { long = refl; words = λ n r h. absurd (omega arith); past = λ i h. refl }
-
-pub written-more : (ws : List ℕ) (root j : ℕ) (old mid new : List ℕ) → Written ws root j old mid → OneMore ws root j mid new → Written ws root (j + 1) old new
-written-more ws root j old mid new W O =
-    record {
-      long = O.long ∙ W.long;
-      words = λ n r h g. go n r h g (ltb n j) refl;
-      past = λ i h. O.past i h ∙ W.past i (omega arith);
-    }
-  where
-    go : (n r : ℕ) → n < j + 1 → r < 4 → (t : Bool) → ltb n j ≡ t → get_or new (4 * n + r) 0 ≡ get_or (canonical (unfold_at ws root)) (4 * n + r) 0
-    go n r h g true e = let l : n < j = ltb-true n j e in O.before (4 * n + r) (omega arith) ∙ W.words n r l g
-    go n r h g false e =
-        let l : j ≤ n = ltb-false n j e in
-        let q : n ≡ j = omega arith in
-        rw q (O.word r g)
 
 -- word 1 from its parts
 pub operands-made : (ws class number : List ℕ) (n kind : ℕ) (p q r : Bool) (a b c x y z : ℕ) → kind ≡ kind_number ws n → p ≡ has_a kind → q ≡ has_b kind → r ≡ has_c kind

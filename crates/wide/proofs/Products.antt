@@ -1,13 +1,9 @@
 -- The product of three words by three. Assumes nothing.
-use Rattle.std.proofs.Common.{◌≡◌, ℕ, ◌+◌, ◌*◌, ◌/◌, ◌%◌, ◌^◌, ◌<◌, ◌≤◌, sym, ap, ◌∙◌, ap₂, mul-le-mul, div-add-mod', arith}
+use Rattle.std.proofs.Common.{◌≡◌, ℕ, ◌+◌, ◌*◌, ◌/◌, ◌%◌, ◌^◌, sym, ap, ◌∙◌, ap₂, div-add-mod', arith}
 use Rattle.terms.specs.Value.{bvmul}
 use Rattle.wide.specs.declared.Wide.{Wide}
 use Rattle.wide.specs.Number.{base, words, num}
 use Rattle.wide.proofs.Words.{mod-is, Fit, num-lt}
-
--- a product of two halves of a word
-pub small : {x y : ℕ} → x < 4294967296 → y < 4294967296 → x * y ≤ 18446744065119617025
-small {x} {y} h k = omega (arith, mul-le-mul {n₁ = x} {m₁ = y} {n₂ = 4294967295} {m₂ = 4294967295} (omega arith) (omega arith))
 
 -- two words of a sum or a product
 pub record SumOf (B low high total : ℕ) : Type 0 where
@@ -19,21 +15,6 @@ module _ (a b : ℕ) where
 
   halves : (a / H * H + a % H) * (b / H * H + b % H) ≡ a * b
   halves = ap₂ ◌*◌ (div-add-mod' a H) (div-add-mod' b H)
-
-  -- the products of the halves are small
-  pub record Small : Type 0 where
-    pub ll : a % H * (b % H) ≤ 18446744065119617025
-    pub lh : a % H * (b / H) ≤ 18446744065119617025
-    pub hl : a / H * (b % H) ≤ 18446744065119617025
-    pub hh : a / H * (b / H) ≤ 18446744065119617025
-
-  pub smalls : a < base → b < base → Small
-  smalls h k = record {
-    ll = small {x = a % H} {y = b % H} (omega arith) (omega arith);
-    lh = small {x = a % H} {y = b / H} (omega arith) (omega arith);
-    hl = small {x = a / H} {y = b % H} (omega arith) (omega arith);
-    hh = small {x = a / H} {y = b / H} (omega arith) (omega arith);
-  }
 
   -- the four products of halves, put together
   pub product_is : (p m l : ℕ) → p ≡ a % H * (b % H) → m ≡ a % H * (b / H) + p / H → l ≡ a / H * (b % H) + m % H

@@ -1,5 +1,5 @@
 -- Shifts of three words. Assumes nothing.
-use Rattle.std.proofs.Common.{◌≡◌, ℕ, ◌+◌, ◌-◌, ◌*◌, ◌/◌, ◌%◌, ◌^◌, ◌<◌, ◌≤◌, sym, ap, ◌∙◌, ap₂, mod-lt, mod-eq_of_lt, div-add-mod', mul-one, div-one, arith, pow_pos, pow-add, shr_lt}
+use Rattle.std.proofs.Common.{◌≡◌, ℕ, ◌+◌, ◌-◌, ◌*◌, ◌/◌, ◌%◌, ◌^◌, ◌<◌, ◌≤◌, sym, ap, ◌∙◌, ap₂, mod-lt, mod-eq_of_lt, div-add-mod', mul-one, arith, pow_pos, pow-add, shr_lt}
 use lib.Arith.{digits_div}
 use lib.Bits.{bit_or, or_shifted}
 use Rattle.terms.specs.Value.{bvshl}
@@ -88,9 +88,6 @@ module _ (a : Wide) (f : Fit a) (k : ℕ) where
   pub no-left : k ≡ 0 → num a ≡ bvshl 192 (num a) k
   unfolding bvshl
   no-left e = rw e (sym (ap (λ (t : ℕ). t % 2 ^ 192) (mul-one (num a)) ∙ mod-eq_of_lt (num-lt a f)))
-
-  pub no-right : k ≡ 0 → num a ≡ num a / 2 ^ k
-  no-right e = rw e (sym (div-one (num a)))
 
   pub word-left : 64 ≤ k → bvshl 192 (words 0 a.low a.high) (k - 64) ≡ bvshl 192 (num a) k
   unfolding words bvshl
