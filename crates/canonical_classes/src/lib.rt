@@ -192,6 +192,7 @@ fn find(
     let mut slot = bucket(k);
     let mut level = 0;
     let mut link = link_at(first, second, ways, slot);
+    // No `for`: each turn goes on from the link that it found, and an empty slot ends it.
     while 0 < link {
         let m = Node(link - 1);
         if key_of(pool, class, m) == k {

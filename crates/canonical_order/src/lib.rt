@@ -102,6 +102,7 @@ pub fn walk(
     let at = root.0;
     stack[0] = class[at];
     let mut s = State { count: 0, depth: 1 };
+    // No `for`: a turn makes the stack longer or shorter.
     while 0 < s.depth {
         s = turn(pool, class, root, number, order, stack, s);
     }

@@ -44,6 +44,7 @@ fn consume(
 {
     let mut len = line;
     let mut from = 0;
+    // No `for`: the next place is the one up to which lines were answered.
     while from < piece.len() {
         let p = line_run::answer_lines(pool, held, len, piece, from, out);
         len = p.line;

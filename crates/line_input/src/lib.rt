@@ -24,6 +24,7 @@ pub fn fill<R: Read>(reader: &mut R, input: &mut [u8], from: usize) -> Filled
     ensures end { IsNone result.error → result.end < length input.new → IsAtEnd (R.remaining reader.new) }
 {
     let mut have = from;
+    // No `for`: a read says how many bytes came.
     while have < input.len() {
         match reader.read(&mut input[have..]) {
             Ok(0) => break,
