@@ -152,9 +152,11 @@ fn canonise_root(pool: &[u64], root: Node, out: &mut [u64]) -> Canonised
 pub fn canonise(pool: &[u64], count: usize, root: usize, out: &mut [u64]) -> Canonised
     ensures { Answered pool.now count root out.old out.new result }
 {
-    let number = node_number(pool, count, Node(root));
-    if 0 < number {
-        return Canonised { number, count: 0 };
+    if let Err(refusal) = node_number(pool, count, Node(root)) {
+        return Canonised {
+            number: u64::from(refusal),
+            count: 0,
+        };
     }
     canonise_root(pool, Node(root), out)
 }

@@ -214,9 +214,8 @@ pub fn evaluate(
 ) -> Evaluated
     ensures { Answered pool.now start.now count node allowance result }
 {
-    let number = node_number(pool, count, Node(node));
-    if 0 < number {
-        return refused(number);
+    if let Err(refusal) = node_number(pool, count, Node(node)) {
+        return refused(u64::from(refusal));
     }
     words_of(start);
     let mut out = [0; 3];
@@ -225,7 +224,7 @@ pub fn evaluate(
         return refused(11);
     }
     Evaluated {
-        number,
+        number: 0,
         low: out[0],
         high: out[1],
         top: out[2],

@@ -2,6 +2,7 @@
 // pointer and a length. No call requires anything of its numbers: what it cannot do it refuses by number.
 #![tactic(auto)]
 
+mod answers;
 mod lines;
 mod pools;
 mod questions;
@@ -22,6 +23,7 @@ ghost use Rattle.instruction.specs.Lowering.{Answers};
 ghost use Rattle.block_check.specs.Records.{records_of};
 ghost use Rattle.neon_terms.specs.Results.{BlockGiven};
 
+use answers::give;
 use block_results::answer_words;
 
 // The form code of crate `neon`: what an operation reads at an arrangement, and 0 if there is no such form.
@@ -87,9 +89,7 @@ pub extern "C" fn neon_write_text(
 ) -> u64
     ensures { TextAnswered pool.now count node buffer.old result length.new buffer.new }
 {
-    let w = text::write_text(pool, count, node, buffer);
-    *length = w.length;
-    w.number
+    give(text::write_text(pool, count, node, buffer), 0, length)
 }
 
 // Returns the number; the length goes to `length`.
@@ -103,9 +103,11 @@ pub extern "C" fn neon_text_length(
 ) -> u64
     ensures { Measured pool.now count node ceiling result length.new }
 {
-    let w = text_length::text_length(pool, count, node, ceiling);
-    *length = w.length;
-    w.number
+    give(
+        text_length::text_length(pool, count, node, ceiling),
+        0,
+        length,
+    )
 }
 
 // Returns the number; the registers beneath the node go to `set`, bit r for register r.
@@ -113,7 +115,5 @@ pub extern "C" fn neon_text_length(
 pub extern "C" fn neon_registers_of(pool: &[u64], count: usize, node: usize, set: &mut u64) -> u64
     ensures { Named pool.now count node result set.new }
 {
-    let w = pool_registers::registers_of(pool, count, node);
-    *set = w.set;
-    w.number
+    give(pool_registers::registers_of(pool, count, node), 0, set)
 }

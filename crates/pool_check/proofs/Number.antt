@@ -2,10 +2,10 @@
 use mathlib.Core.Bool.{Bool, true, false}
 use mathlib.Core.List.{List}
 use mathlib.Core.Path.{◌≡◌, refl}
-use Prim.Native.Nat.{ℕ, ◌≤◌, ◌<◌}
+use Prim.Native.Nat.{ℕ, ◌<◌}
 use native.Mathlib.Omega.{arith}
 use lib.Dec.{ltb}
-use borrow.Author.Tests.{lt-ltb, le-ltb, ltb-true}
+use borrow.Author.Tests.{lt-ltb, ltb-true}
 use Rattle.facts.specs.Refuse.{unless}
 use Rattle.facts.proofs.Tests.{passed}
 use Rattle.pool.specs.Rules.{pool_ok, node_number}
@@ -20,12 +20,6 @@ same-refusal true false rest h = refl
 same-refusal true true rest h = absurd (not-zero h refl)
 
 module _ (ws : List ℕ) (count n : ℕ) where
-  pub bad-pool : (rest : ℕ) → pool_ok ws count ≡ false → node_number ws count n rest ≡ 1
-  bad-pool rest h = rw h
-
-  pub bad-node : (rest : ℕ) → pool_ok ws count ≡ true → count ≤ n → node_number ws count n rest ≡ 5
-  bad-node rest h l = rw (h, le-ltb n count l)
-
   pub good-node : (rest : ℕ) → pool_ok ws count ≡ true → n < count → node_number ws count n rest ≡ rest
   good-node rest h l = rw (h, lt-ltb n count l)
 

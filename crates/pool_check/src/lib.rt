@@ -2,10 +2,12 @@
 #![tactic(auto)]
 
 ghost use Rattle.std.specs.Prelude.{◌&&◌, ◌≡◌, ◌+◌, ◌*◌, ◌≤◌, ◌<◌, eqb, length};
+ghost use Rattle.facts.specs.Answer.{number_of};
 ghost use Rattle.pool.specs.Node.{none};
 ghost use Rattle.pool.specs.Rules.{ok_node, ok_pool, pool_ok, node_number, of_width};
 ghost use Rattle.pool_check.specs.Plain.{plain_at, plain_from};
 
+use facts::Refusal;
 use pool::Node;
 use pool::words::{Kind, kind_of, width_of};
 use pool_rules::{const_ok, extend_ok, extract_ok, ite_ok, pair_ok, var_ok};
@@ -50,14 +52,12 @@ fn first_refused(pool: &[u64], count: usize, plain: Node) -> Node
     requires { (4 * count ≤ length pool.now) × (count ≤ none) }
     ensures { eqb result.0 count ≡ (ok_pool pool.now count && plain_from pool.now plain.0 count) }
 {
-    let mut n = 0;
-    while n < count {
+    for n in 0..count {
         if !node_ok(pool, Node(n), plain) {
             return Node(n);
         }
-        n += 1;
     }
-    Node(n)
+    Node(count)
 }
 
 // Whether the pool has count places, each node below count obeys the rules, and none from node `plain` on is a Var.
@@ -77,17 +77,17 @@ pub fn pool_check(pool: &[u64], count: usize) -> bool
     check_plain(pool, count, Node(count))
 }
 
-// 1 for a bad pool, 5 for a node that it has not, else 0.
-pub fn node_number(pool: &[u64], count: usize, n: Node) -> u64
-    ensures { result ≡ node_number pool.now count n.0 0 }
+// Refuses a bad pool, and then a node that it has not.
+pub fn node_number(pool: &[u64], count: usize, n: Node) -> Result<(), Refusal>
+    ensures { number_of result ≡ node_number pool.now count n.0 0 }
 {
     if !pool_check(pool, count) {
-        return 1;
+        return Err(Refusal::Pool);
     }
     if count <= n.0 {
-        return 5;
+        return Err(Refusal::Node);
     }
-    0
+    Ok(())
 }
 
 // Whether there is a node n, and it has so many bits.

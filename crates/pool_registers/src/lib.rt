@@ -1,29 +1,19 @@
 // Which registers a term reads (document 02, S-4): past the pool check one word of one node.
 #![tactic(auto)]
 
+ghost use Rattle.facts.specs.Answer.{number_of, value_or};
 ghost use Rattle.pool_registers.specs.Answer.{Named};
 
+use facts::Refusal;
 use pool::Node;
 use pool::words::set_of;
 use pool_check::node_number;
 
-// The number, and the registers beneath the node, bit r for register r.
-#[derive(Clone, Copy)]
-pub struct RegisterSet {
-    pub number: u64,
-    pub set: u64,
-}
-
-// The registers beneath a node. Refuses by 1 and 5, with the empty set.
-pub fn registers_of(pool: &[u64], count: usize, node: usize) -> RegisterSet
-    ensures { Named pool.now count node result.number result.set }
+// The registers beneath a node, bit r for register r. Refuses a bad pool, and then a node that it has not.
+#[tactic(auto, using(crate::proofs::Walk::refused, crate::proofs::Walk::inside, crate::proofs::Walk::told,))]
+pub fn registers_of(pool: &[u64], count: usize, node: usize) -> Result<u64, Refusal>
+    ensures { Named pool.now count node (number_of result) (value_or 0 result) }
 {
-    let number = node_number(pool, count, Node(node));
-    if 0 < number {
-        return RegisterSet { number, set: 0 };
-    }
-    RegisterSet {
-        number,
-        set: set_of(pool, Node(node)),
-    }
+    node_number(pool, count, Node(node))?;
+    Ok(set_of(pool, Node(node)))
 }

@@ -74,8 +74,8 @@ fn show(rt: &impl Print, pool: &[u64], lowered: Lowering) -> io::Result<()> {
     let asked = text_length::text_length(pool, lowered.count, lowered.node, 65536);
     let mut text = [0u8; 65536];
     let written = text::write_text(pool, lowered.count, lowered.node, &mut text);
-    print(rt, asked.length, " ")?;
-    println!(rt; "{:016x}", hash(&text, written.length))
+    print(rt, asked.unwrap_or(0), " ")?;
+    println!(rt; "{:016x}", hash(&text, written.unwrap_or(0)))
 }
 
 // The words of so many places, or of as many as there are.

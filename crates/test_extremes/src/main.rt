@@ -77,14 +77,11 @@ fn print(rt: &impl Print, x: u64, end: &str) -> io::Result<()> {
 // One buffer: its bytes, the number, the length, and a sum over all of it.
 fn attempt(rt: &impl Print, pool: &[u64], node: Node, buffer: &mut [u8]) -> io::Result<()> {
     buffer.fill(b'.');
-    let w = text::write_text(pool, NODES, node.0, buffer);
-    println!(rt;
-        "{} {} {} {}",
-        buffer.len(),
-        w.number,
-        w.length,
-        sum(buffer)
-    )
+    let (number, length) = match text::write_text(pool, NODES, node.0, buffer) {
+        Ok(length) => (0, length),
+        Err(refusal) => (u64::from(refusal), 0),
+    };
+    println!(rt; "{} {number} {length} {}", buffer.len(), sum(buffer))
 }
 
 // The bytes of a buffer, for a text of so many.
@@ -108,7 +105,7 @@ fn sized(rt: &impl Print, pool: &[u64], node: Node, buffer: &mut [u8], n: usize)
 
 // A chain in each buffer that there is room for.
 fn buffers(rt: &impl Print, pool: &[u64], node: Node, buffer: &mut [u8]) -> io::Result<()> {
-    let exact = text_length::text_length(pool, NODES, node.0, 1441792).length as usize;
+    let exact = text_length::text_length(pool, NODES, node.0, 1441792).unwrap_or(0) as usize;
     for i in 0..6 {
         sized(rt, pool, node, buffer, size(i, exact))?;
     }

@@ -2,21 +2,16 @@
 // writes nothing.
 #![tactic(auto)]
 
+ghost use Rattle.facts.specs.Answer.{number_of, value_or};
 ghost use Rattle.text_digits.specs.Writing.{Room, Wrote};
 ghost use Rattle.text_parts.specs.Text.{text, Ready};
 ghost use Rattle.text.specs.Answer.{Answered};
 
+use facts::Refusal;
 use pool::Node;
 use pool_check::node_number;
 use text_length::left_after_text;
 use text_write::write_node;
-
-// A number of document 01, and the length of the text that was written.
-#[derive(Clone, Copy)]
-pub struct Written {
-    pub number: u64,
-    pub length: usize,
-}
 
 // Writes the text of a node into a buffer at `at`, if the pool is known to be good and the text to fit. The place after it.
 pub fn write_known(p: &[u64], n: Node, buffer: &mut [u8], at: usize) -> usize
@@ -29,26 +24,22 @@ pub fn write_known(p: &[u64], n: Node, buffer: &mut [u8], at: usize) -> usize
     end
 }
 
-// Writes the text of a node to the front of a buffer, and leaves the bytes after it. Refuses by 1, 5 and 9, and
-// then writes nothing.
-pub fn write_text(pool: &[u64], count: usize, node: usize, buffer: &mut [u8]) -> Written
-    ensures { Answered pool.now count node buffer.old result.number result.length buffer.new }
+// Writes the text of a node to the front of a buffer, and leaves the bytes after it. Gives the text's length. Refuses a bad pool, a node that
+// it has not, and a buffer that is shorter than the text, and then writes nothing.
+pub fn write_text(
+    pool: &[u64],
+    count: usize,
+    node: usize,
+    buffer: &mut [u8],
+) -> Result<usize, Refusal>
+    ensures { Answered pool.now count node buffer.old (number_of result) (value_or 0 result) buffer.new }
 {
-    let number = node_number(pool, count, Node(node));
-    if 0 < number {
-        return Written { number, length: 0 };
-    }
+    node_number(pool, count, Node(node))?;
     let most = buffer.len() + 1;
     let left = left_after_text(pool, Node(node), most);
     if left == 0 {
-        return Written {
-            number: 9,
-            length: 0,
-        };
+        return Err(Refusal::Buffer);
     }
     write_known(pool, Node(node), buffer, 0);
-    Written {
-        number,
-        length: most - left,
-    }
+    Ok(most - left)
 }

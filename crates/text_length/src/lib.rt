@@ -2,12 +2,14 @@
 #![tactic(auto)]
 
 ghost use Rattle.std.specs.Prelude.{◌≡◌, true, cond, ◌+◌, ◌-◌, ◌≤◌, ◌<◌, min, eqb, length};
+ghost use Rattle.facts.specs.Answer.{number_of, value_or};
 ghost use Rattle.pool.specs.Node.{kind_number};
 ghost use Rattle.text_operators.specs.Between.{Joined, between_text};
 ghost use Rattle.text_parts.specs.Text.{text, Ready, open_text, end_text, single};
 ghost use Rattle.text_length.specs.Answer.{Measured};
 ghost use Rattle.text_length.specs.Known.{Registers};
 
+use facts::Refusal;
 use pool::Node;
 use pool::words::{Kind, kind_of, width_of};
 use pool_check::node_number;
@@ -122,23 +124,11 @@ pub fn length_in_block(p: &[u64], n: Node, ceiling: u32) -> u64
     length_to(p, n, ceiling)
 }
 
-// A number of document 01, and the text's length up to a ceiling.
-#[derive(Clone, Copy)]
-pub struct TextLength {
-    pub number: u64,
-    pub length: u64,
-}
-
-// The length of a node's text, or one more than the ceiling where the text is longer. Refuses by 1 and 5.
-pub fn text_length(pool: &[u64], count: usize, node: usize, ceiling: u32) -> TextLength
-    ensures { Measured pool.now count node ceiling result.number result.length }
+// The length of a node's text, or one more than the ceiling where the text is longer. Refuses a bad pool, and then a node that it has not.
+#[tactic(auto, using(crate::proofs::Answers::ready, crate::proofs::Answers::unmeasured, crate::proofs::Answers::measured,))]
+pub fn text_length(pool: &[u64], count: usize, node: usize, ceiling: u32) -> Result<u64, Refusal>
+    ensures { Measured pool.now count node ceiling (number_of result) (value_or 0 result) }
 {
-    let number = node_number(pool, count, Node(node));
-    if 0 < number {
-        return TextLength { number, length: 0 };
-    }
-    TextLength {
-        number,
-        length: length_to(pool, Node(node), ceiling),
-    }
+    node_number(pool, count, Node(node))?;
+    Ok(length_to(pool, Node(node), ceiling))
 }

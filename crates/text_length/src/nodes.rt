@@ -16,12 +16,6 @@ use text_digits::decimal_length;
 // The characters that a kind from 3 to 14 has beside its operands', four bits a kind: two brackets, and the operator with its blanks.
 const OPERATORS: u64 = 0x666776555555;
 
-fn least(x: usize, y: usize) -> usize
-    ensures { result ≡ min x y }
-{
-    if x < y { x } else { y }
-}
-
 // How many hexadecimal digits two words have, by the place of their highest bit.
 fn hex_length(low: u64, high: u64) -> usize
     ensures { (result ≡ length (hexadecimal (wide low high))) × (result ≤ 32) }
@@ -97,22 +91,22 @@ fn known_length(p: &[u64], n: Node, b: usize, lengths: &[usize]) -> usize
 {
     let k = kind_of(p, n);
     if k < Kind::ADD {
-        return least(leaf_length(p, n, k), b);
+        return leaf_length(p, n, k).min(b);
     }
     if k < Kind::ITE {
-        return least(two_lengths(p, n, lengths) + operator_characters(k), b);
+        return (two_lengths(p, n, lengths) + operator_characters(k)).min(b);
     }
     if k == Kind::EXTRACT {
-        return least(length_at(lengths, first(p, n)) + range_length(p, n), b);
+        return (length_at(lengths, first(p, n)) + range_length(p, n)).min(b);
     }
     if Kind::ZERO_EXTEND <= k {
-        return least(length_at(lengths, first(p, n)) + extension_length(p, n), b);
+        return (length_at(lengths, first(p, n)) + extension_length(p, n)).min(b);
     }
     let two = two_lengths(p, n, lengths);
     if k == Kind::ITE {
-        return least(two + length_at(lengths, third(p, n)) + 9, b);
+        return (two + length_at(lengths, third(p, n)) + 9).min(b);
     }
-    least(two + 10, b)
+    (two + 10).min(b)
 }
 
 // The length of a node's text up to b, where those of the nodes before `from` are known. It keeps the others'.
@@ -122,10 +116,8 @@ pub fn length_from(p: &[u64], from: Node, n: Node, b: usize, lengths: &mut [usiz
     requires known { Known p.now b lengths.old from.0 }
     ensures { result ≡ min (length (text p.now n.0)) b }
 {
-    let mut j = from.0;
-    while j <= n.0 {
+    for j in from.0..=n.0 {
         lengths[j] = known_length(p, Node(j), b, lengths);
-        j += 1;
     }
     length_at(lengths, n)
 }
@@ -135,10 +127,8 @@ fn register_lengths() -> [usize; 256]
     ensures { RegisterLengths result }
 {
     let mut lengths = [0usize; 256];
-    let mut r = 0;
-    while r < 32 {
+    for r in 0..32 {
         lengths[r] = decimal_length(r as u64) + 1;
-        r += 1;
     }
     lengths
 }

@@ -66,7 +66,7 @@ kind-of-requires c κs = search rules
 leaf-length-requires : tie.Need-leaf_length-requires
 leaf-length-requires c κs = search rules
 
-least-requires : tie.Need-least-requires
+least-requires : tie.Need-min-requires
 least-requires c κs = search rules
 
 returns : tie.Need-returns-then-k-lt-ADD
@@ -84,7 +84,7 @@ add-least c =
     let e = c in
     omega (arith, o.two_lengths.ensures, c.operator_characters.ensures.1, (held e.before.before.before (one c.before.before.before)).small, (held e.before.before.before (two c.before.before.before (operator-is c.before.before))).small)
 
-least-requires-2 : tie.Need-least-requires-then-k-lt-ITE
+least-requires-2 : tie.Need-min-requires-then-k-lt-ITE
 least-requires-2 c κs = search rules
 
 returns-2 : tie.Need-returns-then-k-lt-ITE
@@ -94,7 +94,7 @@ returns-2 c =
     let s = c in
     let z = pair_size (pool c.before.before.before.before.before.before.before.before) (node c.before.before.before.before.before.before.before.before) s.requires.0 _ e.kind_of-k.ensures (an-operator e.if-k-lt-ADD.false o.if-k-lt-ITE.true) in
     omega
-    (arith, c.least-then-k-lt-ITE.ensures, o.two_lengths.ensures, c.operator_characters.ensures.0, known e.before.before.before.before (one c.before.before.before.before), known e.before.before.before.before (two c.before.before.before.before (operator-is c.before.before.before)), z)
+    (arith, c.min-then-k-lt-ITE.ensures, o.two_lengths.ensures, c.operator_characters.ensures.0, known e.before.before.before.before (one c.before.before.before.before), known e.before.before.before.before (two c.before.before.before.before (operator-is c.before.before.before)), z)
 
 first-requires : tie.Need-first-requires
 first-requires c κs = search rules
@@ -113,7 +113,7 @@ add-least-2 c =
     let e = c in
     omega (arith, (held e.before.before.before.before.before (one c.before.before.before.before.before)).small, rw r.first.ensures at r.length_at.ensures, c.range_length.ensures.1)
 
-least-requires-3 : tie.Need-least-requires-then-k-eq-EXTRACT
+least-requires-3 : tie.Need-min-requires-then-k-eq-EXTRACT
 least-requires-3 c κs = search rules
 
 returns-3 : tie.Need-returns-then-k-eq-EXTRACT
@@ -123,7 +123,7 @@ returns-3 c =
     let s = c in
     let x = rw (← e.kind_of-k.ensures) at c.range_length.ensures.0 in
     let z = single-size (pool c.before.before.before.before.before.before.before.before.before.before) (node c.before.before.before.before.before.before.before.before.before.before) s.requires.0 _ e.kind_of-k.ensures (a-range r.if-k-eq-EXTRACT.true) in
-    omega (arith, c.least-then-k-eq-EXTRACT.ensures, known e.before.before.before.before.before.before (one c.before.before.before.before.before.before), rw r.first.ensures at r.length_at.ensures, x, z)
+    omega (arith, c.min-then-k-eq-EXTRACT.ensures, known e.before.before.before.before.before.before (one c.before.before.before.before.before.before), rw r.first.ensures at r.length_at.ensures, x, z)
 
 first-requires-2 : tie.Need-first-requires-then-k-ge-ZERO_EXTEND
 first-requires-2 c κs = search rules
@@ -142,7 +142,7 @@ add-least-3 c =
     let e = c in
     omega (arith, (held e.before.before.before.before.before.before (one c.before.before.before.before.before.before)).small, rw x.first-then-k-ge-ZERO_EXTEND.ensures at x.length_at-then-k-ge-ZERO_EXTEND.ensures, c.extension_length.ensures.1)
 
-least-requires-4 : tie.Need-least-requires-then-k-ge-ZERO_EXTEND
+least-requires-4 : tie.Need-min-requires-then-k-ge-ZERO_EXTEND
 least-requires-4 c κs = search rules
 
 returns-4 : tie.Need-returns-then-k-ge-ZERO_EXTEND
@@ -152,7 +152,7 @@ returns-4 c =
     let s = c in
     let x = rw (← e.kind_of-k.ensures) at c.extension_length.ensures.0 in
     let z = single-size (pool c.before.before.before.before.before.before.before.before.before.before.before) (node c.before.before.before.before.before.before.before.before.before.before.before) s.requires.0 _ e.kind_of-k.ensures (an-extension l.if-k-ge-ZERO_EXTEND.true) in
-    omega (arith, c.least-then-k-ge-ZERO_EXTEND.ensures, known e.before.before.before.before.before.before.before (one c.before.before.before.before.before.before.before), rw l.first-then-k-ge-ZERO_EXTEND.ensures at l.length_at-then-k-ge-ZERO_EXTEND.ensures, x, z)
+    omega (arith, c.min-then-k-ge-ZERO_EXTEND.ensures, known e.before.before.before.before.before.before.before (one c.before.before.before.before.before.before.before), rw l.first-then-k-ge-ZERO_EXTEND.ensures at l.length_at-then-k-ge-ZERO_EXTEND.ensures, x, z)
 
 two-lengths-requires-2 : tie.Need-two_lengths-two-requires
 two-lengths-requires-2 c κs = let e = c in (e.requires.0.inside, (held e.before.before.before (one c.before.before.before), held e.before.before.before (two c.before.before.before (joins-is c))))
@@ -178,7 +178,7 @@ add-least-4 c = omega (arith, sum c)
 add-least-5 : tie.Need-overflow_add-two-then-k-eq-ITE
 add-least-5 c = omega (arith, sum c)
 
-least-requires-5 : tie.Need-least-requires-then-k-eq-ITE
+least-requires-5 : tie.Need-min-requires-then-k-eq-ITE
 least-requires-5 c κs = search rules
 
 returns-5 : tie.Need-returns-then-k-eq-ITE
@@ -190,12 +190,12 @@ returns-5 c =
     let s = c in
     let x = rw l.third.ensures at l.length_at-then-k-eq-ITE.ensures in
     let z = ite-size (pool c.before.before.before.before.before.before.before.before.before.before.before.before) (node c.before.before.before.before.before.before.before.before.before.before.before.before) s.requires.0 _ e.kind_of-k.ensures i.if-k-eq-ITE.true in
-    omega (arith, c.least-then-k-eq-ITE.ensures, t.two_lengths-two.ensures, x, known e.before.before.before.before.before.before.before.before (one c.before.before.before.before.before.before.before.before), known e.before.before.before.before.before.before.before.before (two c.before.before.before.before.before.before.before.before (joins-is c.before.before.before.before.before)), known e.before.before.before.before.before.before.before.before (three c.before.before.before), z)
+    omega (arith, c.min-then-k-eq-ITE.ensures, t.two_lengths-two.ensures, x, known e.before.before.before.before.before.before.before.before (one c.before.before.before.before.before.before.before.before), known e.before.before.before.before.before.before.before.before (two c.before.before.before.before.before.before.before.before (joins-is c.before.before.before.before.before)), known e.before.before.before.before.before.before.before.before (three c.before.before.before), z)
 
 add-least-6 : tie.Need-overflow_add-two-2
 add-least-6 c = omega (arith, pair-sum c.before)
 
-least-requires-6 : tie.Need-least-requires-2
+least-requires-6 : tie.Need-min-requires-2
 least-requires-6 c κs = search rules
 
 returns-6 : tie.Need-returns
@@ -207,7 +207,7 @@ returns-6 c =
     let s = c in
     let k : kind c.before.before.before.before.before.before.before ≡ 17 = omega (arith, j.if-k-lt-ITE.false, j.if-k-eq-EXTRACT.false, j.if-k-ge-ZERO_EXTEND.false, i.if-k-eq-ITE.false) in
     let z = pair_size (pool c.before.before.before.before.before.before.before.before.before.before) (node c.before.before.before.before.before.before.before.before.before.before) s.requires.0 _ e.kind_of-k.ensures (a-concat k) in
-    omega (arith, c.least-2.ensures, t.two_lengths-two.ensures, known e.before.before.before.before.before.before (one c.before.before.before.before.before.before), known e.before.before.before.before.before.before (two c.before.before.before.before.before.before (joins-is c.before.before.before)), concat-own k, z)
+    omega (arith, c.min-2.ensures, t.two_lengths-two.ensures, known e.before.before.before.before.before.before (one c.before.before.before.before.before.before), known e.before.before.before.before.before.before (two c.before.before.before.before.before.before (joins-is c.before.before.before)), concat-own k, z)
 
 pub known_length_spec : {M : Type 1} → statement M
 known_length_spec =
