@@ -4,6 +4,8 @@ ghost use Rattle.script_write.specs.Answer.{Answered};
 ghost use Rattle.script_lane_length.specs.Answer.{LaneMeasured};
 ghost use Rattle.script_lane_write.specs.Answer.{LaneAnswered};
 
+use crate::answers::give;
+
 // Returns the number; the length goes to `length`.
 #[unsafe(no_mangle)]
 pub extern "C" fn neon_write_script(
@@ -16,9 +18,11 @@ pub extern "C" fn neon_write_script(
 ) -> u64
     ensures { Answered pool.now count a b buffer.old result length.new buffer.new }
 {
-    let w = script_write::write_script(pool, count, a, b, buffer);
-    *length = w.length;
-    w.number
+    give(
+        script_write::write_script(pool, count, a, b, buffer),
+        0,
+        length,
+    )
 }
 
 #[unsafe(no_mangle)]
@@ -31,9 +35,7 @@ pub extern "C" fn neon_script_length(
 ) -> u64
     ensures { Measured pool.now count a b result length.new }
 {
-    let w = script_length::script_length(pool, count, a, b);
-    *length = w.length;
-    w.number
+    give(script_length::script_length(pool, count, a, b), 0, length)
 }
 
 #[unsafe(no_mangle)]
@@ -49,9 +51,11 @@ pub extern "C" fn neon_write_lane_script(
 ) -> u64
     ensures { LaneAnswered pool.now count a b hi lo buffer.old result length.new buffer.new }
 {
-    let w = script_lane_write::write_lane_script(pool, count, a, b, hi, lo, buffer);
-    *length = w.length;
-    w.number
+    give(
+        script_lane_write::write_lane_script(pool, count, a, b, hi, lo, buffer),
+        0,
+        length,
+    )
 }
 
 #[unsafe(no_mangle)]
@@ -66,7 +70,9 @@ pub extern "C" fn neon_lane_script_length(
 ) -> u64
     ensures { LaneMeasured pool.now count a b hi lo result length.new }
 {
-    let w = script_lane_length::lane_script_length(pool, count, a, b, hi, lo);
-    *length = w.length;
-    w.number
+    give(
+        script_lane_length::lane_script_length(pool, count, a, b, hi, lo),
+        0,
+        length,
+    )
 }

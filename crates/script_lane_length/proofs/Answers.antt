@@ -1,31 +1,19 @@
 -- What `lane_script_length` answers, by the way that it took. Assumes nothing.
-use mathlib.Core.Bool.{Bool, true, false, ◌&&◌}
+use mathlib.Core.Bool.{Bool, true, false}
 use mathlib.Core.List.{List}
 use mathlib.Core.Path.{◌≡◌, refl, sym, ap, ◌∙◌}
 use Prim.Native.Nat.{ℕ, ◌≤◌, ◌<◌}
 use native.Mathlib.Omega.{arith}
 use lib.Dec.{ltb, leb}
 use lib.ListN.{length}
-use borrow.Author.Tests.{lt-ltb, le-ltb, le-leb, lt-leb, ltb-true, leb-true}
+use borrow.Author.Tests.{lt-ltb, le-leb, ltb-true, leb-true}
 use Rattle.facts.specs.Refuse.{by_number, unless}
-use Rattle.facts.proofs.Refused.{zero-beside}
 use Rattle.facts.proofs.Tests.{and_both}
-use Rattle.script_length.specs.Answer.{script_number}
-use Rattle.script_length.proofs.Answers.{Good, good, past, refusal}
+use Rattle.script_length.proofs.Answers.{Good, good, past}
 use Rattle.script_lane_meaning.specs.LaneScript.{lane_script_of}
 use Rattle.script_lane_length.specs.Answer.{is_cut, lane_number, LaneMeasured}
 
 -- ---- the cut
-
-pub no-cut-reversed : (hi lo : ℕ) → hi < lo → is_cut hi lo ≡ false
-no-cut-reversed hi lo l = ap (λ (t : Bool). t && ltb hi 128) (lt-leb lo hi l)
-
-and-false : (t : Bool) → (t && false) ≡ false
-and-false true = refl
-and-false false = refl
-
-pub no-cut-above : (hi lo : ℕ) → 127 < hi → is_cut hi lo ≡ false
-no-cut-above hi lo l = ap (λ (t : Bool). leb lo hi && t) (le-ltb hi 128 (omega arith)) ∙ and-false (leb lo hi)
 
 pub cut-is : (hi lo : ℕ) → lo ≤ hi → hi < 128 → is_cut hi lo ≡ true
 cut-is hi lo h l = rw (le-leb lo hi h, lt-ltb hi 128 l)
@@ -54,33 +42,7 @@ module _ (ws : List ℕ) (count a b hi lo : ℕ) where
   past_all rest f =
       past ws count a b (unless (is_cut hi lo) 5 rest) f.nodes ∙ ap (λ (t : Bool). unless t 5 rest) (cut-is hi lo f.order f.under)
 
-  pub bad-nodes : (rest : ℕ) → 0 < script_number ws count a b 0 → lane_number ws count a b hi lo rest ≡ script_number ws count a b 0
-  bad-nodes rest l = refusal ws count a b (unless (is_cut hi lo) 5 rest) l
-
-  pub bad-cut : (rest : ℕ) → script_number ws count a b 0 ≡ 0 → is_cut hi lo ≡ false → lane_number ws count a b hi lo rest ≡ 5
-  bad-cut rest e f =
-      past ws count a b (unless (is_cut hi lo) 5 rest) (good ws count a b 0 e) ∙ ap (λ (t : Bool). unless t 5 rest) f
-
-  pub good-all : script_number ws count a b 0 ≡ 0 → lo ≤ hi → hi < 128 → lane_number ws count a b hi lo 0 ≡ 0
-  good-all e h l = past_all 0 (record { nodes = good ws count a b 0 e; order = h; under = l })
-
-  -- a refusal is that whatever follows
-  pub lane-refusal : (rest : ℕ) → 0 < lane_number ws count a b hi lo 0 → lane_number ws count a b hi lo rest ≡ lane_number ws count a b hi lo 0
-  lane-refusal rest l = go (is_cut hi lo) refl l
-    where
-      go : (t : Bool) → is_cut hi lo ≡ t → 0 < script_number ws count a b (unless (is_cut hi lo) 5 0) → lane_number ws count a b hi lo rest ≡ lane_number ws count a b hi lo 0
-      go false e l = ap (λ (t : Bool). script_number ws count a b (unless t 5 rest)) e ∙ sym (ap (λ (t : Bool). script_number ws count a b (unless t 5 0)) e)
-      go true e l =
-          let z = ap (λ (t : Bool). script_number ws count a b (unless t 5 0)) e in
-          ap (λ (t : Bool). script_number ws count a b (unless t 5 rest)) e ∙ refusal ws count a b rest (omega (arith, z)) ∙ sym z
-
   -- ---- the answers
-
-  pub unmeasured : {k : ℕ} → k ≡ lane_number ws count a b hi lo 0 → 0 < k → LaneMeasured ws count a b hi lo k 0
-  unmeasured {k} e h = record {
-    number_is = e;
-    length_is = sym (zero-beside k (length (lane_script_of ws count a b hi lo)) h) ∙ ap (λ (j : ℕ). by_number j (length (lane_script_of ws count a b hi lo))) e;
-  }
 
   pub measured : {l : ℕ} → lane_number ws count a b hi lo 0 ≡ 0 → l ≡ length (lane_script_of ws count a b hi lo) → LaneMeasured ws count a b hi lo 0 l
   measured {l} z e = record {

@@ -2,15 +2,17 @@
 #![tactic(auto)]
 
 ghost use Rattle.std.specs.Prelude.{◌≡◌, ◌*◌, ◌≤◌, ◌<◌, length};
+ghost use Rattle.facts.specs.Answer.{number_of, value_or};
 ghost use Rattle.text_series.specs.Series.{up_to};
 ghost use Rattle.script_length.specs.Answer.{Named, AllNamed};
 ghost use Rattle.script_lane_meaning.specs.LaneScript.{lane_script_of};
 ghost use Rattle.script_lane_text.specs.Lines.{lines_at};
 ghost use Rattle.script_lane_length.specs.Answer.{lane_number, LaneMeasured};
 
+use facts::Refusal;
 use pool::words::{Kind, kind_of, width_of};
 use pool::{Bit, Node};
-use script_length::{Script, cut_length, script_number, sort_length, term_length};
+use script_length::{cut_length, script_number, sort_length, term_length};
 use text_decimals::number_length;
 
 // Both lines of a node; nothing for a Var.
@@ -32,11 +34,9 @@ fn nodes_length(p: &[u64], count: usize) -> usize
     requires { AllNamed p.now count × (count ≤ 65535) }
     ensures { (result ≡ length (up_to count (lines_at p.now))) × (result ≤ 192 * count) }
 {
-    let mut n = 0;
     let mut sum = 0;
-    while n < count {
+    for n in 0..count {
         sum += node_length(p, Node(n));
-        n += 1;
     }
     sum
 }
@@ -50,24 +50,28 @@ pub fn lane_measure(p: &[u64], count: usize, x: Node, y: Node, hi: Bit, lo: Bit)
     nodes_length(p, count) + claim + 1128
 }
 
-// The number of a refusal that has nothing to do with a buffer: 1, 5, or 0.
-pub fn lane_number(pool: &[u64], count: usize, a: Node, b: Node, hi: Bit, lo: Bit) -> u64
-    ensures { result ≡ lane_number pool.now count a.0 b.0 hi.0 lo.0 0 }
+// The refusal that has nothing to do with a buffer: of a bad pool, of a node that may not be chosen, and then of what is no cut of 128 bits.
+pub fn lane_number(
+    pool: &[u64],
+    count: usize,
+    a: Node,
+    b: Node,
+    hi: Bit,
+    lo: Bit,
+) -> Result<(), Refusal>
+    ensures { number_of result ≡ lane_number pool.now count a.0 b.0 hi.0 lo.0 0 }
 {
-    let number = script_number(pool, count, a, b);
-    if 0 < number {
-        return number;
-    }
+    script_number(pool, count, a, b)?;
     if hi.0 < lo.0 {
-        return 5;
+        return Err(Refusal::Node);
     }
     if 127 < hi.0 {
-        return 5;
+        return Err(Refusal::Node);
     }
-    0
+    Ok(())
 }
 
-// The length of the script that asks whether nodes a and b differ in the bits from hi down to lo. Refuses by 1 and 5.
+// The length of the script that asks whether nodes a and b differ in the bits from hi down to lo. Refuses as `lane_number` does.
 pub fn lane_script_length(
     pool: &[u64],
     count: usize,
@@ -75,15 +79,9 @@ pub fn lane_script_length(
     b: usize,
     hi: u64,
     lo: u64,
-) -> Script
-    ensures { LaneMeasured pool.now count a b hi lo result.number result.length }
+) -> Result<usize, Refusal>
+    ensures { LaneMeasured pool.now count a b hi lo (number_of result) (value_or 0 result) }
 {
-    let number = lane_number(pool, count, Node(a), Node(b), Bit(hi), Bit(lo));
-    if 0 < number {
-        return Script { number, length: 0 };
-    }
-    Script {
-        number: 0,
-        length: lane_measure(pool, count, Node(a), Node(b), Bit(hi), Bit(lo)),
-    }
+    lane_number(pool, count, Node(a), Node(b), Bit(hi), Bit(lo))?;
+    Ok(lane_measure(pool, count, Node(a), Node(b), Bit(hi), Bit(lo)))
 }

@@ -2,12 +2,10 @@
 use mathlib.Core.Bool.{Bool, true, false, ◌&&◌}
 use mathlib.Core.List.{List}
 use mathlib.Core.Path.{◌≡◌, refl, sym, ap, ◌∙◌}
-use Prim.Native.Nat.{ℕ, ◌<◌}
-use native.Mathlib.Nat.{not-suc-le-zero}
+use Prim.Native.Nat.{ℕ}
 use native.Mathlib.Omega.{arith}
 use lib.ListN.{length}
 use Rattle.facts.specs.Refuse.{by_number, unless}
-use Rattle.facts.proofs.Refused.{zero-beside}
 use Rattle.pool.specs.Rules.{pool_ok, of_width}
 use Rattle.pool_check.proofs.Passed.{few}
 use Rattle.text_length.proofs.Answers.{ready}
@@ -30,26 +28,7 @@ none true true false rest e = absurd (omega (arith, e))
 none true false y rest e = absurd (omega (arith, e))
 none false x y rest e = absurd (omega (arith, e))
 
-some : (p x y : Bool) (rest : ℕ) → 0 < number p x y 0 → number p x y rest ≡ number p x y 0
-some true true true rest l = absurd (not-suc-le-zero l)
-some true true false rest l = refl
-some true false y rest l = refl
-some false x y rest l = refl
-
 module _ (ws : List ℕ) (count a b : ℕ) where
-  pub bad-pool : (rest : ℕ) → pool_ok ws count ≡ false → script_number ws count a b rest ≡ 1
-  bad-pool rest h = ap (λ (p : Bool). number p (of_width ws count a 128) (of_width ws count b 128) rest) h
-
-  pub bad-first : (rest : ℕ) → pool_ok ws count ≡ true → of_width ws count a 128 ≡ false → script_number ws count a b rest ≡ 5
-  bad-first rest h e =
-      ap (λ (p : Bool). number p (of_width ws count a 128) (of_width ws count b 128) rest) h ∙ ap (λ (x : Bool). number true x (of_width ws count b 128) rest) e
-
-  pub bad-second : (rest : ℕ) → pool_ok ws count ≡ true → of_width ws count a 128 ≡ true → of_width ws count b 128 ≡ false → script_number ws count a b rest ≡ 5
-  bad-second rest h e f =
-      ap (λ (p : Bool). number p (of_width ws count a 128) (of_width ws count b 128) rest) h
-      ∙ ap (λ (x : Bool). number true x (of_width ws count b 128) rest) e
-      ∙ ap (λ (y : Bool). number true true y rest) f
-
   pub good-nodes : (rest : ℕ) → pool_ok ws count ≡ true → of_width ws count a 128 ≡ true → of_width ws count b 128 ≡ true → script_number ws count a b rest ≡ rest
   good-nodes rest h e f =
       ap (λ (p : Bool). number p (of_width ws count a 128) (of_width ws count b 128) rest) h
@@ -66,10 +45,6 @@ module _ (ws : List ℕ) (count a b : ℕ) where
   pub past : (rest : ℕ) → Good → script_number ws count a b rest ≡ rest
   past rest g = good-nodes rest g.pool g.first g.second
 
-  -- a refusal is that whatever follows
-  pub refusal : (rest : ℕ) → 0 < script_number ws count a b 0 → script_number ws count a b rest ≡ script_number ws count a b 0
-  refusal rest l = some (pool_ok ws count) (of_width ws count a 128) (of_width ws count b 128) rest l
-
 module _ (ws : List ℕ) (count : ℕ) where
   pub all_named : pool_ok ws count ≡ true → AllNamed ws count
   all_named h n l = record { ready = ready ws count n h l; small = omega (arith, few ws count h) }
@@ -77,12 +52,6 @@ module _ (ws : List ℕ) (count : ℕ) where
 -- ---- the answers
 
 module _ (ws : List ℕ) (count a b : ℕ) where
-  pub unmeasured : {k : ℕ} → k ≡ script_number ws count a b 0 → 0 < k → Measured ws count a b k 0
-  unmeasured {k} e h = record {
-    number_is = e;
-    length_is = sym (zero-beside k (length (script_of ws count a b)) h) ∙ ap (λ (j : ℕ). by_number j (length (script_of ws count a b))) e;
-  }
-
   pub measured : {l : ℕ} → script_number ws count a b 0 ≡ 0 → l ≡ length (script_of ws count a b) → Measured ws count a b 0 l
   measured {l} z e = record {
     number_is = sym z;

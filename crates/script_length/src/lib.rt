@@ -2,6 +2,7 @@
 #![tactic(auto)]
 
 ghost use Rattle.std.specs.Prelude.{◌≡◌, ◌+◌, ◌*◌, ◌≤◌, ◌<◌, length};
+ghost use Rattle.facts.specs.Answer.{number_of, value_or};
 ghost use Rattle.terms.specs.Display.{bytes};
 ghost use Rattle.pool.specs.Node.{kind_at, kind_number};
 ghost use Rattle.text_series.specs.Series.{up_to};
@@ -10,6 +11,7 @@ ghost use Rattle.script_meaning.specs.Script.{name_of, term_of, script_of, sort_
 ghost use Rattle.script_text.specs.Lines.{line_at};
 ghost use Rattle.script_length.specs.Answer.{Named, AllNamed, script_number, Measured};
 
+use facts::Refusal;
 use pool::words::{Kind, kind_of, width_of};
 use pool::{Bit, Node};
 use pool_check::{of_width, pool_check};
@@ -137,11 +139,9 @@ fn lines_length(p: &[u64], count: usize) -> usize
     requires { AllNamed p.now count × (count ≤ 65535) }
     ensures { (result ≡ length (up_to count (line_at p.now))) × (result ≤ 192 * count) }
 {
-    let mut n = 0;
     let mut sum = 0;
-    while n < count {
+    for n in 0..count {
         sum += line_length(p, Node(n));
-        n += 1;
     }
     sum
 }
@@ -155,39 +155,26 @@ pub fn measure(p: &[u64], count: usize, x: Node, y: Node) -> usize
     lines_length(p, count) + claim + 1128
 }
 
-// The number of a refusal that has nothing to do with a buffer: 1, 5, or 0.
-pub fn script_number(pool: &[u64], count: usize, a: Node, b: Node) -> u64
-    ensures { result ≡ script_number pool.now count a.0 b.0 0 }
+// The refusal that has nothing to do with a buffer: of a bad pool, and then of a node that may not be chosen.
+pub fn script_number(pool: &[u64], count: usize, a: Node, b: Node) -> Result<(), Refusal>
+    ensures { number_of result ≡ script_number pool.now count a.0 b.0 0 }
 {
     if !pool_check(pool, count) {
-        return 1;
+        return Err(Refusal::Pool);
     }
     if !of_width(pool, count, a, 128) {
-        return 5;
+        return Err(Refusal::Node);
     }
     if !of_width(pool, count, b, 128) {
-        return 5;
+        return Err(Refusal::Node);
     }
-    0
+    Ok(())
 }
 
-// A number of the table, and the length of a script.
-#[derive(Clone, Copy)]
-pub struct Script {
-    pub number: u64,
-    pub length: usize,
-}
-
-// The length of the script that asks whether nodes a and b differ. Refuses by 1 and 5.
-pub fn script_length(pool: &[u64], count: usize, a: usize, b: usize) -> Script
-    ensures { Measured pool.now count a b result.number result.length }
+// The length of the script that asks whether nodes a and b differ. Refuses a bad pool, and then a node that may not be chosen.
+pub fn script_length(pool: &[u64], count: usize, a: usize, b: usize) -> Result<usize, Refusal>
+    ensures { Measured pool.now count a b (number_of result) (value_or 0 result) }
 {
-    let number = script_number(pool, count, Node(a), Node(b));
-    if 0 < number {
-        return Script { number, length: 0 };
-    }
-    Script {
-        number: 0,
-        length: measure(pool, count, Node(a), Node(b)),
-    }
+    script_number(pool, count, Node(a), Node(b))?;
+    Ok(measure(pool, count, Node(a), Node(b)))
 }

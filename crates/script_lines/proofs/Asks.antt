@@ -116,12 +116,13 @@ module _ (input : List ℕ) (a b : ℕ) (pool old : List ℕ) where
 
           pub given-asked : answer.number ≤ 0 → {x y n len : ℕ} {new : List ℕ} → x ≡ node_of answer.map a → y ≡ node_of answer.map b
               → scripts.Answered pool' answer.map.count x y old n len new
-              → ScriptGiven input a b pool old (record { number = n; position = 0; length = len }) pool' new
-          given-asked z ex ey s =
+              → (w : Given) → (w.number ≡ n) × (w.position ≡ 0) × (w.length ≡ len)
+              → ScriptGiven input a b pool old w pool' new
+          given-asked z ex ey s w q =
               record {
                 refused = λ y. absurd (omega (arith, y, block_refused, z));
                 asked =
                     λ _.
-                    record { answer = answer; lowered = same; accepted = omega arith; script = rw (ex, ey) at s; position_is = refl };
-                length_in = script-fits s;
+                    record { answer = answer; lowered = same; accepted = omega arith; script = rw (q.0, q.2) (rw (ex, ey) at s); position_is = q.1 };
+                length_in = omega (arith, q.2, script-fits s);
               }

@@ -2,9 +2,11 @@
 #![tactic(auto)]
 
 ghost use Rattle.std.specs.Prelude.{◌≡◌};
+ghost use Rattle.facts.specs.Answer.{number_of, value_or};
 ghost use Rattle.script_lines.specs.Output.{ScriptGiven};
 
 use block::lower_block;
+use facts::Refusal;
 use line_routine::read_lines;
 use script_write::write_script;
 
@@ -32,6 +34,20 @@ fn refused(number: u64, position: usize) -> Given
     }
 }
 
+// The answer for a script: its length, or the number of its refusal.
+fn written(script: Result<usize, Refusal>) -> Given
+    ensures { (result.number ≡ number_of script) × (result.position ≡ 0) × (result.length ≡ value_or 0 script) }
+{
+    match script {
+        Ok(length) => Given {
+            number: 0,
+            position: 0,
+            length,
+        },
+        Err(refusal) => refused(u64::from(refusal), 0),
+    }
+}
+
 // Lowers a routine in the lent pool and writes the script that asks whether registers a and b can differ after it, with the lent buffer. A
 // refusal writes nothing to either; one by 9 leaves the pool of the block.
 pub fn script_text(input: &[u8], a: u64, b: u64, pool: &mut [u64], out: &mut [u8]) -> Given
@@ -56,10 +72,5 @@ pub fn script_text(input: &[u8], a: u64, b: u64, pool: &mut [u64], out: &mut [u8
     let map = answer.map;
     let x = map.get(a);
     let y = map.get(b);
-    let s = write_script(pool, map.count, x.0, y.0, out);
-    Given {
-        number: s.number,
-        position: 0,
-        length: s.length,
-    }
+    written(write_script(pool, map.count, x.0, y.0, out))
 }

@@ -2,16 +2,13 @@
 use mathlib.Core.List.{List, [], ◌∷◌, ◌++◌}
 use mathlib.Core.Path.{◌≡◌, refl, sym, ap, ◌∙◌}
 use Prim.Native.Nat.{ℕ, ◌≤◌, ◌<◌}
-use native.Mathlib.Omega.{arith}
 use lib.ListN.{length, take, drop}
 use borrow.Author.Tests.{le-leb, lt-leb}
 use Rattle.facts.specs.Refuse.{by_number, list_by}
-use Rattle.facts.proofs.Refused.{zero-beside, old-kept}
 use Rattle.text_digits.specs.Writing.{Wrote}
 use Rattle.text.proofs.Answers.{in-front}
 use Rattle.script_meaning.specs.Script.{script_of}
-use Rattle.script_length.specs.Answer.{script_number}
-use Rattle.script_length.proofs.Answers.{Good, past, refusal}
+use Rattle.script_length.proofs.Answers.{Good, past}
 use Rattle.script_write.specs.Answer.{write_number, Answered}
 
 front : (s t : List ℕ) → take (length s) (s ++ t) ≡ s
@@ -31,17 +28,6 @@ module _ (ws : List ℕ) (count a b : ℕ) where
 
   pub fits : (room : ℕ) → Good ws count a b → length (script_of ws count a b) ≤ room → write_number ws count a b room ≡ 0
   fits room g s = past ws count a b _ g ∙ rw (le-leb (length (script_of ws count a b)) room s)
-
-  -- a number that needs no buffer
-  pub first-number : {k : ℕ} (room : ℕ) → k ≡ script_number ws count a b 0 → 0 < k → k ≡ write_number ws count a b room
-  first-number room e h = e ∙ sym (refusal ws count a b _ (omega (arith, e, h)))
-
-  pub refused : {k : ℕ} (old : List ℕ) → k ≡ write_number ws count a b (length old) → 0 < k → Answered ws count a b old k 0 old
-  refused {k} old e h = record {
-    number_is = e;
-    length_is = sym (zero-beside k (length (script_of ws count a b)) h) ∙ ap (λ (j : ℕ). by_number j (length (script_of ws count a b))) e;
-    buffer_is = sym (old-kept k (script_of ws count a b) old h) ∙ ap (λ (j : ℕ). list_by j (script_of ws count a b) old) e;
-  }
 
   pub written : {old new : List ℕ} {len end : ℕ} → write_number ws count a b (length old) ≡ 0 → length (script_of ws count a b) ≤ length old
       → len ≡ length (script_of ws count a b)
