@@ -1,5 +1,8 @@
 -- What the lowering of a block answers, and what pool and map then hold (document 01, "Pool" and "The numbers").
 use Rattle.std.specs.Prelude.{true, List, [], ◌∷◌, ◌≡◌, ℕ, ◌+◌, ◌*◌, ◌≤◌, ◌<◌, length, get_or}
+use Rattle.std.specs.declared.result.Result.{Result}
+use Rattle.facts.specs.declared.RefusedAt.{RefusedAt}
+use Rattle.facts.specs.Answer.{number_at, position_at, value_or}
 use Rattle.terms.specs.Expr.{Expr, Var}
 use Rattle.neon.specs.declared.Instruction.{Instruction}
 use Rattle.neon.specs.Refusal.{reserve, block_refusal}
@@ -10,7 +13,6 @@ use Rattle.pool.specs.Growth.{Grown}
 use Rattle.block_map.specs.declared.RegisterMap.{RegisterMap}
 use Rattle.block_map.specs.Map.{first_map, no_map, written}
 use Rattle.block_record.specs.Step.{MapOk, MapIs, Added}
-use Rattle.block.specs.declared.BlockAnswer.{BlockAnswer}
 
 -- node r is Var r
 abbrev pub VarAt : List ℕ → ℕ → Type 0
@@ -30,6 +32,16 @@ pub record Accepted (old : List ℕ) (cs : List Instruction) (new : List ℕ) (m
   pub vars : (r : ℕ) → r < 32 → VarAt new r
   pub plain : (n : ℕ) → 32 ≤ n → n < m.count → kind_number new n ≡ 1 → ⊥
   pub lowered : Lowered new first_map Var cs m
+
+-- an answer as a number and a position, 0 and 0 where nothing is refused, and a map
+pub record BlockAnswer : Type 0 where
+  pub number : ℕ
+  pub position : ℕ
+  pub map : RegisterMap
+
+-- a refusal's map has no node
+abbrev pub answer_of : Result RegisterMap RefusedAt → BlockAnswer
+answer_of r = record { number = number_at r; position = position_at r; map = value_or no_map r }
 
 -- the answer for every block: its number and position; refused, no node and no word; else all of the above
 pub record Answered (old : List ℕ) (cs : List Instruction) (new : List ℕ) (a : BlockAnswer) : Type 0 where

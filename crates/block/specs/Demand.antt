@@ -8,8 +8,7 @@ use Rattle.neon.specs.Refusal.{Legal}
 use Rattle.trees.specs.Joined.{all_joined}
 use Rattle.pool.specs.Unfold.{unfold_at}
 use Rattle.block_map.specs.Map.{node_of, no_map}
-use Rattle.block.specs.declared.BlockAnswer.{BlockAnswer}
-use Rattle.block.specs.Block.{Answered}
+use Rattle.block.specs.Block.{BlockAnswer, Answered}
 
 -- the value at a start of register r's term, in the pool as the call left it
 abbrev pub term_value : (ℕ → ℕ) → List ℕ → BlockAnswer → ℕ → ℕ

@@ -7,19 +7,12 @@ ghost use Rattle.pool.specs.Growth.{Room};
 ghost use Rattle.block_map.specs.Map.{first_map};
 ghost use Rattle.block_check.specs.Records.{records_of};
 ghost use Rattle.block_record.specs.Step.{MapOk};
-ghost use Rattle.block.specs.Block.{Started, Runs, Answered};
+ghost use Rattle.block.specs.Block.{Started, Runs, Answered, answer_of};
 
 use block_map::RegisterMap;
 use block_record::lower_record;
 use block_record_check::record_at;
-
-// The number and the position of document 01, and the map of the registers.
-#[derive(Clone, Copy)]
-pub struct BlockAnswer {
-    pub number: u64,
-    pub position: usize,
-    pub map: RegisterMap,
-}
+use facts::RefusedAt;
 
 // Nodes 0 to 31 are the registers, and so the map says.
 pub fn start_pool(pool: &mut [u64]) -> RegisterMap
@@ -48,26 +41,12 @@ fn run_records(pool: &mut [u64], start: RegisterMap, records: &[u64]) -> Registe
     map
 }
 
-// Six numbers a record: operation, arrangement, i, d, n, m; numbers after the last whole record are not read. A block with one
-// refused record is refused whole, and then the pool is as it was.
-pub fn lower_block(pool: &mut [u64], records: &[u64]) -> BlockAnswer
-    ensures { Answered pool.old (records_of records.now) pool.new result }
+// Six numbers a record: operation, arrangement, i, d, n, m; numbers after the last whole record are not read. The answer is the map
+// of the registers. A block with one refused record is refused whole, and then the pool is as it was.
+pub fn lower_block(pool: &mut [u64], records: &[u64]) -> Result<RegisterMap, RefusedAt>
+    ensures { Answered pool.old (records_of records.now) pool.new (answer_of result) }
 {
-    let refused = block_check::block_refusal(pool, records);
-    let number = refused.number;
-    let position = refused.position;
-    if 0 < number {
-        return BlockAnswer {
-            number,
-            position,
-            map: RegisterMap::refused(),
-        };
-    }
+    block_check::block_refusal(pool, records)?;
     let start = start_pool(pool);
-    let map = run_records(pool, start, records);
-    BlockAnswer {
-        number,
-        position,
-        map,
-    }
+    Ok(run_records(pool, start, records))
 }

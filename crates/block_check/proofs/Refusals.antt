@@ -1,5 +1,5 @@
 -- The refusals of records in order and of a block. Assumes nothing.
-use mathlib.Core.Path.{◌≡◌, refl, ap, subst, ◌∙◌}
+use mathlib.Core.Path.{◌≡◌, refl, sym, ap, subst, ◌∙◌}
 use mathlib.Core.Bool.{Bool, true, false, cond}
 use mathlib.Core.List.{List, [], ◌∷◌, ◌++◌}
 use Prim.Native.Nat.{ℕ, zero, suc, ◌+◌, ◌-◌, ◌*◌, ◌/◌, ◌≤◌, ◌<◌}
@@ -9,12 +9,16 @@ use native.Mathlib.Numerals.{add-one}
 use lib.Dec.{leb, eqb}
 use lib.ListN.{length}
 use borrow.Author.Tests.{le-leb, lt-leb, eq-eqb, ne_eqb, eqb-true, eqb-false, leb-true}
+use Rattle.std.specs.declared.result.Result.TheVariants.{Ok, Err}
+use Rattle.facts.specs.declared.Refusal as facts
+use Rattle.facts.specs.Answer.{code}
 use Rattle.facts.specs.Refuse.{unless}
+use Rattle.facts.proofs.Answers.{code-positive}
 use Rattle.neon.specs.declared.Instruction.{Instruction}
-use Rattle.neon.specs.Refusal.{reserve, most_records, record_number, Legal, AllLegal, refusal, records_refusal, size_number, refusal_by, block_refusal}
+use Rattle.neon.specs.Refusal.{Refusal, reserve, most_records, record_number, Legal, AllLegal, refusal, records_refusal, size_number, refusal_by, block_refusal}
 use Rattle.pool.specs.Node.{none, places_in}
 use Rattle.block_record_check.specs.Record.{record_at}
-use Rattle.block_check.specs.Records.{records_from, records_of}
+use Rattle.block_check.specs.Records.{records_from, records_of, Refuses}
 
 -- ---- records in order
 
@@ -28,23 +32,33 @@ from_next : (flat : List ℕ) (j k : ℕ) → j < k → records_from flat j (k -
 unfolding records_from
 from_next flat j k h = ap (λ (n : ℕ). records_from flat j n) {x = k - j} {y = suc (k - suc j)} (omega arith)
 
-pub refused-here : (flat : List ℕ) (j k : ℕ) → j < k → 0 < record_number (record_at flat j)
-    → records_refusal j (records_from flat j (k - j)) ≡ refusal (record_number (record_at flat j)) j
-unfolding records_refusal
-refused-here flat j k h n = rw (from_next flat j k h, ne_eqb (record_number (record_at flat j)) 0 (λ e. omega arith))
+module _ (flat : List ℕ) where
+  -- the records before place j are accepted: what refuses the others refuses them all
+  abbrev pub Passed : ℕ → Type 0
+  Passed j = records_refusal j (records_from flat j (length flat / 6 - j)) ≡ records_refusal 0 (records_of flat)
 
-pub passed_here : (flat : List ℕ) (j k : ℕ) → j < k → record_number (record_at flat j) ≤ 0
-    → records_refusal j (records_from flat j (k - j)) ≡ records_refusal (j + 1) (records_from flat (j + 1) (k - (j + 1)))
-unfolding records_refusal
-passed_here flat j k h n = rw (from_next flat j k h, eq-eqb (record_number (record_at flat j)) 0 (omega arith), add-one j)
+  pub none_passed : Passed 0
+  none_passed = ap (λ (n : ℕ). records_refusal 0 (records_from flat 0 n)) {x = length flat / 6 - 0} {y = length flat / 6} (omega arith)
 
-pub none_left : (flat : List ℕ) (j k : ℕ) → k ≤ j → records_refusal j (records_from flat j (k - j)) ≡ refusal 0 0
-unfolding records_refusal records_from
-none_left flat j k h = ap (λ (n : ℕ). records_refusal j (records_from flat j n)) {x = k - j} {y = 0} (omega arith)
+  pub passed-more : (j : ℕ) → Passed j → j < length flat / 6 → 0 ≡ record_number (record_at flat j) → Passed (j + 1)
+  unfolding records_refusal
+  passed-more j s h n =
+      sym (rw (from_next flat j (length flat / 6) h, eq-eqb (record_number (record_at flat j)) 0 (omega (arith, n)), add-one j)) ∙ s
 
--- from the first record on, all of them
-pub all_left : (flat : List ℕ) → records_refusal 0 (records_from flat 0 (length flat / 6 - 0)) ≡ records_refusal 0 (records_of flat)
-all_left flat = ap (λ (n : ℕ). records_refusal 0 (records_from flat 0 n)) {x = length flat / 6 - 0} {y = length flat / 6} (omega arith)
+  pub refused-here : (r : facts.Refusal) (j : ℕ) → Passed j → j < length flat / 6 → code r ≡ record_number (record_at flat j)
+      → Refuses {A = Unit {0}} (Err (record { refusal = r; position = j })) (records_refusal 0 (records_of flat))
+  unfolding records_refusal
+  refused-here r j s h n =
+      let e : records_refusal 0 (records_of flat) ≡ refusal (record_number (record_at flat j)) j =
+      sym s ∙ rw (from_next flat j (length flat / 6) h, ne_eqb (record_number (record_at flat j)) 0 (λ z. code-positive r (n ∙ z))) in
+      (n ∙ sym (ap (λ (x : Refusal). x.number) e), sym (ap (λ (x : Refusal). x.position) e))
+
+  pub all-passed : (j : ℕ) → Passed j → length flat / 6 ≤ j → Refuses {A = Unit {0}} (Ok tt) (records_refusal 0 (records_of flat))
+  unfolding records_refusal records_from
+  all-passed j s h =
+      let e : records_refusal 0 (records_of flat) ≡ refusal 0 0 =
+      sym s ∙ ap (λ (n : ℕ). records_refusal j (records_from flat j n)) {x = length flat / 6 - j} {y = 0} (omega arith) in
+      (sym (ap (λ (x : Refusal). x.number) e), sym (ap (λ (x : Refusal). x.position) e))
 
 -- ---- a block
 
@@ -64,8 +78,8 @@ module _ (words count : ℕ) where
 -- a block by the number of its size
 module _ (size : ℕ) (cs : List Instruction) where
   -- refused for its size
-  pub by_size : 0 < size → refusal_by size cs ≡ refusal size 0
-  by_size h = rw (ne_eqb size 0 (λ e. omega arith))
+  pub by_size : (r : facts.Refusal) → size ≡ code r → Refuses {A = Unit {0}} (Err (record { refusal = r; position = 0 })) (refusal_by size cs)
+  by_size r e = rw (ne_eqb size 0 (λ z. code-positive r (sym e ∙ z))) (sym e, refl)
 
   -- the size is accepted: the records decide
   pub by-records : size ≤ 0 → refusal_by size cs ≡ records_refusal 0 cs

@@ -1,5 +1,5 @@
 -- The records of a list in order: a run of them, and the answer of the whole. Assumes nothing.
-use mathlib.Core.Path.{◌≡◌, ap, subst}
+use mathlib.Core.Path.{◌≡◌, refl, sym, ap, subst}
 use mathlib.Core.List.{List, [], ◌∷◌}
 use Prim.Native.Nat.{ℕ, zero, suc, ◌+◌, ◌*◌, ◌/◌, ◌≤◌, ◌<◌}
 use native.Mathlib.Omega.{arith}
@@ -7,13 +7,13 @@ use native.Mathlib.Nat.{le_of_suc-le-suc, not-suc-le-zero, min-le_left, min-le_r
 use native.Mathlib.Numerals.{add-one}
 use lib.ListN.{length, get_or, take}
 use lib.Seq.{take-suc, take_all, length-take-le}
+use Rattle.std.specs.declared.result.Result.TheVariants.{Ok}
 use Rattle.neon.specs.declared.Instruction.{Instruction}
 use Rattle.neon.specs.Refusal.{reserve, Legal, AllLegal, block_refusal}
 use Rattle.pool.specs.Node.{none as no_node, places, places_in}
 use Rattle.pool.specs.Growth.{Room}
 use Rattle.block_map.specs.declared.RegisterMap.{RegisterMap}
 use Rattle.block_map.specs.Map.{first_map}
-use Rattle.block_check.specs.declared.Checked.{Checked}
 use Rattle.block_check.specs.Records.{Refuses}
 use Rattle.block_check.proofs.Refusals.{block-legal}
 use Rattle.block_record.specs.Step.{MapOk, Steps}
@@ -53,24 +53,27 @@ module _ (w0 : List ℕ) (m0 : RegisterMap) (cs : List Instruction) where
 
 -- ---- the whole
 
-module _ (w0 : List ℕ) (cs : List Instruction) (r : Checked) (e : Refuses r (block_refusal (places_in (length w0)) cs)) where
+module _ (w0 : List ℕ) (cs : List Instruction) where
   -- a pool and records that are accepted
-  pub start-room : r.number ≤ 0 → Room w0 0 32
-  start-room h =
-      let b = block-legal (places w0) cs (omega (arith, e.0, h)) in
+  abbrev pub Accepted : Type 0
+  Accepted = Refuses {A = Unit {0}} (Ok tt) (block_refusal (places_in (length w0)) cs)
+
+  pub start-room : Accepted → Room w0 0 32
+  start-room e =
+      let b = block-legal (places w0) cs (sym e.0) in
       omega (arith, b.1, min-le_left (length w0 / 4) no_node, min-le_right (length w0 / 4) no_node)
 
-  pub run_ok : r.number ≤ 0 → {w1 : List ℕ} {m1 : RegisterMap} → Started w0 w1 32 → m1 ≡ first_map → Room w1 m1.count (reserve * length cs) × MapOk m1 × AllLegal cs
-  run_ok h {w1} {m1} s q =
-      let b = block-legal (places w0) cs (omega (arith, e.0, h)) in
+  pub run_ok : Accepted → {w1 : List ℕ} {m1 : RegisterMap} → Started w0 w1 32 → m1 ≡ first_map → Room w1 m1.count (reserve * length cs) × MapOk m1 × AllLegal cs
+  run_ok e {w1} {m1} s q =
+      let b = block-legal (places w0) cs (sym e.0) in
       let n : m1.count ≡ 32 = ap (λ (m : RegisterMap). m.count) q in
       (omega (arith, b.1, n, s.grown.long, min-le_left (length w0 / 4) no_node, min-le_right (length w0 / 4) no_node), rw q first-ok, b.2)
 
-  pub all-accepted : r.number ≤ 0 → {w1 w2 : List ℕ} {m1 m2 : RegisterMap} → Started w0 w1 32 → m1 ≡ first_map → Runs w1 m1 w2 m2 cs → Answered w0 cs w2 (answer r m2)
-  all-accepted h s q t =
+  pub all-accepted : Accepted → {w1 w2 : List ℕ} {m1 m2 : RegisterMap} → Started w0 w1 32 → m1 ≡ first_map → Runs w1 m1 w2 m2 cs → Answered w0 cs w2 (answer (Ok tt) m2)
+  all-accepted e s q t =
       record {
         number = e.0;
         position = e.1;
-        refused = λ z. absurd (z (omega (arith, h)));
-        accepted = λ _. all_done (block-legal (places w0) cs (omega (arith, e.0, h))).1 s (runs-first q t);
+        refused = λ z. absurd (z refl);
+        accepted = λ _. all_done (block-legal (places w0) cs (sym e.0)).1 s (runs-first q t);
       }

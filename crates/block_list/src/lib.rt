@@ -11,9 +11,9 @@ ghost use Rattle.block_record.specs.Step.{MapOk, Steps};
 ghost use Rattle.block.specs.Block.{Runs, Answered};
 ghost use Rattle.block_list.specs.Lent.{answer};
 
-use block_check::Checked;
 use block_list_check::block_refusal;
 use block_map::RegisterMap;
+use facts::RefusedAt;
 use neon::Instruction;
 
 // An accepted record brings the map up to date, and its nodes are added to the pool.
@@ -52,15 +52,14 @@ pub fn lower_instructions(
     pool: &mut [u64],
     records: &[Instruction],
     map: &mut RegisterMap,
-) -> Checked
+) -> Result<(), RefusedAt>
     ensures { Answered pool.old records.now pool.new (answer result map.new) }
 {
-    let refused = block_refusal(pool.len(), records);
-    if 0 < refused.number {
+    if let Err(refused) = block_refusal(pool.len(), records) {
         *map = RegisterMap::refused();
-        return refused;
+        return Err(refused);
     }
     *map = block::start_pool(pool);
     run_instructions(pool, records, map);
-    refused
+    Ok(())
 }

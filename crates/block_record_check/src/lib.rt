@@ -3,11 +3,13 @@
 #![tactic(auto)]
 
 ghost use Rattle.std.specs.Prelude.{◌≡◌, ◌+◌, ◌*◌, ◌≤◌, length};
+ghost use Rattle.facts.specs.Answer.{number_of};
 ghost use Rattle.neon.specs.Op.{bits_of_lane};
 ghost use Rattle.neon.specs.Refusal.{most_m, record_number};
 ghost use Rattle.neon_form.specs.Code.{OfCode};
-ghost use Rattle.block_record_check.specs.Record.{instruction, record_at};
+ghost use Rattle.block_record_check.specs.Record.{record_at};
 
+use facts::Refusal;
 use neon::Instruction;
 
 // Record j of a list of flat numbers.
@@ -36,18 +38,15 @@ fn most_m(code: u64, bits: u64) -> u64
     if neon_form::has_second(code) { last } else { 0 }
 }
 
-// 0, or the first of 2, 3, 4 and 7 that refuses a record.
-pub fn record_number(operation: u64, arrangement: u64, i: u64, d: u64, n: u64, m: u64) -> u64
-    ensures { result ≡ record_number (instruction operation arrangement i d n m) }
+// Whether a record is refused: its operation, form and immediate in this order, then its registers.
+pub fn record_number(c: Instruction) -> Result<(), Refusal>
+    ensures { number_of result ≡ record_number c }
 {
-    let number = neon_form::form_number(operation, arrangement, i);
-    if 0 < number {
-        return number;
+    neon_form::form_number(c.operation, c.arrangement, c.i)?;
+    let code = neon::form_code(c.operation, c.arrangement);
+    let most = most_m(code, neon_form::lane_bits(c.arrangement));
+    if (c.d <= 31) & (c.n <= 31) & (c.m <= most) {
+        return Ok(());
     }
-    let code = neon::form_code(operation, arrangement);
-    let most = most_m(code, neon_form::lane_bits(arrangement));
-    if (d <= 31) & (n <= 31) & (m <= most) {
-        return 0;
-    }
-    7
+    Err(Refusal::Register)
 }

@@ -8,8 +8,7 @@ use Rattle.neon.specs.declared.Instruction.{Instruction}
 use Rattle.pool.specs.Unfold.{unfold_at}
 use Rattle.block_map.specs.Map.{node_of}
 use Rattle.pool_registers.proofs.Matter.{set-is-the-walk, agreeing-starts}
-use Rattle.block.specs.declared.BlockAnswer.{BlockAnswer}
-use Rattle.block.specs.Block.{Answered}
+use Rattle.block.specs.Block.{BlockAnswer, Answered}
 use Rattle.block.proofs.Equal.{registers-hold}
 use Rattle.block_sets.specs.Matter.{set_after, SetAfterBlock, AgreeingRuns, OthersDoNotMatterAfter}
 

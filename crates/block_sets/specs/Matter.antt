@@ -7,8 +7,7 @@ use Rattle.neon.specs.Run.{arm_run}
 use Rattle.trees.specs.Trees.{tree_run}
 use Rattle.pool.specs.Node.{set_at}
 use Rattle.block_map.specs.Map.{node_of}
-use Rattle.block.specs.declared.BlockAnswer.{BlockAnswer}
-use Rattle.block.specs.Block.{Answered}
+use Rattle.block.specs.Block.{BlockAnswer, Answered}
 
 -- the set in the node of register r, in the pool as the lowering left it
 abbrev pub set_after : List ℕ → BlockAnswer → ℕ → ℕ

@@ -8,8 +8,7 @@ use Rattle.neon.specs.declared.Instruction.{Instruction}
 use Rattle.pool.specs.Node.{places}
 use Rattle.pool.specs.Unfold.{unfold_at}
 use Rattle.block_map.specs.Map.{node_of}
-use Rattle.block.specs.declared.BlockAnswer.{BlockAnswer}
-use Rattle.block.specs.Block.{Answered}
+use Rattle.block.specs.Block.{BlockAnswer, Answered}
 use Rattle.canonical_write.specs.Canonise.{trees_at, room_number, canonise_number}
 use Rattle.canonical_write.proofs.Meaning.{same_words}
 use Rattle.canonical_exchange.proofs.Swap.{runs-swap}

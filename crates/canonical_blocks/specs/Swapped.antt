@@ -5,7 +5,7 @@ use Rattle.std.specs.Prelude.{true, List, ◌∷◌, ◌++◌, ◌≡◌, ℕ, �
 use Rattle.neon.specs.declared.Instruction.{Instruction}
 use Rattle.pool.specs.Node.{places}
 use Rattle.block_map.specs.Map.{node_of}
-use Rattle.block.specs.declared.BlockAnswer.{BlockAnswer}
+use Rattle.block.specs.Block.{BlockAnswer}
 use Rattle.block.specs.Block as block
 use Rattle.canonical_write.specs.declared.Canonised.{Canonised}
 use Rattle.canonical_write.specs.Canonise as canonise

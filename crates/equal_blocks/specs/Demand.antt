@@ -4,9 +4,9 @@ use Rattle.std.specs.Prelude.{Bool, not, List, ◌≡◌, ℕ, ◌-◌, ◌%◌,
 use Rattle.neon.specs.declared.Instruction.{Instruction}
 use Rattle.neon.specs.Run.{arm_run}
 use Rattle.block_map.specs.Map.{node_of}
-use Rattle.block.specs.declared.BlockAnswer.{BlockAnswer}
+use Rattle.block.specs.Block.{BlockAnswer}
 use Rattle.block.specs.Block as block
-use Rattle.saturation_block.specs.declared.SaturationAnswer.{SaturationAnswer}
+use Rattle.saturation_block.specs.Block.{SaturationAnswer}
 use Rattle.saturation_block.specs.Block as flagged
 use Rattle.canonical_write.specs.declared.Canonised.{Canonised}
 use Rattle.canonical_write.specs.Canonise as canonise

@@ -17,8 +17,7 @@ use Rattle.pool_check.proofs.Sound.{sound}
 use Rattle.trees_value.proofs.Whole.{result-is}
 use Rattle.trees_value.proofs.Range.{value-lt}
 use Rattle.trees_value.proofs.Lanewise.{result-lane, result-kept}
-use Rattle.instruction.specs.declared.Lowering.{Lowering}
-use Rattle.instruction.specs.Lowering.{Answers}
+use Rattle.instruction.specs.Lowering.{Lowering, Answers}
 use Rattle.instruction.specs.Demand.{TreeIs, ValueIs, LanesAre, LowerKept, ValueFits, MeansArm}
 use Rattle.instruction_check.proofs.Refusing.{passes}
 

@@ -8,8 +8,7 @@ use Rattle.neon.specs.Arm.{lane, place_lane, arm_at, arm_result}
 use Rattle.trees.specs.Trees.{result_tree}
 use Rattle.trees.specs.Joined.{all_joined, uncut}
 use Rattle.pool.specs.Unfold.{unfold_at}
-use Rattle.instruction.specs.declared.Lowering.{Lowering}
-use Rattle.instruction.specs.Lowering.{Answers}
+use Rattle.instruction.specs.Lowering.{Lowering, Answers}
 
 module _ (old : List ℕ) (count : ℕ) (new : List ℕ) (r : Lowering) (operation arrangement i d n m : ℕ) where
   -- the tree; its text is `display` of it

@@ -1,14 +1,29 @@
 -- One instruction on a pool (document 01, "Pool" and "The numbers"): its number, and what the pool then holds.
 use Rattle.std.specs.Prelude.{true, List, ◌≡◌, ℕ, ◌+◌, ◌≤◌, ◌<◌}
+use Rattle.std.specs.declared.result.Result.{Result}
+use Rattle.facts.specs.declared.Refusal.{Refusal}
+use Rattle.facts.specs.Answer.{number_of, value_or}
 use Rattle.neon.specs.Op.{Op, op_at, Arrangement, arrangement_at, view}
 use Rattle.neon.specs.Refusal.{reserve}
 use Rattle.trees.specs.Trees.{result_tree}
+use Rattle.pool.specs.declared.Built.{Built}
 use Rattle.pool.specs.Node.{none}
 use Rattle.pool.specs.Rules.{pool_ok}
 use Rattle.pool.specs.Unfold.{unfold_at}
 use Rattle.pool.specs.Growth.{Grown, NodeIs, Reach}
 use Rattle.instruction_check.specs.Number.{instruction_number}
-use Rattle.instruction.specs.declared.Lowering.{Lowering}
+
+-- an answer as a number, 0 for done, the node of the term and the count after it
+pub record Lowering : Type 0 where
+  pub number : ℕ
+  pub node : ℕ
+  pub count : ℕ
+
+-- a refusal has no node, and the count is as it was
+abbrev pub lowering : ℕ → Result Built Refusal → Lowering
+lowering count r =
+    let b : Built = value_or (record { node = record { 0 = none }; count = count }) r in
+    record { number = number_of r; node = b.node.0; count = b.count }
 
 module _ (old : List ℕ) (count : ℕ) (new : List ℕ) (r : Lowering) where
   -- the answer's node is the term of the instruction over those of its sources; the nodes that are new come after the count, keep the

@@ -1,17 +1,22 @@
 -- The tests of an instruction's refusals, in order. Assumes nothing.
 use Prim.Native.Nat.{ℕ, ◌+◌, ◌-◌, ◌≤◌, ◌<◌}
-use mathlib.Core.Path.{◌≡◌, refl, subst, ◌∙◌}
+use mathlib.Core.Path.{◌≡◌, refl, sym, subst, ◌∙◌}
 use mathlib.Core.Bool.{Bool, true, false, not, ◌&&◌}
 use mathlib.Core.List.{List}
 use native.Mathlib.Omega.{arith}
 use lib.Dec.{leb, eqb}
 use borrow.Author.Tests.{leb-true, le-leb, lt-leb, not-true, not-false}
+use Rattle.facts.specs.declared.Refusal.{Refusal}
+use Rattle.facts.specs.Answer.{code}
 use Rattle.facts.specs.Refuse.{unless}
+use Rattle.facts.proofs.Answers.{code-positive}
 use Rattle.facts.proofs.Tests.{passed}
 use Rattle.neon.specs.Op.{Op, op_at, Arrangement, arrangement_at, full, bits_if}
-use Rattle.neon.specs.Form.{form, has_second, reads_d, first_full, second_full, by_element}
+use Rattle.neon.specs.Form.{form, has_second, reads_d, first_full, second_full, by_element, form_code_at}
 use Rattle.neon.specs.Refusal.{form_number, reserve}
 use Rattle.neon.proofs.Legal.{formed, form-rest, form-first}
+use Rattle.neon_form.specs.Code.{OfCode}
+use Rattle.neon_form.proofs.Parts.{coded}
 use Rattle.pool.specs.Node.{none, width_at, places}
 use Rattle.pool.specs.Rules.{pool_ok, of_width}
 use Rattle.pool_check.proofs.Passed.{within-places, below, has_width}
@@ -66,15 +71,22 @@ module _ (ws : List ℕ) (count operation arrangement i d n m : ℕ) where
   unfolding instruction_number
   number-pool e = rw e refl
 
-  pub number-form : {k : ℕ} → pool_ok ws count ≡ true → k ≡ form_number operation arrangement i 0 → (k ≡ 0 → ⊥) → k ≡ number
+  pub number-form : (r : Refusal) → pool_ok ws count ≡ true → code r ≡ form_number operation arrangement i 0 → code r ≡ number
   unfolding instruction_number
-  number-form p q f = rw p (q ∙ form-first operation arrangement i rest (λ z. f (q ∙ z)))
+  number-form r p q = rw p (q ∙ form-first operation arrangement i rest (λ z. code-positive r (q ∙ z)))
 
   -- past the form
   module _ (p : pool_ok ws count ≡ true) (z : form_number operation arrangement i 0 ≡ 0) where
     number-rest : number ≡ rest
     unfolding instruction_number
     number-rest = rw p (form-rest operation arrangement i rest z)
+
+    -- the sources, by what the code of the form tells of them
+    pub sources-by : {code : ℕ} {whole b : Bool} → code ≡ form_code_at operation arrangement → whole ≡ full (arrangement_at arrangement)
+        → OfCode code (λ o v. whole ≡ full v → b ≡ sources_ok ws count o v d n m)
+        → sources ≡ b
+    sources-by code-is full-is e =
+        let k = coded operation arrangement i 0 z in sym (e (op_at operation) (arrangement_at arrangement) k.0 (code-is ∙ k.1) full-is)
 
     pub number-sources : sources ≡ false → 5 ≡ number
     number-sources s = rw (number-rest, s) refl

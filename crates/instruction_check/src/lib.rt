@@ -2,11 +2,13 @@
 #![tactic(auto)]
 
 ghost use Rattle.std.specs.Prelude.{◌≡◌, true};
+ghost use Rattle.facts.specs.Answer.{number_of};
 ghost use Rattle.neon.specs.Op.{bits_if, full as full_of};
 ghost use Rattle.pool.specs.Rules.{pool_ok};
 ghost use Rattle.neon_form.specs.Code.{OfCode};
 ghost use Rattle.instruction_check.specs.Number.{source_ok, sources_ok, instruction_number};
 
+use facts::Refusal;
 use pool::Node;
 use pool_check::of_width;
 
@@ -40,7 +42,7 @@ fn sources_ok(pool: &[u64], count: usize, code: u64, full: bool, d: Node, n: Nod
         )
 }
 
-// The number, 0 for an instruction that is accepted: 1 to 6, the first in order.
+// Whether an instruction is refused: the pool, the form, the sources and the room, in this order.
 pub fn instruction_number(
     pool: &[u64],
     count: usize,
@@ -50,23 +52,20 @@ pub fn instruction_number(
     d: Node,
     n: Node,
     m: Node,
-) -> u64
-    ensures { result ≡ instruction_number pool.now count operation arrangement i d.0 n.0 m.0 }
+) -> Result<(), Refusal>
+    ensures { number_of result ≡ instruction_number pool.now count operation arrangement i d.0 n.0 m.0 }
 {
     if !pool_check::pool_check(pool, count) {
-        return 1;
+        return Err(Refusal::Pool);
     }
-    let number = neon_form::form_number(operation, arrangement, i);
-    if number != 0 {
-        return number;
-    }
+    neon_form::form_number(operation, arrangement, i)?;
     let code = neon::form_code(operation, arrangement);
     let full = neon_form::is_full(arrangement);
     if !sources_ok(pool, count, code, full, d, n, m) {
-        return 5;
+        return Err(Refusal::Node);
     }
     if pool::places(pool) - count < Node::RESERVE {
-        return 6;
+        return Err(Refusal::Room);
     }
-    0
+    Ok(())
 }

@@ -8,7 +8,7 @@ use Rattle.neon.specs.Run.{arm_run}
 use Rattle.pool.specs.Node.{places}
 use Rattle.pool.specs.Unfold.{unfold_at}
 use Rattle.block_map.specs.Map.{node_of}
-use Rattle.block.specs.declared.BlockAnswer.{BlockAnswer}
+use Rattle.block.specs.Block.{BlockAnswer}
 use Rattle.block.specs.Block as block
 use Rattle.join.specs.Join.{join_count, Joined}
 use Rattle.join.specs.Join as join

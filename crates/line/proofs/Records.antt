@@ -25,8 +25,7 @@ use Rattle.text_digits.proofs.Laws.{wrote_none, wrote_as}
 use Rattle.block_check.specs.Records.{records_from, records_of}
 use Rattle.block_check.proofs.Refusals.{block-legal}
 use Rattle.block_map.specs.Map.{node_of}
-use Rattle.block.specs.declared.BlockAnswer.{BlockAnswer}
-use Rattle.block.specs.Block.{VarAt, Answered}
+use Rattle.block.specs.Block.{BlockAnswer, VarAt, Answered}
 use Rattle.line_columns.specs.Columns.{columns}
 use Rattle.line_fields.specs.Fields.{in_columns, fields, record_of}
 use Rattle.line_output.specs.Answer.{answer_room, room_number, written}

@@ -6,8 +6,7 @@ use Rattle.terms.specs.Display.{display}
 use Rattle.neon.specs.declared.Instruction.{Instruction}
 use Rattle.neon.specs.Refusal.{block_refusal}
 use Rattle.trees.specs.Trees.{tree_run}
-use Rattle.block.specs.declared.BlockAnswer.{BlockAnswer}
-use Rattle.block.specs.Block.{Answered}
+use Rattle.block.specs.Block.{BlockAnswer, Answered}
 use Rattle.line_fields.specs.Fields.{in_columns, record_of}
 use Rattle.line_output.specs.Answer.{answer_room, room_number, written}
 

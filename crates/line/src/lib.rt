@@ -33,11 +33,11 @@ pub fn answer_line(pool: &mut [u64], line: &[u8], out: &mut [u8], at: usize) -> 
         return put_refusal(10, out, at);
     }
     let numbers = fields_of(line);
-    let answer = block::lower_block(pool, &numbers);
-    if 0 < answer.number {
-        return put_refusal(answer.number, out, at);
+    match block::lower_block(pool, &numbers) {
+        Ok(map) => {
+            let node = map.get(numbers[3]);
+            put_term(pool, map.count, node, out, at)
+        }
+        Err(refused) => put_refusal(u64::from(refused.refusal), out, at),
     }
-    let map = answer.map;
-    let node = map.get(numbers[3]);
-    put_term(pool, map.count, node, out, at)
 }

@@ -2,10 +2,13 @@
 #![tactic(auto)]
 
 ghost use Rattle.std.specs.Prelude.{◌≡◌, ◌≤◌};
+ghost use Rattle.facts.specs.Answer.{number_of};
 ghost use Rattle.neon.specs.Op.{arrangement_at, bits_of_lane, full};
 ghost use Rattle.neon.specs.Form.{form, least, most, has_second, reads_d, first_full, second_full, by_element};
 ghost use Rattle.neon.specs.Refusal.{form_number};
 ghost use Rattle.neon_form.specs.Code.{OfCode};
+
+use facts::Refusal;
 
 // The bits of a destination lane.
 pub fn lane_bits(arrangement: u64) -> u64
@@ -95,25 +98,25 @@ pub fn most_immediate(code: u64, bits: u64) -> u64
     }
 }
 
-// 2, 3 or 4 for the first of operation, form and immediate that the manual has not, else 0.
-pub fn form_number(operation: u64, arrangement: u64, i: u64) -> u64
-    ensures { result ≡ form_number operation arrangement i 0 }
+// The first of operation, form and immediate that the manual has not.
+pub fn form_number(operation: u64, arrangement: u64, i: u64) -> Result<(), Refusal>
+    ensures { number_of result ≡ form_number operation arrangement i 0 }
 {
     if operation < 1 {
-        return 2;
+        return Err(Refusal::Operation);
     }
     if 67 < operation {
-        return 2;
+        return Err(Refusal::Operation);
     }
     let code = neon::form_code(operation, arrangement);
     if code == 0 {
-        return 3;
+        return Err(Refusal::Form);
     }
     if i < least_immediate(code) {
-        return 4;
+        return Err(Refusal::Immediate);
     }
     if most_immediate(code, lane_bits(arrangement)) < i {
-        return 4;
+        return Err(Refusal::Immediate);
     }
-    0
+    Ok(())
 }

@@ -14,8 +14,7 @@ use Rattle.pool.specs.Node.{none}
 use Rattle.pool.specs.Unfold.{unfold_at}
 use Rattle.block_map.specs.Map.{no_map}
 use Rattle.wide.specs.Registers.{registers_of}
-use Rattle.instruction.specs.declared.Lowering.{Lowering}
-use Rattle.instruction.specs.Lowering.{Answers}
+use Rattle.instruction.specs.Lowering.{Lowering, Answers}
 use Rattle.text.specs.Answer as text
 use Rattle.block_results.specs.Words.{answer_words, flagged_words}
 use Rattle.saturation.specs.Saturates.{saturates_run}

@@ -2,10 +2,9 @@
 use Rattle.std.specs.Prelude.{Bool, List, ◌≡◌, ℕ, get_or}
 use Rattle.terms.specs.Value.{bit}
 use Rattle.neon.specs.declared.Instruction.{Instruction}
-use Rattle.block.specs.declared.BlockAnswer.{BlockAnswer}
-use Rattle.block.specs.Block.{Answered}
+use Rattle.block.specs.Block.{BlockAnswer, Answered}
 use Rattle.block_results.specs.Words.{answer_words, flagged_words}
-use Rattle.saturation_block.specs.declared.SaturationAnswer.{SaturationAnswer}
+use Rattle.saturation_block.specs.Block.{SaturationAnswer}
 use Rattle.saturation_block.specs.Block as flagged
 use Rattle.run_block.specs.Run.{RunAnswered, FlagAnswered}
 

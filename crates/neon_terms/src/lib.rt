@@ -24,7 +24,9 @@ ghost use Rattle.block_check.specs.Records.{records_of};
 ghost use Rattle.neon_terms.specs.Results.{BlockGiven};
 
 use answers::give;
+use block_map::RegisterMap;
 use block_results::answer_words;
+use pool::Node;
 
 // The form code of crate `neon`: what an operation reads at an arrangement, and 0 if there is no such form.
 #[unsafe(no_mangle)]
@@ -57,10 +59,18 @@ pub extern "C" fn neon_lower_instruction(
 ) -> u64
     ensures { Answers pool.old count pool.new (record { number = result; node = node.new; count = after.new }) operation arrangement i d n m }
 {
-    let lowered = instruction::lower_instruction(pool, count, operation, arrangement, i, d, n, m);
-    *node = lowered.node;
-    *after = lowered.count;
-    lowered.number
+    match instruction::lower_instruction(pool, count, operation, arrangement, i, d, n, m) {
+        Ok(built) => {
+            *node = built.node.0;
+            *after = built.count;
+            0
+        }
+        Err(refusal) => {
+            *node = Node::NONE;
+            *after = count;
+            u64::from(refusal)
+        }
+    }
 }
 
 // Returns the number; the map, the count and the position go to `results`.
@@ -72,10 +82,16 @@ pub extern "C" fn neon_lower_block(
 ) -> u64
     ensures { BlockGiven pool.old (records_of records.now) pool.new results.new result }
 {
-    let answer = block::lower_block(pool, records);
-    let map = answer.map;
-    *results = answer_words(map, answer.position);
-    answer.number
+    match block::lower_block(pool, records) {
+        Ok(map) => {
+            *results = answer_words(map, 0);
+            0
+        }
+        Err(refused) => {
+            *results = answer_words(RegisterMap::refused(), refused.position);
+            u64::from(refused.refusal)
+        }
+    }
 }
 
 // Returns the number; the length goes to `length`.

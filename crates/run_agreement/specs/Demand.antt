@@ -7,7 +7,7 @@ use Rattle.neon.specs.Refusal.{reserve, most_records, block_refusal}
 use Rattle.neon.specs.Run.{arm_run}
 use Rattle.block_map.specs.Map.{node_of}
 use Rattle.wide.specs.Registers.{registers_of}
-use Rattle.block.specs.declared.BlockAnswer.{BlockAnswer}
+use Rattle.block.specs.Block.{BlockAnswer}
 use Rattle.block.specs.Demand.{term_value}
 use Rattle.block.specs.Block as block
 use Rattle.evaluate.specs.declared.Evaluated.{Evaluated}
@@ -16,7 +16,7 @@ use Rattle.evaluate.specs.Answer.{found}
 use Rattle.evaluate.specs.Answer as evaluate
 use Rattle.saturation.specs.Bits.{block_bit}
 use Rattle.run_block.specs.Run.{run_refusal, RunAnswered, FlagAnswered}
-use Rattle.saturation_block.specs.declared.SaturationAnswer.{SaturationAnswer}
+use Rattle.saturation_block.specs.Block.{SaturationAnswer}
 use Rattle.saturation_block.specs.Block as flagged
 use Rattle.saturation_block.specs.Demand as flagged-demand
 

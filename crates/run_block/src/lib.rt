@@ -201,23 +201,19 @@ pub fn run(start: Registers, records: &[u64]) -> RunAnswer
             saturated: false,
         };
     }
-    let refused = records_refusal(records);
-    let number = refused.number;
-    let position = refused.position;
-    if 0 < number {
+    if let Err(refused) = records_refusal(records) {
         return RunAnswer {
-            number,
-            position,
+            number: u64::from(refused.refusal),
+            position: refused.position,
             registers: start,
             saturated: false,
         };
     }
     let t = run_records(start, records);
-    let registers = t.registers;
     RunAnswer {
-        number,
-        position,
-        registers,
+        number: 0,
+        position: 0,
+        registers: t.registers,
         saturated: t.saturated,
     }
 }

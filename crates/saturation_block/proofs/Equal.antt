@@ -20,8 +20,7 @@ use Rattle.saturation.specs.Bits.{bit_run}
 use Rattle.saturation.proofs.Block.{block-bit-is}
 use Rattle.saturation_step.specs.Step.{raised, flag_reserve}
 use Rattle.saturation_run.specs.Run.{FlagLowered}
-use Rattle.saturation_block.specs.declared.SaturationAnswer.{SaturationAnswer}
-use Rattle.saturation_block.specs.Block.{Answered}
+use Rattle.saturation_block.specs.Block.{SaturationAnswer, Answered}
 use Rattle.saturation_block.specs.Demand.{BitHolds, OneWhenSaturated, EmptyIsZero, RegistersHold, EqualWhenTermsAre, RefusedWhole, RegistersFit, SameTrees, BlockAdds}
 use Rattle.saturation_block.proofs.Done.{FlagLegal, flag-legal}
 

@@ -10,10 +10,9 @@ use Rattle.pool.specs.Node.{none}
 use Rattle.pool.specs.Unfold.{unfold_at}
 use Rattle.block_map.specs.Map.{node_of, no_map}
 use Rattle.saturation.specs.Saturates.{saturates_run}
-use Rattle.block.specs.declared.BlockAnswer.{BlockAnswer}
+use Rattle.block.specs.Block.{BlockAnswer}
 use Rattle.block.specs.Block as block
-use Rattle.saturation_block.specs.declared.SaturationAnswer.{SaturationAnswer}
-use Rattle.saturation_block.specs.Block.{Answered}
+use Rattle.saturation_block.specs.Block.{SaturationAnswer, Answered}
 
 -- the values at a start of register r's term and of the block's bit, in the pool as the call left it
 abbrev pub term_value : (ℕ → ℕ) → List ℕ → SaturationAnswer → ℕ → ℕ

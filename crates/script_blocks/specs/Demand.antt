@@ -5,7 +5,7 @@ use Rattle.std.proofs.Math.Option.{some}
 use Rattle.neon.specs.declared.Instruction.{Instruction}
 use Rattle.neon.specs.Run.{arm_run}
 use Rattle.block_map.specs.Map.{node_of}
-use Rattle.block.specs.declared.BlockAnswer.{BlockAnswer}
+use Rattle.block.specs.Block.{BlockAnswer}
 use Rattle.block.specs.Block as block
 use Rattle.script_meaning.specs.Values.{meaning, find}
 use Rattle.script_meaning.specs.Meaning.{Script, meant}

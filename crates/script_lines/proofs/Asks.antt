@@ -15,7 +15,7 @@ use Rattle.pool.specs.Rules.{pool_ok, of_width}
 use Rattle.script_meaning.specs.Script.{script_of}
 use Rattle.block_map.specs.Map.{node_of}
 use Rattle.block_check.specs.Records.{records_of}
-use Rattle.block.specs.declared.BlockAnswer.{BlockAnswer}
+use Rattle.block.specs.Block.{BlockAnswer}
 use Rattle.block.specs.Block as block
 use Rattle.script_write.specs.Answer as scripts
 use Rattle.block_check.specs.declared.ListAnswer.{ListAnswer}

@@ -3,7 +3,7 @@ use Rattle.std.specs.Prelude.{cond, ◌&&◌, List, ◌≡◌, ℕ, ◌≤◌, �
 use Rattle.neon.specs.Refusal.{Refusal, refusal, block_refusal}
 use Rattle.pool.specs.Node.{places}
 use Rattle.block_map.specs.Map.{node_of}
-use Rattle.block.specs.declared.BlockAnswer.{BlockAnswer}
+use Rattle.block.specs.Block.{BlockAnswer}
 use Rattle.block.specs.Block as block
 use Rattle.script_write.specs.Answer as scripts
 use Rattle.line_routine.specs.Routine.{routine_of, routine_refusal}

@@ -65,11 +65,10 @@ pub fn script_text(input: &[u8], a: u64, b: u64, pool: &mut [u64], out: &mut [u8
         return refused(read.number, read.position);
     }
     let end = 6 * read.count;
-    let answer = lower_block(pool, &records[..end]);
-    if 0 < answer.number {
-        return refused(answer.number, answer.position);
-    }
-    let map = answer.map;
+    let map = match lower_block(pool, &records[..end]) {
+        Ok(map) => map,
+        Err(found) => return refused(u64::from(found.refusal), found.position),
+    };
     let x = map.get(a);
     let y = map.get(b);
     written(write_script(pool, map.count, x.0, y.0, out))

@@ -6,8 +6,7 @@
 
 ghost use Rattle.std.specs.Prelude.{◌≡◌, ◌<◌, ◌≤◌, length, take};
 
-use instruction::Lowering;
-use pool::{Bit, Node};
+use pool::{Bit, Built, Node};
 use std::io;
 
 // Whether the input had one more case, and the nodes that it added.
@@ -60,21 +59,13 @@ fn registers(pool: &mut [u64])
     pool_nodes::extract(pool, 34, Node(2), Bit(63), Bit(0));
 }
 
-fn print(rt: &impl Print, number: u64, end: &str) -> io::Result<()> {
-    print!(rt; "{number}{end}")
-}
-
-// A refusal with its node and count; else the length and the hash of the text.
-fn show(rt: &impl Print, pool: &[u64], lowered: Lowering) -> io::Result<()> {
-    print(rt, lowered.number, " ")?;
-    if lowered.number != 0 {
-        print(rt, lowered.node as u64, " ")?;
-        return print(rt, lowered.count as u64, "\n");
-    }
-    let asked = text_length::text_length(pool, lowered.count, lowered.node, 65536);
+// The length and the hash of a text.
+fn show(rt: &impl Print, pool: &[u64], lowered: Built) -> io::Result<()> {
+    let node = lowered.node.0;
+    let asked = text_length::text_length(pool, lowered.count, node, 65536);
     let mut text = [0u8; 65536];
-    let written = text::write_text(pool, lowered.count, lowered.node, &mut text);
-    print(rt, asked.unwrap_or(0), " ")?;
+    let written = text::write_text(pool, lowered.count, node, &mut text);
+    print!(rt; "0 {} ", asked.unwrap_or(0))?;
     println!(rt; "{:016x}", hash(&text, written.unwrap_or(0)))
 }
 
@@ -94,7 +85,7 @@ fn words_of(pool: &[u64], places: u64) -> usize
 // The registers, the low halves of three of them, and what one instruction may add.
 const POOL_WORDS: usize = 4 * (35 + pool::Node::RESERVE);
 
-// One case in a pool of its own. The nodes added.
+// One case in a pool of its own: its number, and the text or the node and the count. The nodes added.
 fn run(rt: &impl Print, case: &[u8; 48]) -> io::Result<usize> {
     let mut words = [0u64; POOL_WORDS];
     registers(&mut words);
@@ -111,11 +102,19 @@ fn run(rt: &impl Print, case: &[u8; 48]) -> io::Result<usize> {
         column(case, 6) as usize,
         column(case, 7) as usize,
     );
-    show(rt, pool, lowered)?;
-    if lowered.count < count {
-        return Ok(0);
+    match lowered {
+        Ok(built) => {
+            show(rt, pool, built)?;
+            if built.count < count {
+                return Ok(0);
+            }
+            Ok(built.count - count)
+        }
+        Err(refusal) => {
+            println!(rt; "{} {} {count}", u64::from(refusal), Node::NONE)?;
+            Ok(0)
+        }
     }
-    Ok(lowered.count - count)
 }
 
 fn next(rt: &(impl Input + Print)) -> io::Result<Turn> {
@@ -142,6 +141,5 @@ fn main(rt: HostRuntime) -> io::Result<()> {
         }
         most = most.max(t.added);
     }
-    print!(rt; "most nodes added ")?;
-    print(&rt, most as u64, "\n")
+    println!(rt; "most nodes added {most}")
 }

@@ -1,6 +1,6 @@
 -- What a word is decoded to, by the fields that were read. Assumes nothing.
 use mathlib.Core.Path.{◌≡◌, refl, sym, ap, ◌∙◌}
-use mathlib.Core.Bool.{Bool, true, false, ◌&&◌}
+use mathlib.Core.Bool.{Bool, true, false, ◌&&◌, false≢true}
 use Prim.Native.Nat.{ℕ, zero, suc, ◌%◌, ◌≤◌, ◌<◌}
 use native.Mathlib.Omega.{arith}
 use lib.Dec.{eqb}
@@ -13,6 +13,12 @@ use Rattle.neon.specs.Refusal.{record_number, Legal}
 use Rattle.neon_form.proofs.Parts.{without}
 use Rattle.block_record_check.specs.Record.{instruction}
 use Rattle.std.specs.Prelude.{Some, None}
+use Rattle.std.specs.Result.{is_err}
+use Rattle.std.specs.declared.result.Result.{Result}
+use Rattle.std.specs.declared.result.Result.TheVariants.{Ok, Err}
+use Rattle.facts.specs.declared.Refusal.{Refusal}
+use Rattle.facts.specs.Answer.{number_of}
+use Rattle.facts.proofs.Answers.{code-positive}
 use Rattle.words_encoding.specs.Encoding.{encoding}
 use Rattle.words_encoding.specs.Word.{encode}
 use Rattle.words_encoding.specs.Decode.{bits, operation_at, size_at, arrangement_of, immediate_at, second_at, fields_of, decoded_if, is_word_of, decode}
@@ -21,6 +27,15 @@ use Rattle.words_encoding.specs.Decode.{bits, operation_at, size_at, arrangement
 pub positive : {A : Type 0} (x : ℕ) → 0 < x → ((k : ℕ) → x ≡ suc k → A) → A
 positive zero h f = absurd (omega arith)
 positive (suc k) h f = f k refl
+
+-- what an answer tells of a record
+pub legal : (c : Instruction) (r : Result (Unit {0}) Refusal) → number_of r ≡ record_number c → false ≡ is_err r → Legal c
+legal c (Ok x) e h = sym e
+legal c (Err r) e h = absurd (false≢true h)
+
+pub not_legal : (c : Instruction) (r : Result (Unit {0}) Refusal) → number_of r ≡ record_number c → true ≡ is_err r → Legal c → ⊥
+not_legal c (Ok x) e h = absurd (false≢true (sym h))
+not_legal c (Err r) e h = λ z. code-positive r (e ∙ z)
 
 number-2 : (c : Instruction) → c.operation ≡ 0 → record_number c ≡ 2
 unfolding record_number
@@ -56,8 +71,8 @@ module _ (w : ℕ) (c : Instruction) (e : fields_of w ≡ c) where
   unfolding decode
   by-test h = ap (λ (t : Bool). decoded_if t c) (sym h) ∙ ap (λ (x : Instruction). decoded_if (is_word_of w x) x) (sym e)
 
-  pub refused : (k : ℕ) → record_number c ≡ suc k → None ≡ decode w
-  refused k q = by-test (no_word c w (λ p. omega (arith, p.0, q)))
+  pub refused : (Legal c → ⊥) → None ≡ decode w
+  refused q = by-test (no_word c w (λ p. q p.0))
 
   pub read_as : Legal c → encode c ≡ w → Some c ≡ decode w
   read_as l q = by-test (its-word c w l q)
@@ -67,7 +82,7 @@ module _ (w : ℕ) (c : Instruction) (e : fields_of w ≡ c) where
 
 pub no-operation : (w : ℕ) → operation_at w ≡ 0 → None ≡ decode w
 unfolding fields_of
-no-operation w e = refused w (fields_of w) refl 1 (number-2 (fields_of w) e)
+no-operation w e = refused w (fields_of w) refl (λ z. omega (arith, z, number-2 (fields_of w) e))
 
 -- the record that the fields name, once the operation is known, and once the arrangement is
 abbrev pub by-operation : (w k : ℕ) → Instruction
@@ -89,7 +104,7 @@ module _ (w k a : ℕ) (ek : k ≡ operation_at w) (ea : a ≡ arrangement_of (f
   partly = ap (by-operation w) (sym ek) ∙ ap (by-arrangement w k) (sym ea)
 
   pub no-form : 1 ≤ k → k ≤ 67 → form_code_at k a ≡ 0 → None ≡ decode w
-  no-form l h e = refused w (by-arrangement w k a) partly 2 (number-3 (by-arrangement w k a) l h (without k a l h e))
+  no-form l h e = refused w (by-arrangement w k a) partly (λ z. omega (arith, z, number-3 (by-arrangement w k a) l h (without k a l h e)))
 
   pub all-fields : (i m : ℕ) → i ≡ immediate_at (form (op_at k)).immediate (bits_of_lane (arrangement_at a)) w → m ≡ second_at (op_at k) (bits_of_lane (arrangement_at a)) w
       → fields_of w ≡ instruction k a i (w % 32) (bits 9 5 w) m

@@ -195,18 +195,19 @@ pub fn decode_word(w: u64) -> Option<Instruction>
     let m = second_at(code, bits, w);
     let d = w % 32;
     let n = w / 32 % 32;
-    if 0 < record_number(operation, arrangement, i, d, n, m) {
+    let record = Instruction {
+        operation,
+        arrangement,
+        i,
+        d,
+        n,
+        m,
+    };
+    if record_number(record).is_err() {
         return None;
     }
     if encode_word(operation, arrangement, i, d, n, m) == w {
-        Some(Instruction {
-            operation,
-            arrangement,
-            i,
-            d,
-            n,
-            m,
-        })
+        Some(record)
     } else {
         None
     }

@@ -157,11 +157,9 @@ pub fn write_words(records: &[u64], bytes: &mut [u8]) -> ListAnswer
     ensures { WordsWritten records.now bytes.old result bytes.new }
 {
     let count = records.len() / 6;
-    let refused = records_refusal(records);
-    let number = refused.number;
-    if 0 < number {
+    if let Err(refused) = records_refusal(records) {
         return ListAnswer {
-            number,
+            number: u64::from(refused.refusal),
             position: refused.position,
             count: 0,
         };

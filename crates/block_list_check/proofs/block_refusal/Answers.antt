@@ -1,21 +1,20 @@
 -- `block_refusal` answers the first refusal: of the block's size, else of the first refused record.
-use Rattle.std.proofs.Common.{arith}
-use Rattle.block_list_check.proofs.Listed.{passed_none, passed-more, refused-size, refused-here, refused_none}
+use Rattle.block_list_check.proofs.Listed.{none_passed, passed-more, refused-size, refused-here, all-passed}
 use Rattle.block_list_check.proofs.block_refusal.Goals as goal
 
-pub returns-then-size-gt0 : goal.returns-then-size-gt0
-returns-then-size-gt0 c = refused-size _ c.args.records.now _ c.size_number-size.ensures c.if-size-gt0.true
+pub returns-in-Err : goal.returns-in-Err
+returns-in-Err c = refused-size _ c.args.records.now _ c.in-Err.ensures
 
 pub loop-position-init : goal.loop-position-init
-loop-position-init c = (omega arith, passed_none _ c.args.records.now c.size_number-size.ensures c.if-size-gt0.false)
+loop-position-init c = none_passed _ c.args.records.now c.in_default.ensures
 
-pub returns-then-number-gt0 : goal.returns-then-number-gt0
-returns-then-number-gt0 c =
-    refused-here _ _ _ _ c.loop-position.invariant.1 c.loop-position-test.true c.record_number-number.ensures c.if-number-gt0.true
+pub returns-in-Err-record_number : goal.returns-in-Err-record_number
+returns-in-Err-record_number c =
+    refused-here _ c.args.records.now _ _ c.loop-position.invariant c.loop-position-test.true c.in-Err-record_number.ensures
 
 pub loop-position-preserved : goal.loop-position-preserved
 loop-position-preserved c =
-    (omega arith, passed-more _ _ _ c.loop-position.invariant.1 c.loop-position-test.true c.record_number-number.ensures c.if-number-gt0.false)
+    passed-more _ c.args.records.now _ c.loop-position.invariant c.loop-position-test.true c.in_default-record_number.ensures
 
 pub returns : goal.returns
-returns c = refused_none _ _ _ c.loop-position.invariant.1 c.loop-position-test.false
+returns c = all-passed _ c.args.records.now _ c.loop-position.invariant c.loop-position-test.false
