@@ -4,7 +4,7 @@
 
 ghost use Rattle.std.specs.Prelude.{◌≡◌};
 ghost use Rattle.facts.specs.Answer.{number_of};
-ghost use Rattle.neon.specs.Refusal.{records_refusal, size_number, refusal_by, block_refusal};
+ghost use Rattle.neon.specs.Refusal.{records_refusal, size_number, block_refusal};
 ghost use Rattle.pool.specs.Node.{places, places_in};
 ghost use Rattle.block_check.specs.Records.{records_of, Refuses};
 
@@ -50,23 +50,15 @@ pub fn size_number(words: usize, count: usize) -> Result<(), Refusal>
     Ok(())
 }
 
-// The refusal for the block's size if there is one, else that of the first refused record.
-pub fn refusal_by(size: Result<(), Refusal>, records: &[u64]) -> Result<(), RefusedAt>
-    ensures { Refuses result (refusal_by (number_of size) (records_of records.now)) }
+// What refuses a block of these records for this pool: its size, else the first refused record.
+pub fn block_refusal(pool: &[u64], records: &[u64]) -> Result<(), RefusedAt>
+    ensures { Refuses result (block_refusal (places pool.now) (records_of records.now)) }
 {
-    match size {
+    match size_number(pool.len(), records.len() / 6) {
         Ok(()) => records_refusal(records),
         Err(refusal) => Err(RefusedAt {
             refusal,
             position: 0,
         }),
     }
-}
-
-// What refuses a block of these records for this pool.
-pub fn block_refusal(pool: &[u64], records: &[u64]) -> Result<(), RefusedAt>
-    ensures { Refuses result (block_refusal (places pool.now) (records_of records.now)) }
-{
-    let size = size_number(pool.len(), records.len() / 6);
-    refusal_by(size, records)
 }

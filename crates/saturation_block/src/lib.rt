@@ -9,7 +9,7 @@ ghost use Rattle.block_check.specs.Records.{records_of, Refuses};
 ghost use Rattle.saturation_block.specs.Size.{flag_size, flag_refusal};
 ghost use Rattle.saturation_block.specs.Block.{Answered, answer_of};
 
-use block_check::refusal_by;
+use block_check::records_refusal;
 use facts::{Refusal, RefusedAt};
 use saturation_run::{run_flagged, start_flagged};
 use saturation_step::Flagged;
@@ -32,12 +32,17 @@ fn size_number(words: usize, count: usize) -> Result<(), Refusal>
     Ok(())
 }
 
-// What refuses a block of these records for this pool.
+// What refuses a block of these records for this pool: its size, else the first refused record.
 fn refusal(pool: &[u64], records: &[u64]) -> Result<(), RefusedAt>
     ensures { Refuses result (flag_refusal (places pool.now) (records_of records.now)) }
 {
-    let size = size_number(pool.len(), records.len() / 6);
-    refusal_by(size, records)
+    match size_number(pool.len(), records.len() / 6) {
+        Ok(()) => records_refusal(records),
+        Err(refusal) => Err(RefusedAt {
+            refusal,
+            position: 0,
+        }),
+    }
 }
 
 // The records as `block::lower_block` takes them; the answer is the map of the registers and the bit. A block with one refused record is
