@@ -161,7 +161,13 @@ fn narrow(to: SaturateTo, signed: bool, upper: bool) -> NeonOp
     saturating(SaturatingKind::Narrow { to }, signed, upper)
 }
 
-fn shift_narrow(shift: u64, rounding: bool, to: Option<SaturateTo>, signed: bool, upper: bool) -> NeonOp
+fn shift_narrow(
+    shift: u64,
+    rounding: bool,
+    to: Option<SaturateTo>,
+    signed: bool,
+    upper: bool,
+) -> NeonOp
     ensures { result ≡ NeonOp.Saturating (SaturatingKind.ShiftNarrow shift rounding to) signed upper }
 {
     let kind = SaturatingKind::ShiftNarrow {
