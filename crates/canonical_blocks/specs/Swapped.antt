@@ -7,7 +7,7 @@ use Rattle.pool.specs.Node.{places}
 use Rattle.block_map.specs.Map.{node_of}
 use Rattle.block.specs.Block.{BlockAnswer}
 use Rattle.block.specs.Block as block
-use Rattle.canonical_write.specs.declared.Canonised.{Canonised}
+use Rattle.canonical_write.specs.Canonise.{Canonised}
 use Rattle.canonical_write.specs.Canonise as canonise
 use Rattle.canonical_write.specs.Meaning.{SameWords}
 use Rattle.canonical_exchange.specs.Apart.{apart}

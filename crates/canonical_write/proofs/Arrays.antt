@@ -6,7 +6,7 @@ use Prim.Native.Nat.{ℕ, zero, suc, ◌+◌, ◌*◌, ◌≤◌, ◌<◌}
 use native.Mathlib.Omega.{arith}
 use lib.Dec.{leb}
 use lib.ListN.{length, get_or, replicate, length-replicate, get_or-replicate}
-use borrow.Author.Tests.{lt-ltb, le-leb, lt-leb, leb-true}
+use borrow.Author.Tests.{lt-ltb, leb-true}
 use Rattle.pool.specs.Node.{places}
 use Rattle.facts.proofs.Tests.{and_both}
 use Rattle.pool.specs.Rules.{pool_ok, ok_pool, node_number, Valid}
@@ -14,8 +14,7 @@ use Rattle.pool_check.proofs.Number.{first-refusal}
 use Rattle.canonical_classes.proofs.Steps.{valid-le}
 use Rattle.canonical_classes.specs.Class.{Long, Empty}
 use Rattle.canonical_order.specs.Walk.{AllNone}
-use Rattle.canonical_write.specs.declared.Canonised.{Canonised}
-use Rattle.canonical_write.specs.Canonise.{trees_at, room_number, canonise_number, Written, RootAnswered, Answered}
+use Rattle.canonical_write.specs.Canonise.{Canonised, room_number, canonise_number, RootAnswered, Answered}
 
 zero-at : (n i : ℕ) → ◌≡◌ {A = ℕ} (get_or (replicate n 0) i 0) 0
 zero-at zero i = refl
@@ -37,19 +36,8 @@ passed ws count root e h =
 
 -- ---- the answers
 
-abbrev made : ℕ → ℕ → Canonised
-made number count = record { number = number; count = count }
-
-module _ (ws : List ℕ) (root : ℕ) (old : List ℕ) where
-  pub no_room : places old < trees_at ws root → RootAnswered ws root old old (made 6 0)
-  no_room g = record { number = rw (lt-leb _ _ g); refused = λ f. (refl, refl); done = λ f. absurd (omega arith) }
-
-  pub all-written : (k : ℕ) → k ≡ trees_at ws root → k ≤ places old → (new : List ℕ) → Written ws root k old new → RootAnswered ws root old new (made 0 k)
-  all-written k q g new w =
-      record { number = rw (le-leb (trees_at ws root) (places old) (omega (arith, q))); refused = λ f. absurd (f refl); done = λ f. (q, w) }
-
 module _ (ws : List ℕ) (count root : ℕ) (old : List ℕ) where
-  pub bad-node : {k : ℕ} → k ≡ node_number ws count root 0 → 0 < k → Answered ws count root old old (made k 0)
+  pub bad-node : {k : ℕ} → k ≡ node_number ws count root 0 → 0 < k → Answered ws count root old old (record { number = k; count = 0 })
   unfolding canonise_number
   bad-node {k} e h =
       let r : 0 < node_number ws count root 0 = rw e at h in

@@ -22,8 +22,7 @@ use Rattle.canonical.proofs.Trees.{at, closed-order, root, order-length, at-root
 use Rattle.canonical.proofs.Words.{Short, cell-of, set-of, unfolds, canonical-length, injective}
 use Rattle.canonical.proofs.Good.{good-order}
 use Rattle.canonical.proofs.Valid.{ok-all}
-use Rattle.canonical_write.specs.declared.Canonised.{Canonised}
-use Rattle.canonical_write.specs.Canonise.{trees_at, canonise_number, Answered}
+use Rattle.canonical_write.specs.Canonise.{Canonised, trees_at, canonise_number, Answered}
 use Rattle.canonical_write.specs.Meaning.{SameWords, SameWordsForSameTrees, LastIsRoot, CanonicalPasses, AgainTheSame}
 
 -- what number 0 says

@@ -1,5 +1,7 @@
 -- What canonising a root answers, and what the output then holds (document 02, S-13).
-use Rattle.std.specs.Prelude.{Bool, cond, List, ◌≡◌, ℕ, ◌+◌, ◌*◌, ◌≤◌, ◌<◌, leb, length, get_or}
+use Rattle.std.specs.Prelude.{Bool, cond, List, ◌≡◌, ℕ, ◌+◌, ◌*◌, ◌≤◌, ◌<◌, leb, length, get_or, Result}
+use Rattle.facts.specs.declared.Refusal.{Refusal}
+use Rattle.facts.specs.Answer.{number_of, value_or}
 use Rattle.facts.specs.Refuse.{unless}
 use Rattle.pool.specs.Node.{kind_number, operand_word, places}
 use Rattle.pool.specs.Rules.{node_number}
@@ -8,7 +10,14 @@ use Rattle.pool_fields.specs.Fields.{op_a, op_b, op_c}
 use Rattle.canonical.specs.Order.{postorder}
 use Rattle.canonical.specs.Words.{canonical}
 use Rattle.pool_operands.specs.Operands.{has_a, has_b, has_c}
-use Rattle.canonical_write.specs.declared.Canonised.{Canonised}
+
+-- what C is given: a number of README's table, and how many nodes are written
+pub record Canonised : Type 0 where
+  pub number : ℕ
+  pub count : ℕ
+
+abbrev pub canonised : Result ℕ Refusal → Canonised
+canonised a = record { number = number_of a; count = value_or 0 a }
 
 -- how many distinct subtrees there are
 abbrev pub trees_at : List ℕ → ℕ → ℕ

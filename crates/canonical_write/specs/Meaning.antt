@@ -3,8 +3,7 @@ use Rattle.std.specs.Prelude.{true, List, ◌↔◌, ◌≡◌, ℕ, ◌-◌, �
 use Rattle.pool.specs.Node.{places}
 use Rattle.pool.specs.Rules.{pool_ok}
 use Rattle.pool.specs.Unfold.{unfold_at}
-use Rattle.canonical_write.specs.declared.Canonised.{Canonised}
-use Rattle.canonical_write.specs.Canonise.{Answered}
+use Rattle.canonical_write.specs.Canonise.{Canonised, Answered}
 
 -- P of every root that is canonised
 abbrev pub OfRoot : ((ws : List ℕ) (root : ℕ) (new : List ℕ) (a : Canonised) → Type 0) → Type 0

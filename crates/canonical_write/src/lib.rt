@@ -6,22 +6,16 @@ ghost use Rattle.pool.specs.Rules.{Valid};
 ghost use Rattle.pool_fields.specs.Fields.{op_c};
 ghost use Rattle.canonical_classes.specs.Class.{Classes, Long, Empty};
 ghost use Rattle.canonical_order.specs.Walk.{AllNone, Numbered};
-ghost use Rattle.canonical_write.specs.Canonise.{Answered, RootAnswered, Written, OneMore, number_if, new_operands};
+ghost use Rattle.canonical_write.specs.Canonise.{Answered, RootAnswered, Written, OneMore, canonised, number_if, new_operands};
 
 use canonical_classes::{classes, node_at};
 use canonical_order::walk;
+use facts::Refusal;
 use pool::Node;
 use pool::words::{kind_of, kind_word_at, operands_word};
 use pool_check::node_number;
 use pool_fields::{first, high, low, second, third};
 use pool_operands::{has_a, has_b, has_c};
-
-// The number of document 02, and how many nodes are written.
-#[derive(Clone, Copy)]
-pub struct Canonised {
-    pub number: u64,
-    pub count: usize,
-}
 
 // The operand m under its new number, node 0 if there is none.
 fn number_if(there: bool, class: &[u16; 65536], number: &[u16; 65536], m: Node) -> Node
@@ -115,11 +109,11 @@ fn free_ways() -> [u16; 131072]
     [0u16; 131072]
 }
 
-// Counts the distinct subtrees before it writes a word. The tables are free once the classes are known: the walk has them for the order and the
-// nodes that wait.
-fn canonise_root(pool: &[u64], root: Node, out: &mut [u64]) -> Canonised
+// Counts the distinct subtrees before it writes a word, and answers how many nodes it writes. The tables are free once the classes are known:
+// the walk has them for the order and the nodes that wait.
+fn canonise_root(pool: &[u64], root: Node, out: &mut [u64]) -> Result<usize, Refusal>
     requires { (Valid pool.now (root.0 + 1)) × (4 * (root.0 + 1) ≤ length pool.now) × (root.0 < 65535) }
-    ensures { RootAnswered pool.now root.0 out.old out.new result }
+    ensures { RootAnswered pool.now root.0 out.old out.new (canonised result) }
 {
     let mut class = zeros();
     let mut first = zeros();
@@ -136,27 +130,16 @@ fn canonise_root(pool: &[u64], root: Node, out: &mut [u64]) -> Canonised
     let mut number = nones();
     let all = walk(pool, &class, root, &mut number, &mut first, &mut second);
     if pool::places(out) < all {
-        return Canonised {
-            number: 6,
-            count: 0,
-        };
+        return Err(Refusal::Room);
     }
     write(pool, &class, root, &number, &first, all, out);
-    Canonised {
-        number: 0,
-        count: all,
-    }
+    Ok(all)
 }
 
-// The canonical pool of a root: its last node unfolds to the root's tree.
-pub fn canonise(pool: &[u64], count: usize, root: usize, out: &mut [u64]) -> Canonised
-    ensures { Answered pool.now count root out.old out.new result }
+// The canonical pool of a root: its last node unfolds to the root's tree. Answers how many nodes are written.
+pub fn canonise(pool: &[u64], count: usize, root: usize, out: &mut [u64]) -> Result<usize, Refusal>
+    ensures { Answered pool.now count root out.old out.new (canonised result) }
 {
-    if let Err(refusal) = node_number(pool, count, Node(root)) {
-        return Canonised {
-            number: u64::from(refusal),
-            count: 0,
-        };
-    }
+    node_number(pool, count, Node(root))?;
     canonise_root(pool, Node(root), out)
 }

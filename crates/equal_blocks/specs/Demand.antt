@@ -1,6 +1,6 @@
 -- What the release desk may conclude from an accepted refutation: the statements. No solver and no lent memory is trusted. The Arm runs are given
 -- a start and the records, and nothing of a pool or of gates.
-use Rattle.std.specs.Prelude.{Bool, not, List, ◌≡◌, ℕ, ◌-◌, ◌%◌, ◌^◌, ◌<◌, eqb}
+use Rattle.std.specs.Prelude.{not, List, ◌≡◌, ℕ, ◌-◌, ◌%◌, ◌^◌, ◌<◌, eqb}
 use Rattle.neon.specs.declared.Instruction.{Instruction}
 use Rattle.neon.specs.Run.{arm_run}
 use Rattle.block_map.specs.Map.{node_of}
@@ -8,7 +8,7 @@ use Rattle.block.specs.Block.{BlockAnswer}
 use Rattle.block.specs.Block as block
 use Rattle.saturation_block.specs.Block.{SaturationAnswer}
 use Rattle.saturation_block.specs.Block as flagged
-use Rattle.canonical_write.specs.declared.Canonised.{Canonised}
+use Rattle.canonical_write.specs.Canonise.{Canonised}
 use Rattle.canonical_write.specs.Canonise as canonise
 use Rattle.gates.specs.Graph.{truth}
 use Rattle.gates_pool.specs.Bits.{Start}

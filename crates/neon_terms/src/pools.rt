@@ -2,6 +2,7 @@
 ghost use Rattle.canonical_write.specs.Canonise.{Answered as Canonised};
 ghost use Rattle.join.specs.Join.{Answered as Joined};
 
+use crate::answers::give;
 use pool::Node;
 
 // Returns the number; the Eq and the count of the third pool go to `node` and `count`.
@@ -45,7 +46,5 @@ pub extern "C" fn neon_canonical(
 ) -> u64
     ensures { Canonised pool.now count root out.old out.new (record { number = result; count = after.new }) }
 {
-    let c = canonical_write::canonise(pool, count, root, out);
-    *after = c.count;
-    c.number
+    give(canonical_write::canonise(pool, count, root, out), 0, after)
 }

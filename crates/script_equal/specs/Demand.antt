@@ -8,7 +8,7 @@ use Rattle.pool.specs.Node.{Cell, compare, cell_at}
 use Rattle.block_map.specs.Map.{node_of}
 use Rattle.join.specs.Join.{moved}
 use Rattle.join_blocks.specs.Demand.{OfTwoBlocks}
-use Rattle.canonical_write.specs.declared.Canonised.{Canonised}
+use Rattle.canonical_write.specs.Canonise.{Canonised}
 use Rattle.canonical_write.specs.Canonise as canonise
 use Rattle.script_meaning.specs.Demand.{ModelOf, Holds}
 use Rattle.script_length.specs.Answer.{script_number}
