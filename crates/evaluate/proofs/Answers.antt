@@ -5,14 +5,15 @@ use mathlib.Core.Path.{◌≡◌, refl, sym, ◌∙◌}
 use Prim.Native.Nat.{ℕ, zero, suc, ◌+◌, ◌-◌, ◌≤◌, ◌<◌}
 use native.Mathlib.Omega.{arith}
 use lib.Dec.{leb}
-use lib.ListN.{length, get_or}
+use lib.ListN.{length}
 use borrow.Author.Tests.{leb-true, le-leb, lt-leb}
 use Rattle.facts.proofs.Tests.{passed}
 use Rattle.pool.specs.Rules.{pool_ok, node_number}
 use Rattle.pool_check.proofs.Number.{good-node, first-refusal, accepted}
-use Rattle.wide.specs.Number.{words}
+use Rattle.wide.specs.declared.Wide.{Wide}
+use Rattle.wide.specs.Number.{words, num}
 use Rattle.evaluate.specs.Visits.{visits_at}
-use Rattle.evaluate.specs.Step.{Visited, InWords}
+use Rattle.evaluate.specs.Step.{held, Visited, InWords}
 use Rattle.evaluate.specs.Answer.{evaluate_number, no_value, Answered, MoreVisits, WithinAllowance}
 
 pub empty-ok : (l : List ℕ) → length l ≡ 0 → InWords l
@@ -39,11 +40,11 @@ module _ (ws regs : List ℕ) (count n allowance : ℕ) where
     enough : (left ≡ 0 → ⊥) → evaluate_number ws regs count n allowance ≡ 0
     enough e = good-node ws count n _ h l ∙ rw (le-leb (visits_at ws regs n) allowance (omega (arith, v.left_is)))
 
-    pub given : (left ≡ 0 → ⊥) → 1 ≤ visits_at ws regs n
-        → Answered ws regs count n allowance (record { number = 0; low = get_or out 0 0; high = get_or out 1 0; top = get_or out 2 0; visits = allowance - left + 1 })
-    given e s =
+    pub given : (left ≡ 0 → ⊥) → 1 ≤ visits_at ws regs n → (w : Wide) → num w ≡ held out
+        → Answered ws regs count n allowance (record { number = 0; low = w.low; high = w.high; top = w.top; visits = allowance - left + 1 })
+    given e s w same =
         let z = enough e in
-        record { number_is = sym z; value_is = rw z (v.value_is (omega arith)); visits_is = rw z (omega (arith, v.left_is)) }
+        record { number_is = sym z; value_is = rw z (same ∙ v.value_is (omega arith)); visits_is = rw z (omega (arith, v.left_is)) }
 
 -- number 0: each test is passed
 by_tests : (ws regs : List ℕ) (count n allowance : ℕ) → evaluate_number ws regs count n allowance ≡ 0

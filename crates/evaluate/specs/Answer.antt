@@ -1,10 +1,21 @@
 -- What asking for a term's value answers (document 02, S-6): 1, 5, 11, the first in order.
-use Rattle.std.specs.Prelude.{List, ◌≡◌, ℕ, ◌≤◌, leb}
+use Rattle.std.specs.Prelude.{List, ◌≡◌, ℕ, ◌≤◌, leb, Result}
+use Rattle.std.specs.declared.result.Result.TheVariants.{Ok, Err}
+use Rattle.facts.specs.declared.Refusal.{Refusal}
+use Rattle.facts.specs.Answer.{code}
 use Rattle.facts.specs.Refuse.{by_number, unless}
 use Rattle.pool.specs.Rules.{node_number}
 use Rattle.wide.specs.Number.{words}
-use Rattle.evaluate.specs.declared.Evaluated.{Evaluated}
+use Rattle.evaluate.specs.declared.TermValue.{TermValue}
 use Rattle.evaluate.specs.Visits.{value_at, visits_at}
+
+-- what C is given: a number of README's table, the value in three words, the lowest first, and the visits made
+pub record Evaluated : Type 0 where
+  pub number : ℕ
+  pub low : ℕ
+  pub high : ℕ
+  pub top : ℕ
+  pub visits : ℕ
 
 -- 11 if the definition's visits are more than the allowance
 abbrev pub evaluate_number : List ℕ → List ℕ → (count n allowance : ℕ) → ℕ
@@ -12,6 +23,10 @@ evaluate_number ws regs count n allowance = node_number ws count n (unless (leb 
 
 abbrev pub no_value : ℕ → Evaluated
 no_value number = record { number = number; low = 0; high = 0; top = 0; visits = 0 }
+
+abbrev pub evaluated : Result TermValue Refusal → Evaluated
+evaluated (Ok v) = record { number = 0; low = v.value.low; high = v.value.high; top = v.value.top; visits = v.visits }
+evaluated (Err r) = no_value (code r)
 
 abbrev pub found : Evaluated → ℕ
 found r = words r.low r.high r.top

@@ -7,10 +7,11 @@ ghost use Rattle.terms.specs.Value.{bit as bit_of};
 ghost use Rattle.pool_fields.specs.Fields.{op_a, op_b};
 ghost use Rattle.text_parts.specs.Text.{Ready, single};
 ghost use Rattle.wide.specs.Number.{num};
-ghost use Rattle.evaluate.specs.Answer.{no_value, Answered};
+ghost use Rattle.evaluate.specs.Answer.{Answered, evaluated};
 ghost use Rattle.evaluate.specs.Visits.{value_at};
 ghost use Rattle.evaluate.specs.Step.{held, Visited, node_value, OperandsOf, OperandsAt, applied_at, InWords};
 
+use facts::Refusal;
 use pool::words::{Kind, kind_of, width_of};
 use pool::{Bit, Node};
 use pool_check::node_number;
@@ -182,26 +183,11 @@ fn words_of(s: &[u64]) -> u64
     s[0]
 }
 
-// A number of document 02, the value in three words, the lowest first, and the visits made.
+// The value of a node's term, and the visits made.
 #[derive(Clone, Copy)]
-pub struct Evaluated {
-    pub number: u64,
-    pub low: u64,
-    pub high: u64,
-    pub top: u64,
+pub struct TermValue {
+    pub value: Wide,
     pub visits: u64,
-}
-
-fn refused(number: u64) -> Evaluated
-    ensures { result ≡ no_value number }
-{
-    Evaluated {
-        number,
-        low: 0,
-        high: 0,
-        top: 0,
-        visits: 0,
-    }
 }
 
 // The value of a node's term at a start of 32 registers, two words each, with at most so many visits. Refuses by 1, 5 and 11.
@@ -211,23 +197,18 @@ pub fn evaluate(
     node: usize,
     start: &[u64; 64],
     allowance: u64,
-) -> Evaluated
-    ensures { Answered pool.now start.now count node allowance result }
+) -> Result<TermValue, Refusal>
+    ensures { Answered pool.now start.now count node allowance (evaluated result) }
 {
-    if let Err(refusal) = node_number(pool, count, Node(node)) {
-        return refused(u64::from(refusal));
-    }
+    node_number(pool, count, Node(node))?;
     words_of(start);
     let mut out = [0; 3];
     let left = visit(&pool, Node(node), start, &mut out, allowance);
     if left == 0 {
-        return refused(11);
+        return Err(Refusal::Visits);
     }
-    Evaluated {
-        number: 0,
-        low: out[0],
-        high: out[1],
-        top: out[2],
+    Ok(TermValue {
+        value: load(&out),
         visits: allowance - left + 1,
-    }
+    })
 }

@@ -6,9 +6,8 @@ use Rattle.block_map.specs.Map.{node_of}
 use Rattle.wide.specs.Registers.{registers_of}
 use Rattle.block.specs.Block.{BlockAnswer}
 use Rattle.block.specs.Block as block
-use Rattle.evaluate.specs.declared.Evaluated.{Evaluated}
 use Rattle.evaluate.specs.Visits.{visits_at}
-use Rattle.evaluate.specs.Answer.{found}
+use Rattle.evaluate.specs.Answer.{Evaluated, found}
 use Rattle.evaluate.specs.Answer as evaluate
 
 -- for every accepted block and every start: the node of register r, in the pool as the call left it, with an allowance that suffices,

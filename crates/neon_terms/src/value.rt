@@ -16,8 +16,16 @@ pub extern "C" fn neon_value(
     ensures { Answered pool.now start.now count node allowance
         (record { number = result; low = get_or value.new 0 0; high = get_or value.new 1 0; top = get_or value.new 2 0; visits = visits.new }) }
 {
-    let e = evaluate::evaluate(pool, count, node, start, allowance);
-    *value = [e.low, e.high, e.top];
-    *visits = e.visits;
-    e.number
+    match evaluate::evaluate(pool, count, node, start, allowance) {
+        Ok(term) => {
+            *value = [term.value.low, term.value.high, term.value.top];
+            *visits = term.visits;
+            0
+        }
+        Err(refusal) => {
+            *value = [0; 3];
+            *visits = 0;
+            u64::from(refusal)
+        }
+    }
 }

@@ -10,9 +10,8 @@ use Rattle.wide.specs.Registers.{registers_of}
 use Rattle.block.specs.Block.{BlockAnswer}
 use Rattle.block.specs.Demand.{term_value}
 use Rattle.block.specs.Block as block
-use Rattle.evaluate.specs.declared.Evaluated.{Evaluated}
 use Rattle.evaluate.specs.Visits.{visits_at}
-use Rattle.evaluate.specs.Answer.{found}
+use Rattle.evaluate.specs.Answer.{Evaluated, found}
 use Rattle.evaluate.specs.Answer as evaluate
 use Rattle.saturation.specs.Bits.{block_bit}
 use Rattle.run_block.specs.Run.{run_refusal, RunAnswered, FlagAnswered}
