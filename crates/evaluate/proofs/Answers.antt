@@ -1,11 +1,10 @@
 -- What `evaluate` answers, by the way that it took; the theorems of specs/Answer.antt. Assumes nothing.
 use mathlib.Core.Bool.{true}
-use mathlib.Core.List.{List, [], ◌∷◌}
+use mathlib.Core.List.{List}
 use mathlib.Core.Path.{◌≡◌, refl, sym, ◌∙◌}
 use Prim.Native.Nat.{ℕ, zero, suc, ◌+◌, ◌-◌, ◌≤◌, ◌<◌}
 use native.Mathlib.Omega.{arith}
 use lib.Dec.{leb}
-use lib.ListN.{length}
 use borrow.Author.Tests.{leb-true, le-leb, lt-leb}
 use Rattle.facts.proofs.Tests.{passed}
 use Rattle.pool.specs.Rules.{pool_ok, node_number}
@@ -13,12 +12,8 @@ use Rattle.pool_check.proofs.Number.{good-node, first-refusal, accepted}
 use Rattle.wide.specs.declared.Wide.{Wide}
 use Rattle.wide.specs.Number.{words, num}
 use Rattle.evaluate.specs.Visits.{visits_at}
-use Rattle.evaluate.specs.Step.{held, Visited, InWords}
+use Rattle.evaluate.specs.Step.{held, Visited}
 use Rattle.evaluate.specs.Answer.{evaluate_number, no_value, Answered, MoreVisits, WithinAllowance}
-
-pub empty-ok : (l : List ℕ) → length l ≡ 0 → InWords l
-empty-ok [] e i = omega arith
-empty-ok (x ∷ xs) e i = absurd (omega arith)
 
 module _ (ws regs : List ℕ) (count n allowance : ℕ) where
   refusal : (k : ℕ) → evaluate_number ws regs count n allowance ≡ suc k → Answered ws regs count n allowance (no_value (suc k))

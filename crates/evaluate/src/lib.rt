@@ -40,6 +40,7 @@ fn store(v: &mut [u64; 3], a: Wide)
 }
 
 // The value of a condition.
+#[tactic(auto, unfolding(wide::specs::Number::words))]
 fn bit(b: bool) -> Wide
     ensures { num result ≡ bit_of b }
 {
