@@ -72,38 +72,38 @@ size k x h l = ap length (unpadded k x h l) ∙ length-padded (suc k) x
 -- ---- the digits from the highest place on
 
 -- the digits of x that are not written yet: those of the k places that are left, of which x may have fewer
-pub todo : (k x rest : ℕ) → List ℕ
-todo k x rest = cond (ltb x (10 ^ k)) (decimal x) (padded k rest)
+pub still : (k x rest : ℕ) → List ℕ
+still k x rest = cond (ltb x (10 ^ k)) (decimal x) (padded k rest)
 
 -- x was written into b at `at` but for k places, where `rest` is left of it
 pub record Left (b : List ℕ) (at x k rest end : ℕ) (buf : List ℕ) : Type 0 where
-  pub text : sets buf end (todo k x rest) ≡ sets b at (decimal x)
-  pub place : end + length (todo k x rest) ≡ at + length (decimal x)
+  pub text : sets buf end (still k x rest) ≡ sets b at (decimal x)
+  pub place : end + length (still k x rest) ≡ at + length (decimal x)
   pub small : rest < 10 ^ k
   pub same : x < 10 ^ k → rest ≡ x
 
-begun : (k x rest : ℕ) → 10 ^ k ≤ x → todo k x rest ≡ padded k rest
-unfolding todo
+begun : (k x rest : ℕ) → 10 ^ k ≤ x → still k x rest ≡ padded k rest
+unfolding still
 begun k x rest h = rw (le-ltb x (10 ^ k) h)
 
-not-begun : (k x rest : ℕ) → x < 10 ^ k → todo k x rest ≡ decimal x
-unfolding todo
+not-begun : (k x rest : ℕ) → x < 10 ^ k → still k x rest ≡ decimal x
+unfolding still
 not-begun k x rest h = rw (lt-ltb x (10 ^ k) h)
 
-todo-padded : (k x rest : ℕ) → 10 ^ k ≤ x → (x < 10 ^ suc k → rest ≡ x) → todo (suc k) x rest ≡ padded (suc k) rest
-todo-padded k x rest h same = go (ltb x (10 ^ suc k)) refl
+still-padded : (k x rest : ℕ) → 10 ^ k ≤ x → (x < 10 ^ suc k → rest ≡ x) → still (suc k) x rest ≡ padded (suc k) rest
+still-padded k x rest h same = go (ltb x (10 ^ suc k)) refl
   where
-    go : (t : Bool) → ltb x (10 ^ suc k) ≡ t → todo (suc k) x rest ≡ padded (suc k) rest
+    go : (t : Bool) → ltb x (10 ^ suc k) ≡ t → still (suc k) x rest ≡ padded (suc k) rest
     go true e =
         let l = ltb-true x (10 ^ suc k) e in
         not-begun (suc k) x rest l ∙ unpadded k x h l ∙ ap (padded (suc k)) (sym (same l))
     go false e = begun (suc k) x rest (ltb-false x (10 ^ suc k) e)
 
-todo-last : (x rest : ℕ) → (x < 10 → rest ≡ x) → todo 1 x rest ≡ digit rest ∷ []
+still-last : (x rest : ℕ) → (x < 10 → rest ≡ x) → still 1 x rest ≡ digit rest ∷ []
 unfolding decimal padded
-todo-last x rest same = go (ltb x 10) refl
+still-last x rest same = go (ltb x 10) refl
   where
-    go : (t : Bool) → ltb x 10 ≡ t → todo 1 x rest ≡ digit rest ∷ []
+    go : (t : Bool) → ltb x 10 ≡ t → still 1 x rest ≡ digit rest ∷ []
     go true e =
         let l = ltb-true x 10 e in
         not-begun 1 x rest l ∙ digits-one 10 x l ∙ ap (λ (z : ℕ). digit z ∷ []) (sym (same l))
@@ -118,7 +118,7 @@ module _ {b buf : List ℕ} {at x rest end : ℕ} where
   pub left-step : (k d r q : ℕ) → Left b at x (suc k) rest end buf → 10 ^ k ≤ x → 10 ^ k * d + r ≡ rest → r < 10 ^ k → q ≡ digit d
       → Left b at x k r (end + 1) (set buf end q)
   left-step k d r q w h e l p =
-      let before = todo-padded k x rest h w.same ∙ first k rest d r e l in
+      let before = still-padded k x rest h w.same ∙ first k rest d r e l in
       let after = begun k x r h in
       let lb = ap length before in
       let la = ap length after in
@@ -150,7 +150,7 @@ module _ {b buf : List ℕ} {at x rest end : ℕ} where
 
   pub left-last : (q : ℕ) → Left b at x 1 rest end buf → q ≡ digit rest → Wrote b at (decimal x) (end + 1) (set buf end q)
   left-last q w p =
-      let e = todo-last x rest w.same in
+      let e = still-last x rest w.same in
       let le = ap length e in
       record {
         next_is = omega (arith, le, w.place);
@@ -160,12 +160,12 @@ module _ {b buf : List ℕ} {at x rest end : ℕ} where
   -- there is room for the next digit, and for the last
   pub room-step : (k : ℕ) → Left b at x (suc k) rest end buf → 10 ^ k ≤ x → Room b at (decimal x) → end < length b
   room-step k w h r =
-      let e = ap length (todo-padded k x rest h w.same) in
+      let e = ap length (still-padded k x rest h w.same) in
       omega (arith, e, length-padded (suc k) rest, w.place, r.room)
 
   pub room-last : Left b at x 1 rest end buf → Room b at (decimal x) → end < length b
   room-last w r =
-      let e = ap length (todo-last x rest w.same) in
+      let e = ap length (still-last x rest w.same) in
       omega (arith, e, w.place, r.room)
 
 -- ---- the units
