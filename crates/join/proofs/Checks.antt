@@ -1,4 +1,4 @@
--- What the tests of a join give. Assumes nothing.
+-- What the tests and the copies of a join give. Assumes nothing.
 use mathlib.Core.Path.{◌≡◌, refl, sym, ap, ◌∙◌, subst}
 use mathlib.Core.Bool.{Bool, true, false, cond, ◌&&◌, ◌||◌, not, false≢true}
 use mathlib.Core.List.{List}
@@ -6,12 +6,15 @@ use Prim.Native.Nat.{ℕ, zero, suc, ◌+◌, ◌≤◌, ◌<◌}
 use native.Mathlib.Omega.{arith}
 use native.Mathlib.Numerals.{add-one}
 use lib.Dec.{ltb, leb, eqb}
+use lib.ListN.{length, get_or, set, length-set}
+use lib.Seq.{get_or-set_same, get_or-set_other}
 use borrow.Author.Tests.{le-ltb, ltb-true, ltb-false, leb-true, le-leb}
 use Rattle.facts.proofs.Tests.{and_both}
 use Rattle.pool.specs.Node.{kind_number, word_at}
 use Rattle.pool.specs.Rules.{pool_ok}
 use Rattle.pool_check.specs.Plain.{plain_at, plain_from}
 use Rattle.join.specs.Starts.{var_rule, var_rules, starts_with_registers}
+use Rattle.join.specs.Join.{Half}
 
 pub rules-none : (ws : List ℕ) → var_rules ws 0 ≡ true
 unfolding var_rules
@@ -100,3 +103,23 @@ module _ (ws : List ℕ) (count : ℕ) where
   all-good e h r =
       let p = and_both (pool_ok ws count) (plain_from ws 32 count) e in
       sym (rw (p.0, le-leb 32 count h) (rules-from ws count r h p.1))
+
+-- ---- copies
+
+pub half-none : (first old : List ℕ) → Half first old old 0
+half-none first old = record { long = refl; words = λ j h. absurd (omega arith); past = λ j h. refl }
+
+pub half-more : (first old new : List ℕ) (i : ℕ) → i < length new → Half first old new i → Half first old (set new i (get_or first i 0)) (i + 1)
+half-more first old new i h H =
+    record {
+      long = simp length-set H.long;
+      words = λ j g. go j g (ltb j i) refl;
+      past = λ j g. get_or-set_other new i j (get_or first i 0) 0 (omega arith) ∙ H.past j (omega arith);
+    }
+  where
+    go : (j : ℕ) → j < i + 1 → (t : Bool) → ltb j i ≡ t → get_or (set new i (get_or first i 0)) j 0 ≡ get_or first j 0
+    go j g true e = let l : j < i = ltb-true j i e in get_or-set_other new i j (get_or first i 0) 0 (omega arith) ∙ H.words j l
+    go j g false e =
+        let l : i ≤ j = ltb-false j i e in
+        let q : j ≡ i = omega arith in
+        rw q (get_or-set_same new i (get_or first i 0) 0 h)

@@ -70,12 +70,14 @@ fn moved_word(c: u64, pool: &[u64], m: Node) -> u64
         + 4294967296 * raised(by, third(pool, m))
 }
 
-// Copies the first pool's nodes.
+// Copies the first pool's nodes. By a loop: of `copy_from_slice` the compiler makes a call of `memmove`, which C would have to have.
 fn copy_first(first: &[u64], c: usize, out: &mut [u64])
     requires { (4 * c ≤ length first.now) × (4 * c ≤ length out.old) × (c ≤ 65535) }
     ensures { Half first.now out.old out.new (4 * c) }
 {
-    out[..4 * c].copy_from_slice(&first[..4 * c]);
+    for i in 0..4 * c {
+        out[i] = first[i];
+    }
 }
 
 // Writes the copy of the second pool's node m.
