@@ -59,13 +59,14 @@ fn registers(pool: &mut [u64])
     pool_nodes::extract(pool, 34, Node(2), Bit(63), Bit(0));
 }
 
-// The length and the hash of a text.
+// 0, and the length and the hash of a text, each in a write of its own.
 fn show(rt: &impl Print, pool: &[u64], lowered: Built) -> io::Result<()> {
+    print!(rt; "0 ")?;
     let node = lowered.node.0;
     let asked = text_length::text_length(pool, lowered.count, node, 65536);
     let mut text = [0u8; 65536];
     let written = text::write_text(pool, lowered.count, node, &mut text);
-    print!(rt; "0 {} ", asked.unwrap_or(0))?;
+    print!(rt; "{} ", asked.unwrap_or(0))?;
     println!(rt; "{:016x}", hash(&text, written.unwrap_or(0)))
 }
 
@@ -111,7 +112,9 @@ fn run(rt: &impl Print, case: &[u8; 48]) -> io::Result<usize> {
             Ok(built.count - count)
         }
         Err(refusal) => {
-            println!(rt; "{} {} {count}", u64::from(refusal), Node::NONE)?;
+            print!(rt; "{} ", u64::from(refusal))?;
+            print!(rt; "{} ", Node::NONE)?;
+            println!(rt; "{count}")?;
             Ok(0)
         }
     }
@@ -141,5 +144,6 @@ fn main(rt: HostRuntime) -> io::Result<()> {
         }
         most = most.max(t.added);
     }
-    println!(rt; "most nodes added {most}")
+    print!(rt; "most nodes added ")?;
+    println!(rt; "{most}")
 }
