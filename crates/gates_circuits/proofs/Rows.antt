@@ -190,6 +190,9 @@ module _ (g : List ℕ) {bits mid : List ℕ} {k a b out w : ℕ} (le : out + 2 
             ∙ ap (λ (t : ℕ). t % 2 ^ w) (zero-add (number start g bits a w * number start g bits b w)));
       }
 
+pub two-swapped : {bits : List ℕ} {a b out w k : ℕ} → Two bits a b out w k → Two bits b a out w k
+two-swapped t = record { first = t.second; second = t.first; low_a = t.low_b; low_b = t.low_a }
+
 pub product-swapped : {g bits h new : List ℕ} {k n out w m : ℕ} (a b : ℕ)
     → Makes g k bits h n new out w m (λ start. bvmul w (number start g bits b w) (number start g bits a w))
     → Makes g k bits h n new out w m (λ start. bvmul w (number start g bits a w) (number start g bits b w))

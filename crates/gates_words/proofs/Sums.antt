@@ -10,6 +10,10 @@ use borrow.Author.Tests.{eqb-true, eqb-false}
 use Rattle.terms.specs.Value.{bit, msb}
 use Rattle.gates_words.specs.Number.{sum}
 
+pub bit-small : (b : Bool) → bit b ≤ 1
+bit-small true = omega arith
+bit-small false = omega arith
+
 top_lt : (b : Bool) (s w : ℕ) → s < 2 ^ w → s + bit b * 2 ^ w < 2 ^ suc w
 top_lt true s w h = omega (arith, pow-suc 2 w)
 top_lt false s w h = omega (arith, pow-suc 2 w)
